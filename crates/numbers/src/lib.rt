@@ -1,0 +1,1 @@
+// f32 arithmetic that the language lacks.
