@@ -1,0 +1,69 @@
+-- The map of the lent work slices, for n points. Definitions only.
+use Prim.Native.Nat.{ℕ, _+_, _*_, _≤_}
+use mathlib.Core.List.{List, [], _∷_}
+
+-- a region's start and length
+pub record Region : Type 0 where
+  pub start : ℕ
+  pub size : ℕ
+
+-- ---- the u32 slice
+
+-- the points ordered by cell
+abbrev pub orderAt : ℕ → ℕ
+orderAt n = 0
+
+-- the cell of each point, three numbers to a point
+abbrev pub cellsAt : ℕ → ℕ
+cellsAt n = n
+
+-- the neighbours that were asked for last
+abbrev pub neighborsAt : ℕ → ℕ
+neighborsAt n = 4 * n
+
+-- of each point whether it is used
+abbrev pub usedAt : ℕ → ℕ
+usedAt n = 5 * n
+
+-- the entries that wait
+abbrev pub frontierAt : ℕ → ℕ
+frontierAt n = 6 * n
+
+-- the processed edges
+abbrev pub processedAt : ℕ → ℕ
+processedAt n = 9 * n
+
+abbrev pub words : ℕ → List Region
+words n =
+    record { start = orderAt n; size = n }
+    ∷ record { start = cellsAt n; size = 3 * n }
+    ∷ record { start = neighborsAt n; size = n }
+    ∷ record { start = usedAt n; size = n }
+    ∷ record { start = frontierAt n; size = 3 * n }
+    ∷ record { start = processedAt n; size = 2 * n }
+    ∷ []
+
+-- ---- the f32 slice
+
+-- the samples' densities, or their least distances
+abbrev pub samplesAt : ℕ → ℕ
+samplesAt n = 0
+
+-- the least distances of one sample
+abbrev pub leastAt : ℕ → ℕ
+leastAt n = n
+
+-- the radii
+abbrev pub radiiAt : ℕ → ℕ
+radiiAt n = n + 10
+
+abbrev pub floats : ℕ → List Region
+floats n =
+    record { start = samplesAt n; size = n } ∷ record { start = leastAt n; size = 10 } ∷ record { start = radiiAt n; size = 17 } ∷ []
+
+-- ---- what is claimed of a map
+
+-- each region starts where the one before it ended, or after it, and the last one ends within the slice
+abbrev pub Apart : ℕ → ℕ → List Region → Type 0
+Apart from end [] = from ≤ end
+Apart from end (r ∷ rs) = (from ≤ r .start) × Apart (r .start + r .size) end rs
