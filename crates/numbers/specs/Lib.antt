@@ -1,2 +1,3 @@
 -- What the crate's contracts cite, leaves first.
 pub mod Rounded
+pub mod Root
