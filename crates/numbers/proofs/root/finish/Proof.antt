@@ -1,3 +1,4 @@
+-- `finish` meets its contract: the rounded root has 24 digits, or is 2^24, so the pattern has no overflow.
 use native.Mathlib.Omega.{arith}
 use Rattle.numbers.proofs.RootWhole.{nearest-bounds}
 use borrow.Author.Needs.{needs}

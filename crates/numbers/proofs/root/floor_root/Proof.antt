@@ -1,8 +1,8 @@
+-- `floor_root` meets its contract: the root lies from lo on and below hi, and each turn halves what is between.
 use mathlib.Core.Path.{_≡_, subst}
-use Prim.Native.Nat.{ℕ, _+_, _-_, _*_, _/_, _^_, _≤_, _<_}
+use Prim.Native.Nat.{ℕ, _+_, _-_, _*_, _/_, _≤_, _<_}
 use native.Mathlib.Nat.{mul-le-mul-left, mul-le-mul-right, le-trans}
 use native.Mathlib.Omega.{arith}
-use borrow.Author.Needs.{needs}
 use Rattle.numbers.proofs.root.floor_root.Statement.{statement}
 use Rattle.numbers.proofs.root.floor_root.Tie as tie
 

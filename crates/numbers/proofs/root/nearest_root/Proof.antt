@@ -1,3 +1,4 @@
+-- `nearest_root` meets its contract: whichever way r was found, (r - 1/2)^2 < n < (r + 1/2)^2, and only one number is such.
 use borrow.Author.Needs.{needs}
 use native.Mathlib.Omega.{arith}
 use Rattle.numbers.proofs.RootWhole.{nearest-is, near-up, near-stay, square-lt}

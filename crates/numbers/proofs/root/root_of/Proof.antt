@@ -1,3 +1,4 @@
+-- `root_of` meets its contract: an even k and an odd one differ in the power of two that scales q.
 use mathlib.Core.Path.{_≡_, sym, ap, _∙_}
 use Prim.Native.Nat.{ℕ, _+_, _*_, _/_, _%_, _^_}
 use native.Mathlib.Omega.{arith}
