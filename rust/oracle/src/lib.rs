@@ -7,6 +7,7 @@ extern crate self as threecrate_core;
 
 pub mod acosf;
 #[allow(dead_code)]
+#[rustfmt::skip]
 pub mod ball_pivoting;
 mod settings;
 mod stand_ins;
@@ -33,7 +34,12 @@ pub fn points_of(coordinates: &[f32]) -> Vec<Point3f> {
 }
 
 /// `reconstruct_with_normals`, called once on a new reconstructor. The inner error is the published one.
-pub fn reconstruct(points: &[f32], normals: &[f32], settings: &Settings, budget: u64) -> std::result::Result<Result<Laid>, Skip> {
+pub fn reconstruct(
+    points: &[f32],
+    normals: &[f32],
+    settings: &Settings,
+    budget: u64,
+) -> std::result::Result<Result<Laid>, Skip> {
     let with_normal = |(position, normal): (Point3f, Point3f)| NormalPoint3f { position, normal: normal.coords };
     let cloud = PointCloud { points: points_of(points).into_iter().zip(points_of(normals)).map(with_normal).collect() };
     let mut reconstructor = BallPivotingReconstructor::new(settings.to_config());

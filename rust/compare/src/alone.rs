@@ -1,0 +1,93 @@
+//! Checks that need no port: what must hold of the counts, and that the comparison can fail.
+
+use crate::report::Report;
+use crate::sides::{Mirror, Number, BUDGET};
+use crate::{clouds, numbers, triangles};
+use expect::Found;
+use generate::case;
+
+/// On the multi-radius path looks are 3F and pivots 2F + S; on the plain path seeds, looks and pivots are 0.
+pub fn oracle(count: u64, seed: u64, first: u64) -> Report {
+    let mut report = Report::new("oracle");
+    for number in first..first + count {
+        let case = case(seed, number);
+        let work = [case.words, case.floats];
+        let laid = match expect::find(&case.points, &case.normals, &case.settings, work, BUDGET) {
+            Ok(Found::Laid(laid)) => laid,
+            Ok(Found::NoTriangle) => {
+                report.note("no triangle");
+                continue;
+            }
+            Ok(Found::Early(_)) => {
+                report.note("refused early");
+                continue;
+            }
+            Err(why) => {
+                report.skip(why);
+                continue;
+            }
+        };
+        let (faces, tally) = (laid.faces.len() as u32, laid.tally);
+        let expected = if laid.radii.is_empty() {
+            report.note("plain path");
+            [0; 3]
+        } else {
+            report.note(if faces > tally.seeds { "multi-radius path with pivots" } else { "multi-radius path" });
+            [3 * faces, 2 * faces + tally.seeds, tally.seeds.max(1)]
+        };
+        for (name, expected, got) in [
+            ("looks", expected[0], tally.looks),
+            ("pivots", expected[1], tally.pivots),
+            ("seeds", expected[2], tally.seeds),
+        ] {
+            report.check(name, expected, got, || format!("case {number} of seed {seed}"));
+        }
+    }
+    report
+}
+
+/// The places at which the self-test turns a bit in what a cloud's call gives back.
+const PATCH_FAULTS: [&str; 13] = [
+    "answer",
+    "detail",
+    "faces",
+    "seeds",
+    "looks",
+    "pivots",
+    "radii_count",
+    "first radius",
+    "last radius",
+    "first face word",
+    "last face word",
+    "last work word",
+    "last work float",
+];
+const ESTIMATE_FAULTS: [&str; 4] = ["answer", "radius", "last work word", "last work float"];
+const TRIANGLE_FAULTS: [&str; 4] = ["circumradius", "aspect_ratio", "quality_score", "acceptable"];
+
+/// Puts the oracle in the port's place, then turns one bit of one result: each turned bit must be found, alone.
+pub fn selftest() -> Report {
+    let mut report = Report::new("selftest");
+    let mut found = |place: &str, faults: u64, run: &dyn Fn() -> Report| {
+        let seen = run().different;
+        report.check("differences", faults as u32, seen as u32, || format!("fault at {place:?}"));
+    };
+    let (count, seed) = (120, 5);
+    found("", 0, &|| numbers::numbers(&Mirror::new(""), count, seed));
+    found("", 0, &|| triangles::triangles(&Mirror::new(""), count, seed, 0));
+    found("", 0, &|| clouds::estimate(&Mirror::new(""), count, seed, 0));
+    found("", 0, &|| clouds::reconstruct(&Mirror::new(""), count, seed, 0));
+    for call in Number::ALL.map(Number::call) {
+        found(call, 1, &|| numbers::numbers(&Mirror::new(call), count, seed));
+    }
+    for place in TRIANGLE_FAULTS {
+        found(place, 1, &|| triangles::triangles(&Mirror::new(place), count, seed, 0));
+    }
+    for place in ESTIMATE_FAULTS {
+        found(place, 1, &|| clouds::estimate(&Mirror::new(place), count, seed, 0));
+    }
+    for place in PATCH_FAULTS {
+        found(place, 1, &|| clouds::reconstruct(&Mirror::new(place), count, seed, 0));
+    }
+    report
+}

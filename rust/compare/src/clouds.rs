@@ -1,0 +1,127 @@
+//! The radius estimate and the reconstruction over generated clouds: the answer and every word of every lent slice.
+
+use crate::report::{Report, Same};
+use crate::sides::{Side, BUDGET};
+use expect::{Estimate, Lent, Patch};
+use generate::{case, old_word, Case};
+
+pub const ESTIMATE: &str = "yb_estimate_optimal_radius";
+pub const RECONSTRUCT: &str = "yb_reconstruct_with_normals";
+
+/// Slices of these lengths with recognisable contents.
+pub fn lend(faces: usize, words: usize, floats: usize) -> Lent {
+    Lent {
+        faces: (0..faces).map(old_word).collect(),
+        words: (0..words).map(old_word).collect(),
+        floats: (0..floats).map(|at| f32::from_bits(old_word(at))).collect(),
+    }
+}
+
+fn unlike<T: Same>(what: &str, expected: T, got: T) -> Option<String> {
+    (!expected.same(got)).then(|| format!("{what}: expected {}, got {}", expected.show(), got.show()))
+}
+
+/// The first word that differs; a lent float is compared by its bits.
+fn unlike_slices(expected: &Lent, got: &Lent) -> Option<String> {
+    let words = |name: &str, a: &[u32], b: &[u32]| {
+        let at = (0..a.len()).find(|i| a[*i] != b[*i])?;
+        Some(format!("{name}[{at}] of {}: expected {:08x}, got {:08x}", a.len(), a[at], b[at]))
+    };
+    let bits = |floats: &[f32]| floats.iter().map(|x| x.to_bits()).collect::<Vec<_>>();
+    words("faces", &expected.faces, &got.faces)
+        .or_else(|| words("work u32", &expected.words, &got.words))
+        .or_else(|| words("work f32", &bits(&expected.floats), &bits(&got.floats)))
+}
+
+fn unlike_patch(expected: &Patch, got: &Patch) -> Option<String> {
+    let whole = [
+        ("answer", expected.answer, got.answer),
+        ("detail", expected.detail, got.detail),
+        ("faces", expected.faces, got.faces),
+        ("seeds", expected.seeds, got.seeds),
+        ("looks", expected.looks, got.looks),
+        ("pivots", expected.pivots, got.pivots),
+        ("radii_count", expected.radii_count, got.radii_count),
+    ];
+    let radii = (0..17).find_map(|i| unlike(&format!("radii[{i}]"), expected.radii[i], got.radii[i]));
+    whole.into_iter().find_map(|(name, a, b)| unlike(name, a, b)).or(radii)
+}
+
+fn unlike_estimate(expected: &Estimate, got: &Estimate) -> Option<String> {
+    unlike("answer", expected.answer, got.answer)
+        .or_else(|| unlike("detail", expected.detail, got.detail))
+        .or_else(|| unlike("radius", expected.radius, got.radius))
+}
+
+/// Everything that is needed to make the case again.
+fn describe(case: &Case, number: u64, seed: u64) -> String {
+    let bits = |x: &[f32]| x.iter().map(|x| format!("{:08x}", x.to_bits())).collect::<Vec<_>>().join(" ");
+    format!(
+        "case {number} of seed {seed} ({}), {} coordinates, {} normal numbers, work {} and {}, slack {}, percentile {:?}\n\
+         {:?}\ncoordinates {}",
+        case.kind,
+        case.points.len(),
+        case.normals.len(),
+        case.words,
+        case.floats,
+        case.slack,
+        case.percentile,
+        case.settings,
+        bits(&case.points),
+    )
+}
+
+fn note_answer(report: &mut Report, answer: u32) {
+    match answer {
+        0 => report.note("accepted"),
+        refusal => report.note(&format!("refused {refusal}:")),
+    }
+}
+
+pub fn estimate(side: &dyn Side, count: u64, seed: u64, first: u64) -> Report {
+    let mut report = Report::new("estimate");
+    for number in first..first + count {
+        let case = case(seed, number);
+        let mut expected_lent = lend(0, case.words, case.floats);
+        let mut lent = expected_lent.clone();
+        let expected = match expect::estimate(&case.points, case.percentile, &mut expected_lent, BUDGET) {
+            Ok(expected) => expected,
+            Err(why) => {
+                report.skip(why);
+                continue;
+            }
+        };
+        let got = side.estimate(&case, &mut lent);
+        report.compared += 1;
+        note_answer(&mut report, expected.answer);
+        if let Some(text) = unlike_estimate(&expected, &got).or_else(|| unlike_slices(&expected_lent, &lent)) {
+            report.differs(|| format!("{text}\n{}", describe(&case, number, seed)));
+        }
+    }
+    report
+}
+
+pub fn reconstruct(side: &dyn Side, count: u64, seed: u64, first: u64) -> Report {
+    let mut report = Report::new("reconstruct");
+    for number in first..first + count {
+        let case = case(seed, number);
+        let work = [case.words, case.floats];
+        let found = match expect::find(&case.points, &case.normals, &case.settings, work, BUDGET) {
+            Ok(found) => found,
+            Err(why) => {
+                report.skip(why);
+                continue;
+            }
+        };
+        let mut expected_lent = lend(case.face_words(found.need()), case.words, case.floats);
+        let mut lent = expected_lent.clone();
+        let expected = found.deliver(&mut expected_lent);
+        let got = side.reconstruct(&case, &mut lent);
+        report.compared += 1;
+        note_answer(&mut report, expected.answer);
+        if let Some(text) = unlike_patch(&expected, &got).or_else(|| unlike_slices(&expected_lent, &lent)) {
+            report.differs(|| format!("{text}\n{}", describe(&case, number, seed)));
+        }
+    }
+    report
+}

@@ -1,0 +1,66 @@
+//! Compares the port with the published Rust, in one process, bit for bit.
+//!
+//! Two not-a-numbers count as equal, since the language leaves a not-a-number's payload open.
+
+mod alone;
+mod clouds;
+mod numbers;
+mod report;
+mod sides;
+mod triangles;
+
+use sides::{Linked, Number, Side};
+
+const USAGE: &str = "usage:
+  compare numbers COUNT SEED              roots, arc cosines, cuts, min, max, clamp
+  compare roots STEP                      the root of every STEP-th pattern
+  compare triangles COUNT SEED [FIRST]    circumradius, quality, acceptance
+  compare estimate COUNT SEED [FIRST]     the radius estimate on generated clouds
+  compare reconstruct COUNT SEED [FIRST]  the reconstruction on generated clouds
+  compare oracle COUNT SEED [FIRST]       needs no port: what must hold of the oracle's counts
+  compare selftest                        needs no port: a turned bit is found";
+
+/// The port's calls of a subcommand; one of them must have landed.
+fn calls(command: &str) -> Vec<&'static str> {
+    match command {
+        "numbers" => Number::ALL.map(Number::call).to_vec(),
+        "roots" => vec![Number::Sqrt.call()],
+        "triangles" => vec![triangles::CIRCUMRADIUS, triangles::QUALITY, triangles::ACCEPTABLE],
+        "estimate" => vec![clouds::ESTIMATE],
+        "reconstruct" => vec![clouds::RECONSTRUCT],
+        _ => vec![],
+    }
+}
+
+fn main() {
+    let words: Vec<String> = std::env::args().skip(1).collect();
+    let command = words.first().map_or("", String::as_str);
+    let numbers: Vec<u64> = words.iter().skip(1).filter_map(|w| w.parse().ok()).collect();
+    let needed = calls(command);
+    let landed = needed.iter().filter(|call| Linked.has(&[call])).count();
+    if !needed.is_empty() && landed == 0 {
+        eprintln!("{command}: none of {needed:?} has landed");
+        std::process::exit(2);
+    }
+    let report = match (command, numbers.as_slice()) {
+        ("numbers", [count, seed]) => numbers::numbers(&Linked, *count, *seed),
+        ("roots", [step]) if *step > 0 => numbers::roots(&Linked, *step),
+        ("triangles", [count, seed, first @ ..]) => triangles::triangles(&Linked, *count, *seed, start(first)),
+        ("estimate", [count, seed, first @ ..]) => clouds::estimate(&Linked, *count, *seed, start(first)),
+        ("reconstruct", [count, seed, first @ ..]) => clouds::reconstruct(&Linked, *count, *seed, start(first)),
+        ("oracle", [count, seed, first @ ..]) => alone::oracle(*count, *seed, start(first)),
+        ("selftest", []) => alone::selftest(),
+        _ => {
+            eprintln!("{USAGE}");
+            std::process::exit(2);
+        }
+    };
+    if landed < needed.len() {
+        println!("{command}: {landed} of {} calls have landed", needed.len());
+    }
+    std::process::exit(i32::from(!report.finish()));
+}
+
+fn start(first: &[u64]) -> u64 {
+    first.first().copied().unwrap_or(0)
+}

@@ -1,0 +1,65 @@
+//! Circumradius, quality and acceptance of single triangles.
+
+use crate::report::Report;
+use crate::sides::{measures, published, Side};
+use generate::numbers::{number, triangle};
+use generate::Random;
+use oracle::Limits;
+use port::Quality;
+
+pub const CIRCUMRADIUS: &str = "yb_compute_circumradius";
+pub const QUALITY: &str = "yb_compute_triangle_quality";
+pub const ACCEPTABLE: &str = "yb_is_triangle_acceptable";
+
+fn limits(random: &mut Random) -> Limits {
+    let mut limit = |usual: f32| match random.below(4) {
+        0 => 0.0,
+        1 => usual,
+        2 => random.unit() as f32,
+        _ => random.sized(f32::from_bits(1), 1_000_000.0),
+    };
+    Limits { min_triangle_area: limit(1e-8), quality_threshold: limit(0.1), max_edge_factor: limit(3.0) }
+}
+
+/// The measures of the triangle, or now and then numbers that no triangle has.
+fn judged(random: &mut Random, quality: Quality) -> Quality {
+    if random.percent(90) {
+        return quality;
+    }
+    Quality { area: number(random), edge_ratio: number(random), quality_score: number(random), ..quality }
+}
+
+pub fn triangles(side: &dyn Side, count: u64, seed: u64, first: u64) -> Report {
+    let mut report = Report::new("triangles");
+    for case in first..first + count {
+        let random = &mut Random::new(seed, case);
+        let corners = triangle(random);
+        let context = || format!("case {case} of seed {seed}, coordinates {:08x?}", corners.map(f32::to_bits));
+        let quality = measures(&oracle::quality(&corners));
+        if side.has(&[CIRCUMRADIUS]) {
+            report.check("circumradius", oracle::circumradius(&corners), side.circumradius(&corners), context);
+        }
+        if side.has(&[QUALITY]) {
+            let got = side.quality(&corners);
+            for (name, expected, got) in [
+                ("aspect_ratio", quality.aspect_ratio, got.aspect_ratio),
+                ("min_angle", quality.min_angle, got.min_angle),
+                ("max_angle", quality.max_angle, got.max_angle),
+                ("area", quality.area, got.area),
+                ("edge_ratio", quality.edge_ratio, got.edge_ratio),
+                ("quality_score", quality.quality_score, got.quality_score),
+            ] {
+                report.check(name, expected, got, context);
+            }
+        }
+        if side.has(&[ACCEPTABLE]) {
+            let quality = judged(random, quality);
+            let (radius, limits) = (random.sized(0.001, 1_000.0), limits(random));
+            let expected = oracle::acceptable(&published(&quality), radius, &limits);
+            let got = side.acceptable(quality, radius, &limits);
+            report.note(if expected { "acceptable" } else { "unacceptable" });
+            report.check("acceptable", expected, got, || format!("{quality:?} at {radius:?}, {limits:?}"));
+        }
+    }
+    report
+}

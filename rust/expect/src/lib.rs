@@ -1,0 +1,136 @@
+//! What a call must answer: the scope's list of refusals, in its order, over the oracle.
+
+pub mod checks;
+
+use oracle::{Error, Laid, Settings, Skip};
+
+/// The answer of the radius estimate.
+#[repr(C)]
+#[derive(Clone, Copy, Debug, Default)]
+pub struct Estimate {
+    pub answer: u32,
+    pub detail: u32,
+    pub radius: f32,
+}
+
+/// The answer of a reconstruction; radii past the count are zeros.
+#[repr(C)]
+#[derive(Clone, Copy, Debug, Default)]
+pub struct Patch {
+    pub answer: u32,
+    pub detail: u32,
+    pub faces: u32,
+    pub seeds: u32,
+    pub looks: u32,
+    pub pivots: u32,
+    pub radii_count: u32,
+    pub radii: [f32; 17],
+}
+
+/// The slices that a call is lent.
+#[derive(Clone, Debug, Default)]
+pub struct Lent {
+    pub faces: Vec<u32>,
+    pub words: Vec<u32>,
+    pub floats: Vec<f32>,
+}
+
+impl Lent {
+    fn clear_work(&mut self) {
+        self.words.fill(0);
+        self.floats.fill(0.0);
+    }
+}
+
+/// A refusal: its number in the scope's list and its detail.
+#[derive(Clone, Copy, Debug, PartialEq, Eq)]
+pub struct Refusal {
+    pub answer: u32,
+    pub detail: u32,
+}
+
+/// What a reconstruction comes to before the face slice is looked at.
+#[derive(Clone, Debug)]
+pub enum Found {
+    /// Refused by a check up to 7; every lent slice is untouched.
+    Early(Refusal),
+    /// 8.
+    NoTriangle,
+    Laid(Laid),
+}
+
+/// Checks 1 to 8.
+pub fn find(
+    points: &[f32],
+    normals: &[f32],
+    settings: &Settings,
+    work: [usize; 2],
+    budget: u64,
+) -> Result<Found, Skip> {
+    if let Err(refusal) = checks::reconstruct(points, normals, settings, work) {
+        return Ok(Found::Early(refusal));
+    }
+    match oracle::reconstruct(points, normals, settings, budget)? {
+        Ok(laid) => Ok(Found::Laid(laid)),
+        Err(Error::Algorithm(_)) => Ok(Found::NoTriangle),
+        Err(error) => panic!("the checks let through what the published code refuses: {error:?}"),
+    }
+}
+
+impl Found {
+    /// The words of a face slice that just holds the faces.
+    pub fn need(&self) -> usize {
+        match self {
+            Found::Laid(laid) => 3 * laid.faces.len(),
+            _ => 0,
+        }
+    }
+
+    /// Check 9, the answer, and what becomes of the lent slices.
+    pub fn deliver(&self, lent: &mut Lent) -> Patch {
+        let refused = |answer, detail| Patch { answer, detail, ..Patch::default() };
+        match self {
+            Found::Early(refusal) => refused(refusal.answer, refusal.detail),
+            Found::NoTriangle => {
+                lent.clear_work();
+                refused(8, 0)
+            }
+            Found::Laid(laid) => {
+                lent.clear_work();
+                if laid.faces.len() > lent.faces.len() / 3 {
+                    lent.faces.fill(0);
+                    return refused(9, 0);
+                }
+                for (to, from) in lent.faces.iter_mut().zip(laid.faces.iter().flatten()) {
+                    *to = *from as u32;
+                }
+                accepted(laid)
+            }
+        }
+    }
+}
+
+fn accepted(laid: &Laid) -> Patch {
+    let mut radii = [0.0; 17];
+    radii[..laid.radii.len()].copy_from_slice(&laid.radii);
+    Patch {
+        answer: 0,
+        detail: 0,
+        faces: laid.faces.len() as u32,
+        seeds: laid.tally.seeds,
+        looks: laid.tally.looks,
+        pivots: laid.tally.pivots,
+        radii_count: laid.radii.len() as u32,
+        radii,
+    }
+}
+
+/// The estimate, and what becomes of the work slices.
+pub fn estimate(points: &[f32], percentile: f32, lent: &mut Lent, budget: u64) -> Result<Estimate, Skip> {
+    if let Err(refusal) = checks::estimate(points, percentile, [lent.words.len(), lent.floats.len()]) {
+        return Ok(Estimate { answer: refusal.answer, detail: refusal.detail, radius: 0.0 });
+    }
+    let radius = oracle::estimate(points, percentile, budget)?.expect("the checks have passed");
+    lent.clear_work();
+    Ok(Estimate { answer: 0, detail: 0, radius })
+}

@@ -1,0 +1,73 @@
+//! Clouds, settings and lengths, and single numbers and triangles, drawn from a seed.
+
+pub mod clouds;
+mod damage;
+pub mod numbers;
+mod random;
+mod settings;
+
+pub use random::Random;
+
+use oracle::Settings;
+
+/// Everything that a call is given. The face slice's length is that of the faces found and `slack` words.
+#[derive(Clone, Debug)]
+pub struct Case {
+    pub kind: &'static str,
+    pub points: Vec<f32>,
+    pub normals: Vec<f32>,
+    pub settings: Settings,
+    pub percentile: f32,
+    pub words: usize,
+    pub floats: usize,
+    pub slack: isize,
+}
+
+impl Case {
+    /// Face slice length where the faces found take `need` words.
+    pub fn face_words(&self, need: usize) -> usize {
+        need.saturating_add_signed(self.slack)
+    }
+}
+
+/// The least lengths of the two work slices for a number of points.
+pub fn work_lengths(points: usize) -> (usize, usize) {
+    (24 * points + 64, 4 * points + 64)
+}
+
+/// Case `number` of a seed: one in six has left the domain or stands on its edge, sometimes in several ways.
+pub fn case(seed: u64, number: u64) -> Case {
+    let random = &mut Random::new(seed, number);
+    let cloud = clouds::cloud(random);
+    let (words, floats) = work_lengths(cloud.points.len() / 3);
+    let normals = cloud.points.iter().map(|_| normal(random)).collect();
+    let mut case = Case {
+        kind: cloud.kind,
+        settings: settings::settings(random, cloud.spacing),
+        percentile: settings::percentile(random),
+        words: words + random.pick(&[0, 0, 1, 5, 200]),
+        floats: floats + random.pick(&[0, 0, 1, 5, 200]),
+        slack: random.pick(&[0, 0, 1, 2, 3, 4, 30, 30, 100, 100, -1, -2, -3, -4, isize::MIN]),
+        points: cloud.points,
+        normals,
+    };
+    if random.percent(16) {
+        for _ in 0..random.pick(&[1, 1, 1, 2, 3]) {
+            damage::damage(random, &mut case);
+        }
+    }
+    case
+}
+
+/// A component of a normal: any finite number.
+fn normal(random: &mut Random) -> f32 {
+    match random.below(20) {
+        0 => random.pick(&[f32::MAX, -f32::MAX, -0.0, f32::from_bits(1)]),
+        _ => random.within(-1.0, 1.0) as f32,
+    }
+}
+
+/// What a lent slice holds before a call, so that an untouched word is told from a written one.
+pub fn old_word(at: usize) -> u32 {
+    0xa500_0000 | at as u32
+}

@@ -1,0 +1,62 @@
+//! Single numbers and triangles, with the patterns at which something changes.
+
+use crate::clouds::LIMIT;
+use crate::random::Random;
+
+/// Patterns at the edges of the format and of whole numbers.
+pub fn edges() -> Vec<f32> {
+    let mut bits: Vec<u32> = vec![0, 1, 2, 3, 0x007f_fffe, 0x007f_ffff, 0x0080_0000, 0x0080_0001, 0x7f7f_ffff];
+    bits.extend([0x7f80_0000, 0x7f80_0001, 0x7fa0_0000, 0x7fc0_0000, 0x7fff_ffff]);
+    for exponent in 0..=255u32 {
+        bits.extend([0, 1, 0x3f_ffff, 0x40_0000, 0x40_0001, 0x7f_ffff].map(|fraction| exponent << 23 | fraction));
+    }
+    for whole in [1.0f32, 2.0, 3.0, 4.0, 0.5, 0.25, 8_388_608.0, 16_777_216.0, 2_147_483_648.0, 4_294_967_296.0] {
+        bits.extend((0..5).map(|more| whole.to_bits() - 2 + more));
+    }
+    bits.iter().flat_map(|b| [f32::from_bits(*b), f32::from_bits(b | 0x8000_0000)]).collect()
+}
+
+/// A number of any kind.
+pub fn number(random: &mut Random) -> f32 {
+    match random.below(4) {
+        0 => random.pattern(),
+        1 => random.within(-1.1, 1.1) as f32,
+        2 => random.signed(LIMIT),
+        _ => (random.whole(0, 40) as f32 - 20.0) * random.pick(&[1.0, 0.5, 1.0, 0.25]),
+    }
+}
+
+/// A place of one of the kinds that triangles are made of.
+fn place(random: &mut Random, kind: usize, scale: f32) -> [f32; 3] {
+    [0; 3].map(|_| match kind {
+        0 => random.within(-1.0, 1.0) as f32 * scale,
+        1 => random.signed(LIMIT),
+        2 => random.below(4) as f32 - 1.0,
+        _ => random.within(-1.0, 1.0) as f32 * random.sized(1e-8, 1.0),
+    })
+}
+
+/// Nine coordinates: any triangle, one with equal points, with points in a line, or a needle.
+pub fn triangle(random: &mut Random) -> [f32; 9] {
+    let kind = random.below(4);
+    let scale = random.sized(1e-12, LIMIT);
+    let (a, mut b, mut c) = (place(random, kind, scale), place(random, kind, scale), place(random, kind, scale));
+    let along = |t: f32| [0, 1, 2].map(|i| a[i] + (b[i] - a[i]) * t);
+    match random.below(12) {
+        0 => b = a,
+        1 => c = a,
+        2 => c = b,
+        3 => c = along(random.pick(&[2.0, 0.5, -1.0, 3.0])),
+        4 => c = along(random.within(-2.0, 2.0) as f32),
+        5 => {
+            let tiny = random.sized(1e-9, 1e-2);
+            c = a.map(|x| x + x * tiny);
+        }
+        _ => {}
+    }
+    let mut out = [0.0; 9];
+    for (i, x) in a.into_iter().chain(b).chain(c).enumerate() {
+        out[i] = x.clamp(-LIMIT, LIMIT);
+    }
+    out
+}
