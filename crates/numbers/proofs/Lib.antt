@@ -3,3 +3,6 @@ pub mod RootWhole
 pub mod RootPattern
 pub mod RootUnits
 pub mod RootSpecial
+pub mod RootGrid
+pub mod RootNearest
+pub mod RootExamples
