@@ -2,24 +2,13 @@
 
 use crate::report::Report;
 use crate::sides::{measures, published, Side};
-use generate::numbers::{number, triangle};
+use generate::numbers::{limits, number, triangle};
 use generate::Random;
-use oracle::Limits;
 use port::Quality;
 
 pub const CIRCUMRADIUS: &str = "yb_compute_circumradius";
 pub const QUALITY: &str = "yb_compute_triangle_quality";
 pub const ACCEPTABLE: &str = "yb_is_triangle_acceptable";
-
-fn limits(random: &mut Random) -> Limits {
-    let mut limit = |usual: f32| match random.below(4) {
-        0 => 0.0,
-        1 => usual,
-        2 => random.unit() as f32,
-        _ => random.sized(f32::from_bits(1), 1_000_000.0),
-    };
-    Limits { min_triangle_area: limit(1e-8), quality_threshold: limit(0.1), max_edge_factor: limit(3.0) }
-}
 
 /// The measures of the triangle, or now and then numbers that no triangle has.
 fn judged(random: &mut Random, quality: Quality) -> Quality {

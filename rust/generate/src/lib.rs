@@ -47,7 +47,7 @@ pub fn case(seed: u64, number: u64) -> Case {
         percentile: settings::percentile(random),
         words: words + random.pick(&[0, 0, 1, 5, 200]),
         floats: floats + random.pick(&[0, 0, 1, 5, 200]),
-        slack: random.pick(&[0, 0, 1, 2, 3, 4, 30, 30, 100, 100, -1, -2, -3, -4, isize::MIN]),
+        slack: slack(random),
         points: cloud.points,
         normals,
     };
@@ -57,6 +57,15 @@ pub fn case(seed: u64, number: u64) -> Case {
         }
     }
     case
+}
+
+/// Words past the faces found, or below 0 words that are missing.
+fn slack(random: &mut Random) -> isize {
+    match random.below(10) {
+        0 => random.pick(&[-1, -2, -3, -4, isize::MIN]),
+        1..=3 => 0,
+        _ => random.pick(&[1, 2, 3, 4, 30, 100]),
+    }
 }
 
 /// A component of a normal: any finite number.

@@ -2,6 +2,7 @@
 
 use crate::clouds::LIMIT;
 use crate::random::Random;
+use oracle::Limits;
 
 /// Patterns at the edges of the format and of whole numbers.
 pub fn edges() -> Vec<f32> {
@@ -59,4 +60,15 @@ pub fn triangle(random: &mut Random) -> [f32; 9] {
         out[i] = x.clamp(-LIMIT, LIMIT);
     }
     out
+}
+
+/// The settings of the acceptance test.
+pub fn limits(random: &mut Random) -> Limits {
+    let mut limit = |usual: f32| match random.below(10) {
+        0..=1 => 0.0,
+        2..=6 => usual,
+        7..=8 => random.unit() as f32,
+        _ => random.sized(f32::from_bits(1), 1_000_000.0),
+    };
+    Limits { min_triangle_area: limit(1e-8), quality_threshold: limit(0.1), max_edge_factor: limit(3.0) }
 }
