@@ -5,4 +5,5 @@ pub mod RootUnits
 pub mod RootSpecial
 pub mod RootGrid
 pub mod RootNearest
+pub mod RootMonotone
 pub mod RootExamples

@@ -1,0 +1,132 @@
+-- The root keeps the order: for f32 with 0 ≤ x ≤ y, `root x` ≤ `root y` (`root-monotone`), -0 and +infinity included.
+-- Between numbers above zero it follows from `root-nearest`: with X ≤ Y in units and roots R and S, a smaller S would give
+-- (R + S)^2 < 4X, since R is nearer to √X, and 4Y < (R + S)^2, since S is nearer to √Y.
+use mathlib.Core.Logic.{_⊎_, inl, inr}
+use Prim.Native.Nat.{ℕ, zero, suc, _+_, _*_, _^_, _≤_, _<_}
+use native.Mathlib.Nat.{zero-lt-suc, mul-pos, mul-le-mul-right, le-of-mul-le-mul-right}
+use native.Mathlib.Omega.{arith}
+use native.Mathlib.Decide.{decLe}
+use mathlib.Core.Bool.{Bool, true, false, _||_}
+use lib.IntN.{ℤ, pos}
+use lib.Dec.{T, ltb, eqb, ltb→lt, lt→ltb, eqb→eq}
+use lib.Pow.{pow-pos}
+use lib.Ieee.{Float, nan, inf, fin, binary32, up, down, fits, lt, eq, le, ofBits}
+use lib.Ieee.Fits.{and-l, up-pos, down-pos}
+use lib.Ieee.Exact.{HasValue}
+use lib.Ieee.Order.{le-of-values}
+use lib.Ieee.Positive.{positive, above, above-of-le, values-of-le, positive-of-value}
+use Rattle.numbers.specs.Rounded.{f32}
+use Rattle.numbers.specs.Root.{root}
+use Rattle.numbers.proofs.RootNearest.{root-nearest}
+
+-- ---- between numbers above zero
+
+-- R and S are the roots of X ≤ Y
+in-order : (X Y R S : ℕ) → X ≤ Y → (S < R → (R + S) * (R + S) < 4 * X) → (S < R → 4 * Y < (S + R) * (S + R)) → R ≤ S
+in-order X Y R S h a b = go (decLe R S)
+  where
+    go : Dec (R ≤ S) → R ≤ S
+    go (yes k) = k
+    go (no k) =
+        let l : S < R = omega arith in
+        let p = a l in
+        let q = b l in
+        absurd (omega arith)
+
+between : (x y : Float) → T (fits binary32 x) → T (fits binary32 y) → T (positive x) → T (positive y) → T (le x y) → T (le (root x) (root y))
+between x y f g p q h =
+    let a = root-nearest x f p in
+    let b = root-nearest y g q in
+    let l : a .X ≤ b .X = le-of-mul-le-mul-right (values-of-le x y (a .X) (2 ^ 298) (b .X) (2 ^ 298) p q (a .argument) (b .argument) h) (pow-pos 298) in
+    let r : a .R ≤ b .R =
+    in-order (a .X) (b .X) (a .R) (b .R) l (a .nearest (root y) (b .R) (b .held) (b .result) .0) (b .nearest (root x) (a .R) (a .held) (a .result) .1) in
+    le-of-values (root x) (root y) (a .R) (2 ^ 149) (b .R) (2 ^ 149) (pow-pos 149) (pow-pos 149) (a .result) (b .result) (mul-le-mul-right (2 ^ 149) r)
+
+-- ---- at the ends
+
+or-l : (a b : Bool) → T a → T (a || b)
+or-l true b t = tt
+or-l false b t = absurd t
+
+or-split : (a b : Bool) → T (a || b) → T a ⊎ T b
+or-split true b t = inl tt
+or-split false b t = inr t
+
+lt-le : (x y : Float) → T (lt x y) → T (le x y)
+unfolding le
+lt-le x y t = or-l (lt x y) (eq x y) t
+
+-- any number is below +infinity
+value-le-inf : (v : Float) (s : Bool) (a c : ℕ) → HasValue v s a c → T (le v (inf false))
+unfolding le
+value-le-inf nan s a c h = absurd h
+value-le-inf (inf t) s a c h = absurd h
+value-le-inf (fin t m e) s a c h = tt
+
+inf-top : (y : Float) → T (le (inf false) y) → T (le (root (inf false)) (root y))
+unfolding le root
+inf-top nan h = absurd h
+inf-top (inf true) h = absurd h
+inf-top (inf false) h = tt
+inf-top (fin t n d) h = absurd h
+
+-- a zero is below any number above zero, and not below one under it
+zero-lt-positive : (s : Bool) (e : ℤ) (v : Float) → T (positive v) → T (lt (fin s 0 e) v)
+unfolding lt
+zero-lt-positive s e nan p = absurd p
+zero-lt-positive s e (inf t) p = absurd p
+zero-lt-positive s e (fin true n d) p = absurd p
+zero-lt-positive true e (fin false n d) p =
+    let b : 0 < n * up d * down e = mul-pos (mul-pos (ltb→lt 0 n p) (up-pos d)) (down-pos e) in
+    lt→ltb 0 (0 * up e * down d + n * up d * down e) (omega arith)
+zero-lt-positive false e (fin false n d) p =
+    let b : 0 < n * up d * down e = mul-pos (mul-pos (ltb→lt 0 n p) (up-pos d)) (down-pos e) in
+    lt→ltb (0 * up e * down d) (n * up d * down e) (omega arith)
+
+not-under : (s : Bool) (e : ℤ) (n : ℕ) (d : ℤ) → T (le (fin s 0 e) (fin true (suc n) d)) → ⊥
+unfolding le
+not-under s e n d = go s
+  where
+    less : 0 * up e * down d < suc n * up d * down e
+    less = let p : 0 < suc n * up d * down e = mul-pos (mul-pos (zero-lt-suc n) (up-pos d)) (down-pos e) in omega arith
+
+    same : T (eqb (0 * up e * down d) (suc n * up d * down e)) → ⊥
+    same t = let p = eqb→eq (0 * up e * down d) (suc n * up d * down e) t in let l = less in omega arith
+
+    go : (s : Bool) → T (le (fin s 0 e) (fin true (suc n) d)) → ⊥
+    go true h = elim (or-split (ltb (suc n * up d * down e) (0 * up e * down d)) _ h) [
+      | inl t ↦ let p = ltb→lt (suc n * up d * down e) (0 * up e * down d) t in let l = less in omega arith
+      | inr t ↦ same (and-l (eqb (0 * up e * down d) (suc n * up d * down e)) _ t)
+    ]
+    go false h = same (and-l (eqb (0 * up e * down d) (suc n * up d * down e)) _ h)
+
+zero-le-root : (s : Bool) (e : ℤ) (y : Float) → T (fits binary32 y) → T (le (fin s 0 e) y) → T (le (root (fin s 0 e)) (root y))
+unfolding le root
+zero-le-root s e nan g h = absurd h
+zero-le-root s e (inf true) g h = absurd h
+zero-le-root s e (inf false) g h = tt
+zero-le-root s e (fin t zero d) g h = h
+zero-le-root s e (fin true (suc n) d) g h = absurd (not-under s e n d h)
+zero-le-root s e (fin false (suc n) d) g h =
+    let b = root-nearest (fin false (suc n) d) g (lt→ltb 0 (suc n) (zero-lt-suc n)) in
+    lt-le (fin s 0 e) (root (fin false (suc n) d)) (zero-lt-positive s e (root (fin false (suc n) d)) (positive-of-value (root (fin false (suc n) d)) (b .R) (2 ^ 149) (b .result) (b .above-zero)))
+
+positive-le-root : (x y : Float) → T (fits binary32 x) → T (fits binary32 y) → T (positive x) → T (above y) → T (le x y) → T (le (root x) (root y))
+positive-le-root x nan f g p q h = absurd q
+positive-le-root x (inf true) f g p q h = absurd q
+positive-le-root x (inf false) f g p q h = let a = root-nearest x f p in unfold root in value-le-inf (root x) false (a .R) (2 ^ 149) (a .result)
+positive-le-root x (fin true n d) f g p q h = absurd q
+positive-le-root x (fin false n d) f g p q h = between x (fin false n d) f g p q h
+
+-- ---- the theorem
+
+pub root-monotone : (x y : Float) → T (fits binary32 x) → T (fits binary32 y) → T (le (f32 0) x) → T (le x y) → T (le (root x) (root y))
+unfolding le ofBits
+root-monotone nan y f g z h = absurd z
+root-monotone (inf true) y f g z h = absurd z
+root-monotone (inf false) y f g z h = inf-top y h
+root-monotone (fin s zero e) y f g z h = zero-le-root s e y g h
+root-monotone (fin true (suc m) e) y f g z h = absurd (not-under false (pos 0) m e z)
+root-monotone (fin false (suc m) e) y f g z h =
+    let p = lt→ltb 0 (suc m) (zero-lt-suc m) in
+    positive-le-root (fin false (suc m) e) y f g p (above-of-le (fin false (suc m) e) y p h) h
