@@ -1,0 +1,11 @@
+pub mod Counts
+pub mod Edges
+pub mod Inv
+pub mod Steps
+pub mod Looks
+pub mod Laying
+pub mod Pops
+pub mod Searching
+pub mod Claim
+pub mod View
+pub mod Example

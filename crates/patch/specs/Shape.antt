@@ -1,0 +1,58 @@
+-- The shape of a patch: the one claim about it. F is the number of its faces, S that of its seeds. Definitions only.
+use Prim.Native.Nat.{ℕ, _+_, _*_, _≤_, _<_}
+use mathlib.Core.Path.{_≡_}
+use mathlib.Core.Logic.{_↔_, _≢_}
+use mathlib.Core.Bool.{Bool, true, false, not}
+use mathlib.Core.List.{List}
+use lib.Dec.{eqb}
+use lib.ListN.{length, getD, take}
+use Rattle.patch.specs.Count.{count, any}
+use Rattle.patch.specs.Lay.{Edge, same, Face, face, pointsOf, edgesOf, State, seedsOf}
+
+-- the face has the point x
+unfoldable pub touches : ℕ → Face → Bool
+touches x f = any (eqb x) (pointsOf f)
+
+-- the edge e, direction aside, lies in the face
+unfoldable pub has : Edge → Face → Bool
+has e f = any (same e) (edgesOf f)
+
+-- how many points of the face no earlier face has
+unfoldable pub newPoints : List Face → Face → ℕ
+newPoints earlier f = count (λ x. not (any (touches x) earlier)) (pointsOf f)
+
+-- stands for a face that is not there, and is never read
+abbrev pub noFace : Face
+noFace = face 0 0 0
+
+-- there are exactly k things with the property P, told apart by the test `alike`
+pub record Exactly {A : Type 0} (k : ℕ) (alike : A → A → Bool) (P : A → Type 0) : Type 0 where
+  pub list : List A
+  pub once : (x : A) → count (alike x) list ≤ 1
+  pub complete : (x : A) → (1 ≤ count (alike x) list) ↔ P x
+  pub many : length list ≡ k
+
+-- a face after those earlier: a seed, or another
+pub record Laid (seed : Bool) (earlier : List Face) (f : Face) : Type 0 where
+  -- it has three different points
+  pub different : (f .a ≢ f .b) × (f .b ≢ f .c) × (f .c ≢ f .a)
+  -- no earlier face has any point of a seed
+  pub seed-new : seed ≡ true → newPoints earlier f ≡ 3
+  -- any other face brings in exactly one point that no earlier face has
+  pub other-new : seed ≡ false → newPoints earlier f ≡ 1
+  -- and shares an edge with an earlier one
+  pub other-shares : seed ≡ false → (e : Edge) × (has e f ≡ true) × (any (has e) earlier ≡ true)
+
+pub record Shape (s : State) : Type 0 where
+  -- the state says of each face whether it is a seed
+  pub flagged : length (s .seedFlags) ≡ length (s .faces)
+  -- each face, after those with a lower number
+  pub each : (i : ℕ) → i < length (s .faces) → Laid (getD (s .seedFlags) i false) (take i (s .faces)) (getD (s .faces) i noFace)
+  -- the faces touch exactly F + 2S points
+  pub points : Exactly (length (s .faces) + 2 * seedsOf s) eqb (λ x. any (touches x) (s .faces) ≡ true)
+  -- there are exactly 2F + S edges, direction aside
+  pub edges : Exactly (2 * length (s .faces) + seedsOf s) same (λ e. any (has e) (s .faces) ≡ true)
+  -- each of them lies in one face or two
+  pub one-or-two : (e : Edge) → any (has e) (s .faces) ≡ true → (1 ≤ count (has e) (s .faces)) × (count (has e) (s .faces) ≤ 2)
+  pub looks : s .looks ≡ 3 * length (s .faces)
+  pub pivots : s .pivots ≡ 2 * length (s .faces) + seedsOf s

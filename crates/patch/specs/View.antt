@@ -1,0 +1,21 @@
+-- What lent slices stand for: entries kept as one number each, and faces in a slice that may be too short for them. Definitions only.
+use Prim.Native.Nat.{ℕ, _+_, _*_, _/_, _%_}
+use mathlib.Core.List.{List, [], _∷_, _++_}
+use lib.ListN.{length, take, drop}
+use Rattle.patch.specs.Lay.{Edge, Face, edge}
+
+-- points are below 4096
+abbrev pub encode : Edge → ℕ
+encode e = e .v1 * 4096 + e .v2
+
+abbrev pub decode : ℕ → Edge
+decode x = edge (x / 4096) (x % 4096)
+
+-- the faces' points, three to a face
+unfoldable pub flat : List Face → List ℕ
+flat [] = []
+flat (f ∷ fs) = f .a ∷ f .b ∷ f .c ∷ flat fs
+
+-- as many of the faces as fit stand in front of a slice; the rest of it is unchanged
+unfoldable pub written : List Face → List ℕ → List ℕ
+written fs slice = let front = flat (take (length slice / 3) fs) in front ++ drop (length front) slice
