@@ -11,7 +11,7 @@ const MAX_WORDS: usize = 4_096;
 
 /// Mostly small clouds: what is left of the first cases, a larger one now and then.
 fn cases(count: usize) -> impl Iterator<Item = Case> {
-    let small = |number: u64| if number % 40 == 0 { 1_200 } else { 90 };
+    let small = |number: u64| if number < 30 || number % 40 == 0 { 1_200 } else { 90 };
     (0..)
         .map(move |number| (number, case(SEED, number)))
         .filter(move |(number, case)| case.points.len() <= small(*number))

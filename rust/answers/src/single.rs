@@ -1,7 +1,7 @@
 //! Answers on single numbers and triangles.
 
 use crate::{bits, line};
-use generate::numbers::{edges, limits, number, triangle};
+use generate::numbers::{edges, limits, number, radius, triangle};
 use generate::Random;
 use oracle::TriangleQuality;
 
@@ -26,7 +26,7 @@ fn triangles(out: &mut String) {
         let places = corners.map(f32::to_bits);
         let quality = oracle::quality(&corners);
         out.push_str(&line(5, &[&places[..], &measures(&quality)].concat()));
-        let (radius, limits) = (random.sized(0.001, 1_000.0), limits(random));
+        let (radius, limits) = (radius(random, quality.area, quality.edge_ratio), limits(random));
         let passes = oracle::acceptable(&quality, radius, &limits);
         let given = [radius, limits.min_triangle_area, limits.quality_threshold, limits.max_edge_factor].map(bits);
         out.push_str(&line(6, &[&measures(&quality)[..], &given, &[u32::from(passes)]].concat()));

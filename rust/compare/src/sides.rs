@@ -112,8 +112,8 @@ pub struct Mirror {
     pub left: Cell<u32>,
 }
 
-/// The steps of the published code that a case may take; about a quarter of a second.
-pub const BUDGET: u64 = 8_000_000;
+/// The steps of the published code that a case may take; about half a second.
+pub const BUDGET: u64 = 16_000_000;
 
 pub fn measures(q: &oracle::TriangleQuality) -> Quality {
     Quality {

@@ -2,7 +2,7 @@
 
 use crate::report::Report;
 use crate::sides::{measures, published, Side};
-use generate::numbers::{limits, number, triangle};
+use generate::numbers::{limits, number, radius, triangle};
 use generate::Random;
 use port::Quality;
 
@@ -43,7 +43,7 @@ pub fn triangles(side: &dyn Side, count: u64, seed: u64, first: u64) -> Report {
         }
         if side.has(&[ACCEPTABLE]) {
             let quality = judged(random, quality);
-            let (radius, limits) = (random.sized(0.001, 1_000.0), limits(random));
+            let (radius, limits) = (radius(random, quality.area, quality.edge_ratio), limits(random));
             let expected = oracle::acceptable(&published(&quality), radius, &limits);
             let got = side.acceptable(quality, radius, &limits);
             report.note(if expected { "acceptable" } else { "unacceptable" });

@@ -2,6 +2,7 @@
 
 pub mod clouds;
 mod damage;
+mod fixed;
 pub mod numbers;
 mod random;
 mod settings;
@@ -9,6 +10,7 @@ mod settings;
 pub use random::Random;
 
 use oracle::Settings;
+use std::sync::OnceLock;
 
 /// Everything that a call is given. The face slice's length is that of the faces found and `slack` words.
 #[derive(Clone, Debug)]
@@ -35,8 +37,17 @@ pub fn work_lengths(points: usize) -> (usize, usize) {
     (24 * points + 64, 4 * points + 64)
 }
 
-/// Case `number` of a seed: one in six has left the domain or stands on its edge, sometimes in several ways.
+/// Case `number` of a seed, the fixed ones first.
 pub fn case(seed: u64, number: u64) -> Case {
+    static FIXED: OnceLock<Vec<Case>> = OnceLock::new();
+    match FIXED.get_or_init(fixed::cases).get(number as usize) {
+        Some(case) => case.clone(),
+        None => drawn(seed, number),
+    }
+}
+
+/// A drawn case: one in six has left the domain or stands on its edge, sometimes in several ways.
+fn drawn(seed: u64, number: u64) -> Case {
     let random = &mut Random::new(seed, number);
     let cloud = clouds::cloud(random);
     let (words, floats) = work_lengths(cloud.points.len() / 3);

@@ -39,8 +39,9 @@ fn place(random: &mut Random, kind: usize, scale: f32) -> [f32; 3] {
 
 /// Nine coordinates: any triangle, one with equal points, with points in a line, or a needle.
 pub fn triangle(random: &mut Random) -> [f32; 9] {
-    let kind = random.below(4);
-    let scale = random.sized(1e-12, LIMIT);
+    let kind = random.pick(&[0, 0, 0, 0, 1, 2, 3]);
+    let least = random.pick(&[1e-2, 1e-2, 1e-12]);
+    let scale = random.sized(least, LIMIT);
     let (a, mut b, mut c) = (place(random, kind, scale), place(random, kind, scale), place(random, kind, scale));
     let along = |t: f32| [0, 1, 2].map(|i| a[i] + (b[i] - a[i]) * t);
     match random.below(12) {
@@ -71,4 +72,14 @@ pub fn limits(random: &mut Random) -> Limits {
         _ => random.sized(f32::from_bits(1), 1_000_000.0),
     };
     Limits { min_triangle_area: limit(1e-8), quality_threshold: limit(0.1), max_edge_factor: limit(3.0) }
+}
+
+/// A radius for the acceptance test of a triangle: of any size, or near the one at which its edges pass.
+pub fn radius(random: &mut Random, area: f32, edge_ratio: f32) -> f32 {
+    let near = edge_ratio * area.sqrt() * random.within(0.2, 2.0) as f32;
+    if near.is_finite() && random.percent(80) {
+        near
+    } else {
+        random.sized(0.001, 1_000.0)
+    }
 }
