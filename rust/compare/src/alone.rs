@@ -72,22 +72,23 @@ pub fn selftest() -> Report {
         let seen = run().different;
         report.check("differences", faults as u32, seen as u32, || format!("fault at {place:?}"));
     };
-    let (count, seed) = (120, 5);
+    // From case 30 on, past the large fixed clouds.
+    let (count, seed, first) = (90, 5, 30);
     found("", 0, &|| numbers::numbers(&Mirror::new(""), count, seed));
-    found("", 0, &|| triangles::triangles(&Mirror::new(""), count, seed, 0));
-    found("", 0, &|| clouds::estimate(&Mirror::new(""), count, seed, 0));
-    found("", 0, &|| clouds::reconstruct(&Mirror::new(""), count, seed, 0));
+    found("", 0, &|| triangles::triangles(&Mirror::new(""), count, seed, first));
+    found("", 0, &|| clouds::estimate(&Mirror::new(""), count, seed, first));
+    found("", 0, &|| clouds::reconstruct(&Mirror::new(""), count, seed, first));
     for call in Number::ALL.map(Number::call) {
         found(call, 1, &|| numbers::numbers(&Mirror::new(call), count, seed));
     }
     for place in TRIANGLE_FAULTS {
-        found(place, 1, &|| triangles::triangles(&Mirror::new(place), count, seed, 0));
+        found(place, 1, &|| triangles::triangles(&Mirror::new(place), count, seed, first));
     }
     for place in ESTIMATE_FAULTS {
-        found(place, 1, &|| clouds::estimate(&Mirror::new(place), count, seed, 0));
+        found(place, 1, &|| clouds::estimate(&Mirror::new(place), count, seed, first));
     }
     for place in PATCH_FAULTS {
-        found(place, 1, &|| clouds::reconstruct(&Mirror::new(place), count, seed, 0));
+        found(place, 1, &|| clouds::reconstruct(&Mirror::new(place), count, seed, first));
     }
     report
 }

@@ -57,3 +57,30 @@ fn estimates() {
     assert_eq!(estimate(&[0.0, 0.0, 0.0, 0.0, 1.0, 0.0], 0.5, BUDGET), Ok(Ok(2.5)));
     assert!(matches!(estimate(&[0.0; 3], f32::NAN, BUDGET), Ok(Err(Error::InvalidData(_)))));
 }
+
+/// Entries of equal priority, as all of the frontier's are.
+#[test]
+fn frontier_order() {
+    #[derive(Debug)]
+    struct Entry(char);
+    impl PartialEq for Entry {
+        fn eq(&self, _: &Self) -> bool {
+            true
+        }
+    }
+    impl Eq for Entry {}
+    impl PartialOrd for Entry {
+        fn partial_cmp(&self, other: &Self) -> Option<std::cmp::Ordering> {
+            Some(self.cmp(other))
+        }
+    }
+    impl Ord for Entry {
+        fn cmp(&self, _: &Self) -> std::cmp::Ordering {
+            std::cmp::Ordering::Equal
+        }
+    }
+    let mut frontier = std::collections::BinaryHeap::new();
+    "ABCD".chars().for_each(|name| frontier.push(Entry(name)));
+    let popped: String = std::iter::from_fn(|| frontier.pop()).map(|entry| entry.0).collect();
+    assert_eq!(popped, "ACBD");
+}
