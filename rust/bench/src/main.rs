@@ -33,9 +33,9 @@ extern "C" fn machine_sqrt(x: f32) -> f32 {
     x.sqrt()
 }
 
-/// The sum of the roots of a stream.
-fn stream(numbers: &[f32], root: impl Fn(f32) -> f32) -> f32 {
-    numbers.iter().map(|x| root(*x)).sum()
+/// The roots of a stream; their patterns are added, so that none waits for the one before.
+fn stream(numbers: &[f32], root: impl Fn(f32) -> f32) -> u32 {
+    numbers.iter().fold(0, |sum: u32, x| sum.wrapping_add(root(*x).to_bits()))
 }
 
 fn roots(random: &mut Random) -> [f64; 2] {
