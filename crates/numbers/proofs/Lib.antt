@@ -7,3 +7,6 @@ pub mod RootGrid
 pub mod RootNearest
 pub mod RootMonotone
 pub mod RootExamples
+pub mod Compare
+pub mod Cuts
+pub mod AcosExamples

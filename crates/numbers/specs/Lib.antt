@@ -1,3 +1,6 @@
 -- What the crate's contracts cite, leaves first.
 pub mod Rounded
 pub mod Root
+pub mod Order
+pub mod Cut
+pub mod Acos

@@ -1,0 +1,2 @@
+-- What the definitions give at outside values.
+pub mod Examples

@@ -1,0 +1,15 @@
+-- `magnitude` meets its contract.
+use Rattle.triangle.specs.Vector.{magnitude}
+use borrow.Author.Needs.{needs}
+use Rattle.triangle.proofs.magnitude.Statement.{statement}
+use Rattle.triangle.proofs.magnitude.Tie as tie
+
+sqrt-requires : tie.Need-sqrt-requires
+sqrt-requires c κs = search needs
+
+returns : tie.Need-returns
+unfolding magnitude
+returns c = cc
+
+pub magnitude-spec : {M : Type 1} → statement M
+magnitude-spec = tie.close (tie.spec sqrt-requires returns)

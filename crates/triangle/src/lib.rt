@@ -1,0 +1,114 @@
+// A triangle of three points in space: its circumradius, its quality, and whether that is acceptable.
+mod measure;
+
+ghost use mathlib.Core.Path.{_≡_};
+ghost use Rattle.triangle.specs.Vector.{point, difference, magnitude, cross, distance};
+ghost use Rattle.triangle.specs.Quality.{area, circumradius, quality, acceptable};
+
+// A point, or the vector between two.
+#[repr(C)]
+pub struct Point3f {
+    pub x: f32,
+    pub y: f32,
+    pub z: f32,
+}
+
+// Quality metrics for triangle evaluation.
+#[repr(C)]
+pub struct TriangleQuality {
+    pub aspect_ratio: f32,
+    pub min_angle: f32,
+    pub max_angle: f32,
+    pub area: f32,
+    pub edge_ratio: f32,
+    pub quality_score: f32,
+}
+
+// The point (x, y, z).
+pub fn point(x: f32, y: f32, z: f32) -> Point3f
+    ensures { λ r. ⌜ r ≡ point x y z ⌝ }
+{
+    Point3f { x, y, z }
+}
+
+// p - q
+pub fn difference(p: Point3f, q: Point3f) -> Point3f
+    ensures { λ r. ⌜ r ≡ difference p q ⌝ }
+{
+    Point3f {
+        x: p.x - q.x,
+        y: p.y - q.y,
+        z: p.z - q.z,
+    }
+}
+
+pub fn magnitude(v: Point3f) -> f32
+    ensures { λ r. ⌜ r ≡ magnitude v ⌝ }
+{
+    numbers::sqrt((v.x * v.x + v.y * v.y) + v.z * v.z)
+}
+
+pub fn cross(v: Point3f, w: Point3f) -> Point3f
+    ensures { λ r. ⌜ r ≡ cross v w ⌝ }
+{
+    Point3f {
+        x: v.y * w.z - v.z * w.y,
+        y: v.z * w.x - v.x * w.z,
+        z: v.x * w.y - v.y * w.x,
+    }
+}
+
+// The length of p - q.
+pub fn distance(p: Point3f, q: Point3f) -> f32
+    ensures { λ r. ⌜ r ≡ distance p q ⌝ }
+{
+    magnitude(difference(p, q))
+}
+
+fn area_of(p1: Point3f, p2: Point3f, p3: Point3f) -> f32
+    ensures { λ r. ⌜ r ≡ area p1 p2 p3 ⌝ }
+{
+    magnitude(cross(difference(p2, p1), difference(p3, p1))) * 0.5
+}
+
+pub fn compute_circumradius(p1: Point3f, p2: Point3f, p3: Point3f) -> f32
+    ensures { λ r. ⌜ r ≡ circumradius p1 p2 p3 ⌝ }
+{
+    let area = area_of(p1, p2, p3);
+    if area < 1e-10 {
+        return 1.0 / 0.0;
+    }
+    measure::radius_of(distance(p2, p1), distance(p3, p2), distance(p1, p3), area)
+}
+
+// The lengths and the area serve the circumradius too.
+pub fn compute_triangle_quality(p1: Point3f, p2: Point3f, p3: Point3f) -> TriangleQuality
+    ensures { λ r. ⌜ r ≡ quality p1 p2 p3 ⌝ }
+{
+    let area = area_of(p1, p2, p3);
+    if area < 1e-10 {
+        return measure::degenerate(area);
+    }
+    measure::measures(distance(p2, p1), distance(p3, p2), distance(p1, p3), area)
+}
+
+pub fn is_triangle_acceptable(
+    quality: TriangleQuality,
+    radius: f32,
+    min_triangle_area: f32,
+    quality_threshold: f32,
+    max_edge_factor: f32,
+) -> bool
+    ensures { λ r. ⌜ r ≡ acceptable quality radius «min_triangle_area» «quality_threshold» «max_edge_factor» ⌝ }
+{
+    if quality.area < min_triangle_area {
+        return false;
+    }
+    if quality.quality_score < quality_threshold {
+        return false;
+    }
+    if quality.edge_ratio * numbers::sqrt(quality.area) > radius * max_edge_factor {
+        return false;
+    }
+    true
+}

@@ -1,0 +1,93 @@
+// A triangle's measures, from the lengths of its edges and its area.
+use crate::TriangleQuality;
+ghost use mathlib.Core.Path.{_≡_};
+ghost use Rattle.triangle.specs.Quality.{radiusOf, angle, least, largest, aspectRatio, edgeRatio, score, measures, degenerate};
+
+// The circumradius.
+pub fn radius_of(a: f32, b: f32, c: f32, area: f32) -> f32
+    ensures { λ r. ⌜ r ≡ radiusOf a b c area ⌝ }
+{
+    (a * b * c) / (4.0 * area)
+}
+
+// The angle opposite to a.
+fn angle(a: f32, b: f32, c: f32) -> f32
+    ensures { λ r. ⌜ r ≡ angle a b c ⌝ }
+{
+    numbers::acos(numbers::clamp((b * b + c * c - a * a) / (2.0 * b * c), -1.0, 1.0))
+}
+
+fn least(a: f32, b: f32, c: f32) -> f32
+    ensures { λ r. ⌜ r ≡ least a b c ⌝ }
+{
+    numbers::min(numbers::min(a, b), c)
+}
+
+fn largest(a: f32, b: f32, c: f32) -> f32
+    ensures { λ r. ⌜ r ≡ largest a b c ⌝ }
+{
+    numbers::max(numbers::max(a, b), c)
+}
+
+fn aspect_ratio(a: f32, b: f32, c: f32, area: f32, radius: f32) -> f32
+    ensures { λ r. ⌜ r ≡ aspectRatio a b c area radius ⌝ }
+{
+    if radius > 1e-10 {
+        area / ((a + b + c) * 0.5) / radius
+    } else {
+        0.0
+    }
+}
+
+fn edge_ratio(a: f32, b: f32, c: f32) -> f32
+    ensures { λ r. ⌜ r ≡ edgeRatio a b c ⌝ }
+{
+    let shortest = least(a, b, c);
+    if shortest > 1e-10 {
+        largest(a, b, c) / shortest
+    } else {
+        1.0 / 0.0
+    }
+}
+
+fn score(min_angle: f32, aspect: f32, edge: f32) -> f32
+    ensures { λ r. ⌜ r ≡ score «min_angle» aspect edge ⌝ }
+{
+    let angle_quality = numbers::min(min_angle / (3.1415927 / 6.0), 1.0);
+    let edge_quality = numbers::min(3.0 / edge, 1.0);
+    (angle_quality + aspect * 2.0 + edge_quality) / 3.0
+}
+
+// The measures of a triangle that has an area.
+pub fn measures(a: f32, b: f32, c: f32, area: f32) -> TriangleQuality
+    ensures { λ r. ⌜ r ≡ measures a b c area (radiusOf a b c area) ⌝ }
+{
+    let angle_a = angle(a, b, c);
+    let angle_b = angle(b, a, c);
+    let angle_c = 3.1415927 - angle_a - angle_b;
+    let min_angle = least(angle_a, angle_b, angle_c);
+    let aspect = aspect_ratio(a, b, c, area, radius_of(a, b, c, area));
+    let edge = edge_ratio(a, b, c);
+    TriangleQuality {
+        aspect_ratio: aspect,
+        min_angle,
+        max_angle: largest(angle_a, angle_b, angle_c),
+        area,
+        edge_ratio: edge,
+        quality_score: score(min_angle, aspect, edge),
+    }
+}
+
+// The measures of one that has next to none.
+pub fn degenerate(area: f32) -> TriangleQuality
+    ensures { λ r. ⌜ r ≡ degenerate area ⌝ }
+{
+    TriangleQuality {
+        aspect_ratio: 0.0,
+        min_angle: 0.0,
+        max_angle: 3.1415927,
+        area,
+        edge_ratio: 1.0 / 0.0,
+        quality_score: 0.0,
+    }
+}
