@@ -1,7 +1,7 @@
 //! Times the port's root and triangle quality against the machine's and the Rust's, in one process.
 //!
 //! Both sides are called as functions, in turn, over the same numbers; the best of many rounds counts. It fails if
-//! the root takes over 4 times the machine's time, or the quality longer than the Rust's.
+//! the root, each on its own, takes over 4 times the machine's time, or the quality longer than the Rust's.
 
 use generate::Random;
 use oracle::ball_pivoting::{BallPivotingConfig, BallPivotingReconstructor};
@@ -33,17 +33,28 @@ extern "C" fn machine_sqrt(x: f32) -> f32 {
     x.sqrt()
 }
 
-/// The roots of a stream; their patterns are added, so that none waits for the one before.
-fn stream(numbers: &[f32], root: impl Fn(f32) -> f32) -> u32 {
+/// The roots of a stream, each on its own: their patterns are added in a register.
+fn apart(numbers: &[f32], root: impl Fn(f32) -> f32) -> u32 {
     numbers.iter().fold(0, |sum: u32, x| sum.wrapping_add(root(*x).to_bits()))
 }
 
-fn roots(random: &mut Random) -> [f64; 2] {
+/// The sum of the roots of a stream; it goes through memory at each call, which takes either side longer.
+fn summed(numbers: &[f32], root: impl Fn(f32) -> f32) -> f32 {
+    numbers.iter().fold(0.0, |sum: f32, x| sum + root(*x))
+}
+
+fn roots(random: &mut Random) -> bool {
     let numbers: Vec<f32> = (0..ITEMS).map(|_| random.sized(1e-20, 1e20)).collect();
-    race(
-        || _ = black_box(stream(black_box(&numbers), port::sqrt)),
-        || _ = black_box(stream(black_box(&numbers), |x| machine_sqrt(x))),
-    )
+    let added = race(
+        || _ = black_box(summed(black_box(&numbers), port::sqrt)),
+        || _ = black_box(summed(black_box(&numbers), |x| machine_sqrt(x))),
+    );
+    let own = race(
+        || _ = black_box(apart(black_box(&numbers), port::sqrt)),
+        || _ = black_box(apart(black_box(&numbers), |x| machine_sqrt(x))),
+    );
+    judge("sum of a stream's roots", added, 4.0);
+    judge("a stream's roots, each on its own", own, 4.0)
 }
 
 fn qualities(random: &mut Random) -> [f64; 2] {
@@ -68,7 +79,7 @@ fn main() {
     let mut good = true;
     let mut timed = 0;
     if port::landed(&["yb_sqrt"]) {
-        good &= judge("root in a stream", roots(random), 4.0);
+        good &= roots(random);
         timed += 1;
     }
     if port::landed(&["yb_compute_triangle_quality"]) {

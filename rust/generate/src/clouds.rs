@@ -24,6 +24,11 @@ fn turn(part: f64) -> (f64, f64) {
     (c, s)
 }
 
+/// The cube root of a number from 1 on, by arithmetic alone.
+fn cube_root(x: f64) -> f64 {
+    (0..60).fold(x, |root, _| (2.0 * root + x / (root * root)) / 3.0)
+}
+
 fn flat(points: impl IntoIterator<Item = [f64; 3]>) -> Vec<f32> {
     points.into_iter().flatten().map(|x| x as f32).collect()
 }
@@ -85,7 +90,7 @@ fn sphere(random: &mut Random, size: usize) -> Cloud {
 
 fn volume(random: &mut Random, size: usize) -> Cloud {
     let points = (0..size).map(|_| [0; 3].map(|_| random.unit()));
-    Cloud { kind: "volume", points: flat(points.collect::<Vec<_>>()), spacing: 0.7 / (size as f64).cbrt() }
+    Cloud { kind: "volume", points: flat(points.collect::<Vec<_>>()), spacing: 0.7 / cube_root(size as f64) }
 }
 
 /// Points in a line, along an axis or askew, some of them on the same place.
@@ -117,7 +122,7 @@ fn clusters(random: &mut Random, size: usize) -> Cloud {
         let (place, wide) = random.pick(&places);
         place.map(|x| x + random.within(-wide, wide))
     });
-    Cloud { kind: "clusters", points: flat(points.collect::<Vec<_>>()), spacing: 1.0 / (size as f64 / 4.0).cbrt() }
+    Cloud { kind: "clusters", points: flat(points.collect::<Vec<_>>()), spacing: 1.6 / cube_root(size as f64) }
 }
 
 /// 0 to 8 points on small whole coordinates, minus zero among them.
