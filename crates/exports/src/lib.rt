@@ -1,0 +1,119 @@
+// The functions that C and Rust call. Each promises what the function that it calls does.
+ghost use mathlib.Core.Path.{_≡_};
+ghost use Rattle.numbers.specs.Root.{root};
+ghost use Rattle.numbers.specs.Order.{minimum, maximum, clamp};
+ghost use Rattle.numbers.specs.Cut.{cut, ceil};
+ghost use Rattle.numbers.specs.Acos.{acos};
+ghost use Rattle.triangle.specs.Vector.{point};
+ghost use Rattle.triangle.specs.Quality.{circumradius, quality, acceptable};
+use triangle::TriangleQuality;
+
+#[no_mangle]
+pub extern "C" fn yb_sqrt(x: f32) -> f32
+    ensures { λ r. ⌜ r ≡ root x ⌝ }
+{
+    numbers::sqrt(x)
+}
+
+#[no_mangle]
+pub extern "C" fn yb_acos(v: f32) -> f32
+    ensures { λ r. ⌜ r ≡ acos v ⌝ }
+{
+    numbers::acos(v)
+}
+
+#[no_mangle]
+pub extern "C" fn yb_cut(x: f32) -> u32
+    ensures { λ r. ⌜ r ≡ cut x ⌝ }
+{
+    numbers::cut(x)
+}
+
+#[no_mangle]
+pub extern "C" fn yb_ceil_cut(x: f32) -> u32
+    ensures { λ r. ⌜ r ≡ cut (ceil x) ⌝ }
+{
+    numbers::ceil_cut(x)
+}
+
+#[no_mangle]
+pub extern "C" fn yb_min(a: f32, b: f32) -> f32
+    ensures { λ r. ⌜ r ≡ minimum a b ⌝ }
+{
+    numbers::min(a, b)
+}
+
+#[no_mangle]
+pub extern "C" fn yb_max(a: f32, b: f32) -> f32
+    ensures { λ r. ⌜ r ≡ maximum a b ⌝ }
+{
+    numbers::max(a, b)
+}
+
+#[no_mangle]
+pub extern "C" fn yb_clamp(v: f32, lo: f32, hi: f32) -> f32
+    ensures { λ r. ⌜ r ≡ clamp v lo hi ⌝ }
+{
+    numbers::clamp(v, lo, hi)
+}
+
+#[no_mangle]
+pub extern "C" fn yb_compute_circumradius(
+    x1: f32,
+    y1: f32,
+    z1: f32,
+    x2: f32,
+    y2: f32,
+    z2: f32,
+    x3: f32,
+    y3: f32,
+    z3: f32,
+) -> f32
+    ensures { λ r. ⌜ r ≡ circumradius (point x1 y1 z1) (point x2 y2 z2) (point x3 y3 z3) ⌝ }
+{
+    triangle::compute_circumradius(
+        triangle::point(x1, y1, z1),
+        triangle::point(x2, y2, z2),
+        triangle::point(x3, y3, z3),
+    )
+}
+
+#[no_mangle]
+pub extern "C" fn yb_compute_triangle_quality(
+    x1: f32,
+    y1: f32,
+    z1: f32,
+    x2: f32,
+    y2: f32,
+    z2: f32,
+    x3: f32,
+    y3: f32,
+    z3: f32,
+) -> TriangleQuality
+    ensures { λ r. ⌜ r ≡ quality (point x1 y1 z1) (point x2 y2 z2) (point x3 y3 z3) ⌝ }
+{
+    triangle::compute_triangle_quality(
+        triangle::point(x1, y1, z1),
+        triangle::point(x2, y2, z2),
+        triangle::point(x3, y3, z3),
+    )
+}
+
+#[no_mangle]
+pub extern "C" fn yb_is_triangle_acceptable(
+    quality: TriangleQuality,
+    radius: f32,
+    min_triangle_area: f32,
+    quality_threshold: f32,
+    max_edge_factor: f32,
+) -> bool
+    ensures { λ r. ⌜ r ≡ acceptable quality radius «min_triangle_area» «quality_threshold» «max_edge_factor» ⌝ }
+{
+    triangle::is_triangle_acceptable(
+        quality,
+        radius,
+        min_triangle_area,
+        quality_threshold,
+        max_edge_factor,
+    )
+}
