@@ -1,0 +1,15 @@
+-- A cloud's points, read from its coordinates, three to a point. Definitions only.
+use Prim.Native.Nat.{ℕ, zero, suc, _+_, _*_}
+use mathlib.Core.List.{List, [], _∷_}
+use lib.ListN.{getD}
+use lib.Ieee.{Float, nan}
+use Rattle.triangle.specs.declared.Point3f.{Point3f}
+
+-- point number i, from 0
+unfoldable pub pointAt : List Float → ℕ → Point3f
+pointAt pts i = record { x = getD pts (3 * i) nan; y = getD pts (3 * i + 1) nan; z = getD pts (3 * i + 2) nan }
+
+-- the numbers from i on, m of them: `upTo n 0` are all points in number order
+unfoldable pub upFrom : ℕ → ℕ → List ℕ
+upFrom i zero = []
+upFrom i (suc m) = i ∷ upFrom (i + 1) m
