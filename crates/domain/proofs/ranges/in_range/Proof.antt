@@ -1,0 +1,16 @@
+use Rattle.domain.specs.Range.{inside}
+use Rattle.domain.proofs.ranges.in_range.Statement.{statement}
+use Rattle.domain.proofs.ranges.in_range.Tie as tie
+use Rattle.domain.proofs.ranges.in_range.Reads as reads
+use Rattle.domain.proofs.ranges.in_range.Lts as lts
+
+returns : tie.Need-returns
+unfolding inside
+returns c = rw (c .if1 .taken)
+
+returns-2 : tie.Need-returns-2
+unfolding inside
+returns-2 c = rw (c .if1 .left)
+
+pub in-range-spec : {M : Type 1} → statement M
+in-range-spec = tie.close (tie.spec returns returns-2)

@@ -1,0 +1,75 @@
+use Rattle.domain.specs.Range.{percentileInside}
+use Rattle.domain.proofs.Refusals.{size-refused, size-sized, row-point, row-third, row-room, row-end}
+use Rattle.domain.proofs.Tests.{passed, failed}
+use Rattle.domain.specs.Refusals.{check, roomy, estimateRefusal}
+use native.Mathlib.Omega.{arith}
+use lib.ListN.{length}
+use mathlib.Core.Path.{_≡_, sym, ap, _∙_}
+use Prim.Native.Nat.{_/_}
+use borrow.Author.Needs.{needs}
+use Rattle.domain.proofs.refusal_of_estimate.Statement.{statement}
+use Rattle.domain.proofs.refusal_of_estimate.Tie as tie
+use Rattle.domain.proofs.refusal_of_estimate.Reads as reads
+use Rattle.domain.proofs.refusal_of_estimate.Lts as lts
+use Rattle.domain.proofs.first_outside.Reads as first-outside-reads
+use Rattle.domain.proofs.percentile_ok.Reads as percentile-ok-reads
+use Rattle.domain.proofs.ranges.size_answer.Reads as size-answer-reads
+use Rattle.domain.proofs.ranges.work_ok.Reads as work-ok-reads
+
+size-answer-requires : tie.Need-size-answer-requires
+size-answer-requires c κs = search needs
+
+returns : tie.Need-returns
+unfolding estimateRefusal
+returns c = let a = c .before .before .before .args in sym (size-refused (length (a .points .now)) (length (a .points .now)) _ (c .before .size-answer .ensures) _ (c .if1 .taken))
+
+first-outside-requires : tie.Need-first-outside-requires
+first-outside-requires c κs = search needs
+
+cast-t11 : tie.Need-cast-t11
+cast-t11 c = let a = c .before .before .before .before .before .args in let sized = size-sized (length (a .points .now)) (length (a .points .now)) (c .before .before .before .size-answer .ensures) (c .before .before .if1 .left) in omega arith
+
+returns-2 : tie.Need-returns-2
+unfolding estimateRefusal
+returns-2 c = 
+    let a = c .before .before .before .before .before .args in
+    row-point (length (a .points .now)) (length (a .points .now)) (c .before .before .before .size-answer .ensures) (length (a .points .now) / 3) (c .before .first-outside .ensures) (check (percentileInside (a .percentile)) 6 0) (roomy (length (a .points .now) / 3) (a .words) (a .floats)) (c .before .before .if1 .left) (c .if2 .taken)
+
+percentile-ok-requires : tie.Need-percentile-ok-requires
+percentile-ok-requires c κs = search needs
+
+returns-3 : tie.Need-returns-3
+unfolding estimateRefusal
+returns-3 c = 
+    let a = c .before .before .before .before .before .before .before .args in
+    row-third (length (a .points .now)) (length (a .points .now)) (c .before .before .before .before .before .size-answer .ensures) (length (a .points .now) / 3) (c .before .before .before .first-outside .ensures) (check (percentileInside (a .percentile)) 6 0) (roomy (length (a .points .now) / 3) (a .words) (a .floats)) (c .before .before .before .before .if1 .left) (c .before .before .if2 .left) (failed (c .before .percentile-ok .ensures) (c .if3 .taken))
+
+work-ok-requires : tie.Need-work-ok-requires
+work-ok-requires c κs = size-sized _ _ (c .before .before .before .before .before .size-answer .ensures) (c .before .before .before .before .if1 .left) .few
+
+returns-4 : tie.Need-returns-4
+unfolding estimateRefusal
+returns-4 c = 
+    let a = c .before .before .before .before .before .before .before .before .before .args in
+    row-room (length (a .points .now)) (length (a .points .now)) (c .before .before .before .before .before .before .before .size-answer .ensures) (length (a .points .now) / 3) (c .before .before .before .before .before .first-outside .ensures) (check (percentileInside (a .percentile)) 6 0) (roomy (length (a .points .now) / 3) (a .words) (a .floats)) (c .before .before .before .before .before .before .if1 .left) (c .before .before .before .before .if2 .left) (passed (c .before .before .before .percentile-ok .ensures) (c .before .before .if3 .left)) (failed (c .before .work-ok .ensures) (c .if4 .taken))
+
+returns-5 : tie.Need-returns-5
+unfolding estimateRefusal
+returns-5 c = 
+    let a = c .before .before .before .before .before .before .before .before .before .args in
+    row-end (length (a .points .now)) (length (a .points .now)) (c .before .before .before .before .before .before .before .size-answer .ensures) (length (a .points .now) / 3) (c .before .before .before .before .before .first-outside .ensures) (check (percentileInside (a .percentile)) 6 0) (roomy (length (a .points .now) / 3) (a .words) (a .floats)) (c .before .before .before .before .before .before .if1 .left) (c .before .before .before .before .if2 .left) (passed (c .before .before .before .percentile-ok .ensures) (c .before .before .if3 .left)) (passed (c .before .work-ok .ensures) (c .if4 .left))
+
+pub refusal-of-estimate-spec : {M : Type 1} → statement M
+refusal-of-estimate-spec =
+    tie.close
+    (tie.spec
+    size-answer-requires
+    returns
+    first-outside-requires
+    cast-t11
+    returns-2
+    percentile-ok-requires
+    returns-3
+    work-ok-requires
+    returns-4
+    returns-5)

@@ -1,0 +1,71 @@
+-- Why a cloud is turned away before any work is done: the scope's answers 1 to 7, in its order. Definitions only.
+use Prim.Native.Nat.{ℕ, _+_, _*_, _/_, _%_, min}
+use mathlib.Core.Bool.{Bool, cond, _&&_}
+use mathlib.Core.List.{List, [], _∷_, _++_}
+use lib.Dec.{leb, ltb, eqb}
+use lib.ListN.{length}
+use lib.Ieee.{Float}
+use Rattle.domain.specs.Range.{firstOutside, farthest, largest, percentileInside}
+use Rattle.domain.specs.Settings.{firstBadSetting}
+use Rattle.domain.specs.declared.BallPivotingConfig.{BallPivotingConfig}
+use Rattle.domain.specs.declared.Refusal.{Refusal}
+
+-- one check: whether it passes, and the refusal if it does not
+pub record Check : Type 0 where
+  pub passes : Bool
+  pub refusal : Refusal
+
+abbrev pub refusal : ℕ → ℕ → Refusal
+refusal answer detail = record { answer = answer; detail = detail }
+
+abbrev pub check : Bool → ℕ → ℕ → Check
+check passes answer detail = record { passes = passes; refusal = refusal answer detail }
+
+-- the refusal of the first check that fails; answer 0 if all pass
+unfoldable pub firstRefusal : List Check → Refusal
+firstRefusal [] = refusal 0 0
+firstRefusal (c ∷ cs) = cond (c .passes) (firstRefusal cs) (c .refusal)
+
+-- the first point with a coordinate or a normal's component outside the domain; the number of points if there is none
+unfoldable pub firstBadPoint : List Float → List Float → ℕ
+firstBadPoint points normals = min (firstOutside farthest points) (firstOutside largest normals)
+
+-- work slices long enough for n points: 24n + 64 u32 and 4n + 64 f32
+unfoldable pub roomy : ℕ → ℕ → ℕ → Bool
+roomy n words floats = leb (24 * n + 64) words && leb (4 * n + 64) floats
+
+-- 1 to 3, of the lengths of the points' and the normals' slices
+abbrev pub sizeChecks : ℕ → ℕ → List Check
+sizeChecks points normals =
+    check (ltb 0 points) 1 0
+    ∷ check (eqb (points % 3) 0 && eqb normals points) 2 0
+    ∷ check (leb (points / 3) 4096) 3 0
+    ∷ []
+
+abbrev pub pointCheck : ℕ → ℕ → Check
+pointCheck n bad = check (leb n bad) 4 bad
+
+abbrev pub settingCheck : ℕ → Check
+settingCheck bad = check (eqb bad 0) 5 bad
+
+-- the estimate: 1, 2, 3, 4, 6, 7; it has no normals, so of 2 only the first half can fail
+unfoldable pub estimateRefusal : List Float → Float → ℕ → ℕ → Refusal
+estimateRefusal points percentile words floats =
+    let n = length points / 3 in
+    firstRefusal
+    (sizeChecks (length points) (length points)
+    ++ (pointCheck n (firstOutside farthest points)
+    ∷ check (percentileInside percentile) 6 0
+    ∷ check (roomy n words floats) 7 0
+    ∷ []))
+
+-- the reconstruction: 1, 2, 3, 4, 5, 7
+unfoldable pub reconstructRefusal : List Float → List Float → BallPivotingConfig → ℕ → ℕ → Refusal
+reconstructRefusal points normals settings words floats =
+    let n = length points / 3 in
+    firstRefusal
+    (sizeChecks (length points) (length normals)
+    ++ (pointCheck n (firstBadPoint points normals)
+    ∷ settingCheck (firstBadSetting settings)
+    ∷ check (roomy n words floats) 7 0
+    ∷ []))
