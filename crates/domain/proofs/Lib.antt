@@ -3,3 +3,5 @@ pub mod Tests
 pub mod Range
 pub mod Cleared
 pub mod Refusals
+pub mod Accepted
+pub mod Starred

@@ -85,8 +85,7 @@ module _ (p q : ℕ) where
       let one = check-accepted (check (ltb 0 p) 1 0) _ (λ h. omega arith) e in
       let two = check-accepted (check (eqb (p % 3) 0 && eqb q p) 2 0) _ (λ h. omega arith) (one .1) in
       let three = check-accepted (check (leb (p / 3) 4096) 3 0) _ (λ h. omega arith) (two .1) in
-      let b = both _ _ (two .0) in
-      (
+      let b = both _ _ (two .0) in (
         record { some = ltb-true 0 p (one .0); threes = eqb-true (p % 3) 0 (b .0); as-long = eqb-true q p (b .1); few = leb-true (p / 3) 4096 (three .0) },
         three .1,
       )

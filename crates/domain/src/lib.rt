@@ -56,14 +56,14 @@ impl BallPivotingConfig {
 pub fn first_outside(values: &[f32], bound: f32) -> usize
     ensures { λ r. ⌜ r ≡ firstOutside bound (now (values .entry)) ⌝ }
 {
-    let mut i: usize = 0;
-    while i < values.len() {
-        if !ranges::in_range(-bound, bound, values[i]) {
-            return i / 3;
+    let mut at: usize = 0;
+    while at < values.len() {
+        if !ranges::in_range(-bound, bound, values[at]) {
+            return at / 3;
         }
-        i += 1;
+        at += 1;
     }
-    i / 3
+    at / 3
 }
 
 // The first point with a coordinate or a normal's component outside the domain.
@@ -189,10 +189,10 @@ pub fn refusal_of_reconstruct(
 pub fn clear_u32(w: &mut [u32])
     ensures { λ _. ⌜ now (w .exit) ≡ replicate (length (now (w .entry))) 0 ⌝ }
 {
-    let mut i: usize = 0;
-    while i < w.len() {
-        w[i] = 0;
-        i += 1;
+    let mut k: usize = 0;
+    while k < w.len() {
+        w[k] = 0;
+        k += 1;
     }
 }
 

@@ -1,3 +1,4 @@
+-- `domain::clear_f32` meets its contract. The loop's invariant: what is passed is zeros, the rest as lent. Assumes nothing.
 use Rattle.numbers.specs.Rounded.{f32}
 use Rattle.domain.proofs.Cleared.{fill-step, fill-end}
 use lib.ListN.{length, drop, replicate, length-set}
@@ -8,8 +9,6 @@ use native.Mathlib.Omega.{arith}
 use borrow.Author.Needs.{needs}
 use Rattle.domain.proofs.clear_f32.Statement.{statement}
 use Rattle.domain.proofs.clear_f32.Tie as tie
-use Rattle.domain.proofs.clear_f32.Reads as reads
-use Rattle.domain.proofs.clear_f32.Lts as lts
 
 abbrev Inv-loop : tie.InvT-loop
 Inv-loop w₀ i₀ w i = (i ≤ length w₀) × (length w ≡ length w₀) × (w ≡ replicate i (f32 0) ++ drop i w₀)

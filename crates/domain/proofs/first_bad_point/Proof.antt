@@ -1,13 +1,11 @@
+-- `domain::first_bad_point` meets its contract. Assumes nothing.
 use Rattle.domain.specs.Refusals.{firstBadPoint}
 use native.Mathlib.Nat.{min-eq-left, min-eq-right}
 use native.Mathlib.Omega.{arith}
-use mathlib.Core.Path.{_≡_, sym, _∙_}
+use mathlib.Core.Path.{sym, _∙_}
 use borrow.Author.Needs.{needs}
 use Rattle.domain.proofs.first_bad_point.Statement.{statement}
 use Rattle.domain.proofs.first_bad_point.Tie as tie
-use Rattle.domain.proofs.first_bad_point.Reads as reads
-use Rattle.domain.proofs.first_bad_point.Lts as lts
-use Rattle.domain.proofs.first_outside.Reads as first-outside-reads
 
 first-outside-requires : tie.Need-first-outside-requires
 first-outside-requires c κs = search needs
@@ -17,14 +15,14 @@ first-outside-requires-2 c κs = search needs
 
 returns : tie.Need-returns
 unfolding firstBadPoint
-returns c = 
+returns c =
     let p = c .before .before .first-outside .ensures in
     let q = c .before .first-outside2 .ensures in
     p ∙ sym (min-eq-left (omega arith))
 
 returns-2 : tie.Need-returns-2
 unfolding firstBadPoint
-returns-2 c = 
+returns-2 c =
     let p = c .before .before .first-outside .ensures in
     let q = c .before .first-outside2 .ensures in
     q ∙ sym (min-eq-right (omega arith))

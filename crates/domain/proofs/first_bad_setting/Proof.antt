@@ -1,13 +1,9 @@
+-- `domain::first_bad_setting` meets its contract. Assumes nothing.
 use Rattle.domain.proofs.Tests.{passed, failed}
 use Rattle.domain.specs.Settings.{firstBadSetting, settingTests, firstFailing}
 use borrow.Author.Needs.{needs}
 use Rattle.domain.proofs.first_bad_setting.Statement.{statement}
 use Rattle.domain.proofs.first_bad_setting.Tie as tie
-use Rattle.domain.proofs.first_bad_setting.Reads as reads
-use Rattle.domain.proofs.first_bad_setting.Lts as lts
-use Rattle.domain.proofs.ranges.all_in_range.Reads as all-in-range-reads
-use Rattle.domain.proofs.ranges.first_bad_threshold.Reads as first-bad-threshold-reads
-use Rattle.domain.proofs.ranges.in_range.Reads as in-range-reads
 
 in-range-requires : tie.Need-in-range-requires
 in-range-requires c κs = search needs

@@ -1,20 +1,15 @@
+-- `domain::refusal_of_estimate` meets its contract. Assumes nothing.
 use Rattle.domain.specs.Range.{percentileInside}
 use Rattle.domain.proofs.Refusals.{size-refused, size-sized, row-point, row-third, row-room, row-end}
 use Rattle.domain.proofs.Tests.{passed, failed}
 use Rattle.domain.specs.Refusals.{check, roomy, estimateRefusal}
 use native.Mathlib.Omega.{arith}
 use lib.ListN.{length}
-use mathlib.Core.Path.{_≡_, sym, ap, _∙_}
+use mathlib.Core.Path.{sym}
 use Prim.Native.Nat.{_/_}
 use borrow.Author.Needs.{needs}
 use Rattle.domain.proofs.refusal_of_estimate.Statement.{statement}
 use Rattle.domain.proofs.refusal_of_estimate.Tie as tie
-use Rattle.domain.proofs.refusal_of_estimate.Reads as reads
-use Rattle.domain.proofs.refusal_of_estimate.Lts as lts
-use Rattle.domain.proofs.first_outside.Reads as first-outside-reads
-use Rattle.domain.proofs.percentile_ok.Reads as percentile-ok-reads
-use Rattle.domain.proofs.ranges.size_answer.Reads as size-answer-reads
-use Rattle.domain.proofs.ranges.work_ok.Reads as work-ok-reads
 
 size-answer-requires : tie.Need-size-answer-requires
 size-answer-requires c κs = search needs
@@ -31,7 +26,7 @@ cast-t11 c = let a = c .before .before .before .before .before .args in let size
 
 returns-2 : tie.Need-returns-2
 unfolding estimateRefusal
-returns-2 c = 
+returns-2 c =
     let a = c .before .before .before .before .before .args in
     row-point (length (a .points .now)) (length (a .points .now)) (c .before .before .before .size-answer .ensures) (length (a .points .now) / 3) (c .before .first-outside .ensures) (check (percentileInside (a .percentile)) 6 0) (roomy (length (a .points .now) / 3) (a .words) (a .floats)) (c .before .before .if1 .left) (c .if2 .taken)
 
@@ -40,7 +35,7 @@ percentile-ok-requires c κs = search needs
 
 returns-3 : tie.Need-returns-3
 unfolding estimateRefusal
-returns-3 c = 
+returns-3 c =
     let a = c .before .before .before .before .before .before .before .args in
     row-third (length (a .points .now)) (length (a .points .now)) (c .before .before .before .before .before .size-answer .ensures) (length (a .points .now) / 3) (c .before .before .before .first-outside .ensures) (check (percentileInside (a .percentile)) 6 0) (roomy (length (a .points .now) / 3) (a .words) (a .floats)) (c .before .before .before .before .if1 .left) (c .before .before .if2 .left) (failed (c .before .percentile-ok .ensures) (c .if3 .taken))
 
@@ -49,13 +44,13 @@ work-ok-requires c κs = size-sized _ _ (c .before .before .before .before .befo
 
 returns-4 : tie.Need-returns-4
 unfolding estimateRefusal
-returns-4 c = 
+returns-4 c =
     let a = c .before .before .before .before .before .before .before .before .before .args in
     row-room (length (a .points .now)) (length (a .points .now)) (c .before .before .before .before .before .before .before .size-answer .ensures) (length (a .points .now) / 3) (c .before .before .before .before .before .first-outside .ensures) (check (percentileInside (a .percentile)) 6 0) (roomy (length (a .points .now) / 3) (a .words) (a .floats)) (c .before .before .before .before .before .before .if1 .left) (c .before .before .before .before .if2 .left) (passed (c .before .before .before .percentile-ok .ensures) (c .before .before .if3 .left)) (failed (c .before .work-ok .ensures) (c .if4 .taken))
 
 returns-5 : tie.Need-returns-5
 unfolding estimateRefusal
-returns-5 c = 
+returns-5 c =
     let a = c .before .before .before .before .before .before .before .before .before .args in
     row-end (length (a .points .now)) (length (a .points .now)) (c .before .before .before .before .before .before .before .size-answer .ensures) (length (a .points .now) / 3) (c .before .before .before .before .before .first-outside .ensures) (check (percentileInside (a .percentile)) 6 0) (roomy (length (a .points .now) / 3) (a .words) (a .floats)) (c .before .before .before .before .before .before .if1 .left) (c .before .before .before .before .if2 .left) (passed (c .before .before .before .percentile-ok .ensures) (c .before .before .if3 .left)) (passed (c .before .work-ok .ensures) (c .if4 .left))
 

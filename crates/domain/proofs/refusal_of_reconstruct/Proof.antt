@@ -1,3 +1,4 @@
+-- `domain::refusal_of_reconstruct` meets its contract. Assumes nothing.
 use borrow.Author.Tests.{eq-eqb, ne-eqb}
 use Rattle.domain.specs.Settings.{firstBadSetting}
 use Rattle.domain.proofs.Refusals.{size-refused, size-sized, row-point, row-third, row-room, row-end}
@@ -5,17 +6,11 @@ use Rattle.domain.proofs.Tests.{passed, failed}
 use Rattle.domain.specs.Refusals.{refusal, settingCheck, roomy, reconstructRefusal}
 use native.Mathlib.Omega.{arith}
 use lib.ListN.{length}
-use mathlib.Core.Path.{_≡_, sym, ap, _∙_}
+use mathlib.Core.Path.{sym, ap, _∙_}
 use Prim.Native.Nat.{_/_}
 use borrow.Author.Needs.{needs}
 use Rattle.domain.proofs.refusal_of_reconstruct.Statement.{statement}
 use Rattle.domain.proofs.refusal_of_reconstruct.Tie as tie
-use Rattle.domain.proofs.refusal_of_reconstruct.Reads as reads
-use Rattle.domain.proofs.refusal_of_reconstruct.Lts as lts
-use Rattle.domain.proofs.first_bad_point.Reads as first-bad-point-reads
-use Rattle.domain.proofs.first_bad_setting.Reads as first-bad-setting-reads
-use Rattle.domain.proofs.ranges.size_answer.Reads as size-answer-reads
-use Rattle.domain.proofs.ranges.work_ok.Reads as work-ok-reads
 
 size-answer-requires : tie.Need-size-answer-requires
 size-answer-requires c κs = search needs
@@ -32,7 +27,7 @@ cast-t13 c = let a = c .before .before .before .before .before .before .args in 
 
 returns-2 : tie.Need-returns-2
 unfolding reconstructRefusal
-returns-2 c = 
+returns-2 c =
     let a = c .before .before .before .before .before .before .args in
     row-point (length (a .points .now)) (length (a .normals .now)) (c .before .before .before .size-answer .ensures) (length (a .points .now) / 3) (c .before .first-bad-point .ensures) (settingCheck (firstBadSetting (a .settings))) (roomy (length (a .points .now) / 3) (a .words) (a .floats)) (c .before .before .if1 .left) (c .if2 .taken)
 
@@ -41,7 +36,7 @@ first-bad-setting-requires c κs = search needs
 
 returns-3 : tie.Need-returns-3
 unfolding reconstructRefusal
-returns-3 c = 
+returns-3 c =
     let e = c .before .first-bad-setting .ensures in
     ap (refusal 5) e ∙
     (let a = c .before .before .before .before .before .before .before .before .args in
@@ -52,13 +47,13 @@ work-ok-requires c κs = size-sized _ _ (c .before .before .before .before .befo
 
 returns-4 : tie.Need-returns-4
 unfolding reconstructRefusal
-returns-4 c = 
+returns-4 c =
     let a = c .before .before .before .before .before .before .before .before .before .before .args in
     row-room (length (a .points .now)) (length (a .normals .now)) (c .before .before .before .before .before .before .before .size-answer .ensures) (length (a .points .now) / 3) (c .before .before .before .before .before .first-bad-point .ensures) (settingCheck (firstBadSetting (a .settings))) (roomy (length (a .points .now) / 3) (a .words) (a .floats)) (c .before .before .before .before .before .before .if1 .left) (c .before .before .before .before .if2 .left) (eq-eqb _ 0 (sym (c .before .before .before .first-bad-setting .ensures) ∙ c .before .before .if3 .left)) (failed (c .before .work-ok .ensures) (c .if4 .taken))
 
 returns-5 : tie.Need-returns-5
 unfolding reconstructRefusal
-returns-5 c = 
+returns-5 c =
     let a = c .before .before .before .before .before .before .before .before .before .before .args in
     row-end (length (a .points .now)) (length (a .normals .now)) (c .before .before .before .before .before .before .before .size-answer .ensures) (length (a .points .now) / 3) (c .before .before .before .before .before .first-bad-point .ensures) (settingCheck (firstBadSetting (a .settings))) (roomy (length (a .points .now) / 3) (a .words) (a .floats)) (c .before .before .before .before .before .before .if1 .left) (c .before .before .before .before .if2 .left) (eq-eqb _ 0 (sym (c .before .before .before .first-bad-setting .ensures) ∙ c .before .before .if3 .left)) (passed (c .before .work-ok .ensures) (c .if4 .left))
 

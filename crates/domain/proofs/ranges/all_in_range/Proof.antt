@@ -1,18 +1,15 @@
+-- `domain::ranges::all_in_range` meets its contract. The loop's invariant: no slot passed is outside. Assumes nothing.
 use borrow.Author.Tests.{lt-leb, le-leb}
-use Rattle.domain.proofs.Range.{leading-start, leading-found, leading-passed, leading-end}
+use Rattle.domain.proofs.Range.{leading-start, leading-found, leading-passed}
 use Rattle.domain.specs.Range.{leading, listInside}
 use borrow.Author.Tests.{not-true, not-false}
-use lib.Ieee.{neg}
-use lib.ListN.{length, drop}
-use mathlib.Core.Path.{_≡_, refl, sym, ap}
-use Prim.Native.Nat.{ℕ, _+_, _-_, _/_, _≤_}
+use lib.ListN.{drop}
+use mathlib.Core.Path.{_≡_}
+use Prim.Native.Nat.{_+_, _-_, _≤_}
 use native.Mathlib.Omega.{arith}
 use borrow.Author.Needs.{needs}
 use Rattle.domain.proofs.ranges.all_in_range.Statement.{statement}
 use Rattle.domain.proofs.ranges.all_in_range.Tie as tie
-use Rattle.domain.proofs.ranges.all_in_range.Reads as reads
-use Rattle.domain.proofs.ranges.all_in_range.Lts as lts
-use Rattle.domain.proofs.ranges.in_range.Reads as in-range-reads
 
 abbrev Inv-loop : tie.InvT-loop
 Inv-loop lo hi count xs n k₀ k = (k ≤ n) × (n ≡ count) × (count ≤ 8) × (leading lo hi xs ≡ k + leading lo hi (drop k xs))
@@ -38,7 +35,7 @@ in-range-requires c κs = search needs
 
 returns-2 : tie.Need-returns-2 Inv-loop μ-loop
 unfolding listInside
-returns-2 c = 
+returns-2 c =
     let l = c .before .before .before .loop in
     let s = c .before .before .before .before .before .args in
     let e = leading-found _ _ _ (l .k) _ (c .before .in-range .ensures) (l .inv .3) (not-true _ (c .if2 .taken)) in
@@ -51,13 +48,13 @@ loop-less : tie.Need-loop-less Inv-loop μ-loop
 loop-less c = search needs
 
 loop-again : tie.Need-loop-again Inv-loop μ-loop
-loop-again c = 
+loop-again c =
     let l = c .before .before .before .loop in
     (search needs, search needs, search needs, leading-passed _ _ _ (l .k) _ (c .before .in-range .ensures) (l .inv .3) (not-false _ (c .if2 .left)))
 
 returns-3 : tie.Need-returns-3 Inv-loop μ-loop
 unfolding listInside
-returns-3 c = 
+returns-3 c =
     let l = c .before .loop in
     let s = c .before .before .before .args in
     rw (le-leb (s .count) 8 (l .inv .2), le-leb (s .count) (leading (s .lo) (s .hi) (s .t3)) (omega arith))

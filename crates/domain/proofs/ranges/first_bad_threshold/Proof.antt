@@ -1,11 +1,9 @@
+-- `domain::ranges::first_bad_threshold` meets its contract. Assumes nothing.
 use Rattle.domain.specs.Settings.{firstFailing}
 use Rattle.domain.proofs.Tests.{passed, failed}
 use borrow.Author.Needs.{needs}
 use Rattle.domain.proofs.ranges.first_bad_threshold.Statement.{statement}
 use Rattle.domain.proofs.ranges.first_bad_threshold.Tie as tie
-use Rattle.domain.proofs.ranges.first_bad_threshold.Reads as reads
-use Rattle.domain.proofs.ranges.first_bad_threshold.Lts as lts
-use Rattle.domain.proofs.ranges.in_range.Reads as in-range-reads
 
 in-range-requires : tie.Need-in-range-requires
 in-range-requires c κs = search needs

@@ -1,8 +1,7 @@
+-- `domain::ranges::in_range` meets its contract. Assumes nothing.
 use Rattle.domain.specs.Range.{inside}
 use Rattle.domain.proofs.ranges.in_range.Statement.{statement}
 use Rattle.domain.proofs.ranges.in_range.Tie as tie
-use Rattle.domain.proofs.ranges.in_range.Reads as reads
-use Rattle.domain.proofs.ranges.in_range.Lts as lts
 
 returns : tie.Need-returns
 unfolding inside

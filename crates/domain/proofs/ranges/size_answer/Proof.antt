@@ -1,9 +1,8 @@
+-- `domain::ranges::size_answer` meets its contract. Assumes nothing.
 use native.Mathlib.Omega.{arith}
 use Rattle.domain.proofs.Refusals.{size-none, size-not-threes, size-other, size-many, size-good}
 use Rattle.domain.proofs.ranges.size_answer.Statement.{statement}
 use Rattle.domain.proofs.ranges.size_answer.Tie as tie
-use Rattle.domain.proofs.ranges.size_answer.Reads as reads
-use Rattle.domain.proofs.ranges.size_answer.Lts as lts
 
 returns : tie.Need-returns
 returns c = size-none _ _ (c .if1 .taken)

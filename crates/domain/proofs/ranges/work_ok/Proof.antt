@@ -1,10 +1,9 @@
+-- `domain::ranges::work_ok` meets its contract. Assumes nothing.
 use Rattle.domain.specs.Refusals.{roomy}
 use borrow.Author.Tests.{le-leb, lt-leb}
 use borrow.Author.Needs.{needs}
 use Rattle.domain.proofs.ranges.work_ok.Statement.{statement}
 use Rattle.domain.proofs.ranges.work_ok.Tie as tie
-use Rattle.domain.proofs.ranges.work_ok.Reads as reads
-use Rattle.domain.proofs.ranges.work_ok.Lts as lts
 
 mul-if1 : tie.Need-mul-if1
 mul-if1 c = search needs
