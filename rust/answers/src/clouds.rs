@@ -1,12 +1,11 @@
 //! Answers of the estimate and of the reconstruction.
 
 use crate::{bits, line};
-use expect::Lent;
+use expect::{Lent, BUDGET};
 use generate::{case, Case};
 use oracle::Settings;
 
 const SEED: u64 = 2_026;
-const BUDGET: u64 = 8_000_000;
 const MAX_WORDS: usize = 4_096;
 
 /// Mostly small clouds: what is left of the first cases, a larger one now and then.

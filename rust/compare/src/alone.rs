@@ -1,9 +1,9 @@
 //! Checks that need no port: what must hold of the counts, and that the comparison can fail.
 
 use crate::report::Report;
-use crate::sides::{Mirror, Number, BUDGET};
+use crate::sides::{Mirror, Number};
 use crate::{clouds, numbers, triangles};
-use expect::Found;
+use expect::{Found, BUDGET};
 use generate::case;
 
 /// On the multi-radius path looks are 3F and pivots 2F + S; on the plain path seeds, looks and pivots are 0.

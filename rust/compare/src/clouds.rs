@@ -1,8 +1,8 @@
 //! The radius estimate and the reconstruction over generated clouds: the answer and every word of every lent slice.
 
 use crate::report::{Report, Same};
-use crate::sides::{Side, BUDGET};
-use expect::{Estimate, Lent, Patch};
+use crate::sides::Side;
+use expect::{Estimate, Lent, Patch, BUDGET};
 use generate::{case, old_word, Case};
 
 pub const ESTIMATE: &str = "yb_estimate_optimal_radius";

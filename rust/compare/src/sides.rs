@@ -1,7 +1,7 @@
 //! The side that is compared with the oracle: the port as linked, or for the self-test the oracle's own answers,
 //! with one bit wrong where that is asked.
 
-use expect::{Estimate, Lent, Patch};
+use expect::{Estimate, Lent, Patch, BUDGET};
 use generate::Case;
 use oracle::Limits;
 use port::Quality;
@@ -111,9 +111,6 @@ pub struct Mirror {
     pub fault: &'static str,
     pub left: Cell<u32>,
 }
-
-/// The steps of the published code that a case may take; about half a second.
-pub const BUDGET: u64 = 16_000_000;
 
 pub fn measures(q: &oracle::TriangleQuality) -> Quality {
     Quality {

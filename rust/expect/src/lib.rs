@@ -4,6 +4,9 @@ pub mod checks;
 
 use oracle::{Error, Laid, Settings, Skip};
 
+/// The steps of the published code that a case may take, about half a second; above it the case is skipped.
+pub const BUDGET: u64 = 16_000_000;
+
 /// The answer of the radius estimate.
 #[repr(C)]
 #[derive(Clone, Copy, Debug, Default)]
