@@ -32,7 +32,9 @@ fn main() {
     }
     if !landed.is_empty() {
         let folder = Path::new(&here).join("../../target/staticlib");
-        println!("cargo:rerun-if-changed={}", folder.join("libexports.a").display());
+        let archive = folder.join("libexports.a");
+        assert!(archive.exists(), "the port's archive is not there yet: run `rt staticlib exports` first");
+        println!("cargo:rerun-if-changed={}", archive.display());
         println!("cargo:rustc-link-search=native={}", folder.display());
         println!("cargo:rustc-link-lib=static=exports");
     }
