@@ -59,7 +59,7 @@ split-place q k =
     let e : k + 23 ≡ 23 + k % 2 + 2 * (k / 2) = omega arith in
     ap (λ (j : ℕ). q * 2 ^ j) e ∙ ap (λ (y : ℕ). q * y) (pow-add 2 (23 + k % 2) (2 * (k / 2))) ∙ sym (mul-assoc q (2 ^ (23 + k % 2)) (2 ^ (2 * (k / 2))))
 
-long : (q k : ℕ) → 2 ^ 23 ≤ q → q < 2 ^ 24 → (2 ^ 46 ≤ q * 2 ^ (23 + k % 2)) × (q * 2 ^ (23 + k % 2) < 2 ^ 48)
+pub long : (q k : ℕ) → 2 ^ 23 ≤ q → q < 2 ^ 24 → (2 ^ 46 ≤ q * 2 ^ (23 + k % 2)) × (q * 2 ^ (23 + k % 2) < 2 ^ 48)
 long q k lo hi = go (k % 2) (omega arith)
   where
     go : (d : ℕ) → d < 2 → (2 ^ 46 ≤ q * 2 ^ (23 + d)) × (q * 2 ^ (23 + d) < 2 ^ 48)

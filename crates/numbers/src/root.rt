@@ -64,24 +64,13 @@ fn nearest_root(n: u64) -> u64
     if s * s + s < n { s + 1 } else { s }
 }
 
-// The bit pattern of nearest_root(n) units of 2^h times the smallest f32.
-fn finish(n: u64, h: u32) -> u32
-    requires { ⌜ (2 ^ 46 ≤ n) × (n < 2 ^ 48) × (h < 256) ⌝ }
-    ensures { λ r. ⌜ r ≡ h * 8388608 + nearestRoot n ⌝ }
-{
-    h * 8388608 + (nearest_root(n) as u32)
-}
-
-// The bit pattern of the root of q * 2^(k + 23) units of 2^-298.
+// The bit pattern of the root of q * 2^(k + 23) units of 2^-298. An odd k gives q one more place, so that an even power of two is left.
 fn root_of(q: u32, k: u32) -> u32
     requires { ⌜ (2 ^ 23 ≤ q) × (q < 2 ^ 24) × (k < 400) ⌝ }
     ensures { λ r. ⌜ r ≡ k / 2 * 8388608 + nearestRoot (q * 2 ^ (23 + k % 2)) ⌝ }
 {
-    if k % 2 == 0 {
-        finish((q as u64) * 8388608, k / 2)
-    } else {
-        finish((q as u64) * 16777216, k / 2)
-    }
+    let n = (q as u64) << (23 + k % 2);
+    k / 2 * 8388608 + (nearest_root(n) as u32)
 }
 
 // The bit pattern of the root of the positive number whose pattern is b.

@@ -1,31 +1,54 @@
--- `root_of` meets its contract: an even k and an odd one differ in the power of two that scales q.
-use mathlib.Core.Path.{_≡_, sym, ap, _∙_}
-use Prim.Native.Nat.{ℕ, _+_, _*_, _/_, _%_, _^_}
+-- `root_of` meets its contract. The scaled number has 47 or 48 digits, so no digit is shifted out; its root has 24, or is 2^24, so the pattern has no overflow.
+use mathlib.Core.Path.{_≡_, ap, _∙_}
+use Prim.Native.Nat.{ℕ, _+_, _*_, _/_, _%_, _^_, _≤_, _<_}
+use native.Mathlib.Nat.{lt-of-lt-of-le, mod-eq-of-lt}
 use native.Mathlib.Omega.{arith}
-use Rattle.numbers.specs.Root.{nearestRoot}
+use lib.Pow.{pow-pos}
 use borrow.Author.Needs.{needs}
+use Rattle.numbers.specs.Root.{nearestRoot}
+use Rattle.numbers.proofs.RootWhole.{nearest-bounds}
+use Rattle.numbers.proofs.RootUnits.{long}
 use Rattle.numbers.proofs.root.root_of.Statement.{statement}
 use Rattle.numbers.proofs.root.root_of.Tie as tie
 
-mul-finish : tie.Need-mul-finish
-mul-finish c = search needs
+unmoved : (q k : ℕ) → 2 ^ 23 ≤ q → q < 2 ^ 24 → q * 2 ^ (23 + k % 2) % 2 ^ 64 ≡ q * 2 ^ (23 + k % 2)
+unmoved q k lo hi = let h = long q k lo hi .1 in mod-eq-of-lt (omega arith)
 
-finish-requires : tie.Need-finish-requires
-finish-requires c κs = search needs
+scaled-root : (c : tie.After-nearest-root) → c .nearest-root .result ≡ nearestRoot (c .before .args .q * 2 ^ (23 + c .before .args .k % 2))
+scaled-root c = let p = c .before .pre in c .nearest-root .ensures ∙ ap nearestRoot (unmoved (c .before .args .q) (c .before .args .k) (p .0) (p .1))
 
-mul-finish-2 : tie.Need-mul-finish-2
-mul-finish-2 c = search needs
+root-top : (c : tie.After-nearest-root) → c .nearest-root .result ≤ 2 ^ 24
+root-top c =
+    let p = c .before .pre in
+    let l = long (c .before .args .q) (c .before .args .k) (p .0) (p .1) in
+    rw (scaled-root c) (nearest-bounds _ (l .0) (l .1) .1)
 
-finish-requires-2 : tie.Need-finish-requires-2
-finish-requires-2 c κs = search needs
+add-n : tie.Need-add-n
+add-n c = search needs
+
+cast-n : tie.Need-cast-n
+cast-n c = search needs
+
+shl-n : tie.Need-shl-n
+shl-n c = search needs
+
+mul-result : tie.Need-mul-result
+mul-result c = search needs
+
+nearest-root-requires : tie.Need-nearest-root-requires
+nearest-root-requires c κs =
+    let p = c .pre in
+    let l = long (c .args .q) (c .args .k) (p .0) (p .1) in
+    rw (unmoved (c .args .q) (c .args .k) (p .0) (p .1)) (lt-of-lt-of-le (pow-pos 46) (l .0), l .1)
+
+cast-result : tie.Need-cast-result
+cast-result c = omega (arith, root-top c)
+
+add-result : tie.Need-add-result
+add-result c = omega (arith, root-top c)
 
 returns : tie.Need-returns
-returns c = let a = c .before .before .args in c .finish .ensures ∙ ap (λ (n : ℕ). a .k / 2 * 8388608 + nearestRoot (a .q * 2 ^ (23 + n))) (sym (c .before .if1 .taken))
-
-returns-2 : tie.Need-returns-2
-returns-2 c = let a = c .before .before .args in let e : 1 ≡ a .k % 2 = omega (arith, c .before .if1 .left) in c .finish2 .ensures ∙ ap (λ (n : ℕ). a .k / 2 * 8388608 + nearestRoot (a .q * 2 ^ (23 + n))) e
+returns c = ap (λ (r : ℕ). c .before .args .k / 2 * 8388608 + r) (scaled-root c)
 
 pub root-of-spec : {M : Type 1} → statement M
-root-of-spec =
-    tie.close
-    (tie.spec mul-finish finish-requires mul-finish-2 finish-requires-2 returns returns-2)
+root-of-spec = tie.close (tie.spec add-n cast-n shl-n mul-result nearest-root-requires cast-result add-result returns)
