@@ -84,25 +84,24 @@ root-pattern x q k b lo hi K h e =
       no-nan-bits b (subst (λ (v : Float). T (not (isNan v))) (sym is) (value-no-nan _ false _ (2 ^ 149) (units-value (nearestRoot n) (k / 2) (w .1) H))),
     )
 
--- of the pattern b, below 0x00800000, with its digits moved up z places to be 24
-pub small-root : (b q z r : ℕ) → b < 2 ^ 23 → q ≡ b * 2 ^ z → z ≤ 23 → 2 ^ 23 ≤ q → q < 2 ^ 24
-    → r ≡ (126 - z) / 2 * 8388608 + nearestRoot (q * 2 ^ (23 + (126 - z) % 2)) → RootBits r (ofBits binary32 b)
-small-root b q z r h e Z lo hi is =
+-- ---- a pattern's number in units of 2^-298, as a number of 24 digits and its place
+
+-- below 0x00800000, with the digits moved up z places
+pub small-scaled : (b q z : ℕ) → b < 2 ^ 23 → q ≡ b * 2 ^ z → z ≤ 23 → HasValue (ofBits binary32 b) false (q * 2 ^ (126 - z + 23)) (2 ^ 298)
+small-scaled b q z h e Z =
     let p : z + (126 - z + 23) ≡ 149 = omega arith in
     let w : b * 2 ^ 149 ≡ q * 2 ^ (126 - z + 23) =
-    ap (λ (j : ℕ). b * 2 ^ j) (sym p) ∙ ap (λ (y : ℕ). b * y) (pow-add 2 z (126 - z + 23)) ∙ sym (mul-assoc b (2 ^ z) (2 ^ (126 - z + 23))) ∙ ap (λ (y : ℕ). y * 2 ^ (126 - z + 23)) (sym e) in
-    root-pattern (ofBits binary32 b) q (126 - z) r lo hi (omega arith)
-    (subst (λ (n : ℕ). HasValue (ofBits binary32 b) false n (2 ^ 298)) w (finer (ofBits binary32 b) b (small-value b h))) is
+    ap (λ (j : ℕ). b * 2 ^ j) (sym p) ∙ ap (λ (y : ℕ). b * y) (pow-add 2 z (126 - z + 23)) ∙ sym (mul-assoc b (2 ^ z) (2 ^ (126 - z + 23)))
+    ∙ ap (λ (y : ℕ). y * 2 ^ (126 - z + 23)) (sym e) in
+    subst (λ (n : ℕ). HasValue (ofBits binary32 b) false n (2 ^ 298)) w (finer (ofBits binary32 b) b (small-value b h))
 
--- of the pattern b, from 0x00800000 to 0x7f7fffff
-pub normal-root : (b r : ℕ) → 2 ^ 23 ≤ b → b < 0x7f800000
-    → r ≡ (b / 8388608 + 125) / 2 * 8388608 + nearestRoot ((b % 8388608 + 8388608) * 2 ^ (23 + (b / 8388608 + 125) % 2)) → RootBits r (ofBits binary32 b)
-normal-root b r lo hi is =
+-- from 0x00800000 to 0x7f7fffff
+pub normal-scaled : (b : ℕ) → 2 ^ 23 ≤ b → b < 0x7f800000 → HasValue (ofBits binary32 b) false ((b % 8388608 + 8388608) * 2 ^ (b / 8388608 + 125 + 23)) (2 ^ 298)
+normal-scaled b lo hi =
     let e = b / 8388608 in
-    let q = b % 8388608 + 8388608 in
+    let t = b % 8388608 in
     let p : e - 1 + 149 ≡ e + 125 + 23 = omega arith in
-    let w : (8388608 + b % 8388608) * 2 ^ (e - 1) * 2 ^ 149 ≡ q * 2 ^ (e + 125 + 23) =
-    mul-assoc (8388608 + b % 8388608) (2 ^ (e - 1)) (2 ^ 149) ∙ ap (λ (y : ℕ). (8388608 + b % 8388608) * y) (sym (pow-add 2 (e - 1) 149) ∙ ap (λ (j : ℕ). 2 ^ j) p)
-    ∙ ap (λ (y : ℕ). y * 2 ^ (e + 125 + 23)) (add-comm 8388608 (b % 8388608)) in
-    root-pattern (ofBits binary32 b) q (e + 125) r (omega arith) (omega arith) (omega arith)
-    (subst (λ (n : ℕ). HasValue (ofBits binary32 b) false n (2 ^ 298)) w (finer (ofBits binary32 b) ((8388608 + b % 8388608) * 2 ^ (e - 1)) (normal-value b lo hi))) is
+    let w : (8388608 + t) * 2 ^ (e - 1) * 2 ^ 149 ≡ (t + 8388608) * 2 ^ (e + 125 + 23) =
+    mul-assoc (8388608 + t) (2 ^ (e - 1)) (2 ^ 149) ∙ ap (λ (y : ℕ). (8388608 + t) * y) (sym (pow-add 2 (e - 1) 149) ∙ ap (λ (j : ℕ). 2 ^ j) p)
+    ∙ ap (λ (y : ℕ). y * 2 ^ (e + 125 + 23)) (add-comm 8388608 t) in
+    subst (λ (n : ℕ). HasValue (ofBits binary32 b) false n (2 ^ 298)) w (finer (ofBits binary32 b) ((8388608 + t) * 2 ^ (e - 1)) (normal-value b lo hi))

@@ -1,11 +1,18 @@
 // The square root of a positive f32, worked out over whole numbers: the significand is scaled to 47 or 48 bits,
 // and the whole number nearest to its root is the result's significand.
 ghost use mathlib.Core.Path.{_≡_};
-ghost use mathlib.Core.Bool.{not};
+ghost use mathlib.Core.Bool.{not, false};
 ghost use Prim.Native.Nat.{_+_, _*_, _/_, _%_, _^_, _≤_, _<_};
 ghost use lib.Dec.{T};
 ghost use lib.Ieee.{binary32, ofBits, nanBits};
+ghost use lib.Ieee.Exact.{HasValue};
 ghost use Rattle.numbers.specs.Root.{nearestRoot, root};
+
+// A number above zero: q * 2^(k + 23) units of 2^-298, q of 24 digits.
+struct Scaled {
+    q: u32,
+    k: u32,
+}
 
 // The low 32 bits of x's pattern, or 0 where x is no number below 2^53.
 fn low_bits(x: f64) -> u64
@@ -24,10 +31,9 @@ fn guess(n: u64) -> u64
     ensures { λ r. ⌜ r < 2 ^ 32 ⌝ }
 {
     let v = n as f64;
-    let w = v * 1.4210854715202004e-14;
-    let s0 = 0.5185546318243786 + w * (0.5260096847824649 - w * 0.039540111342662485);
-    let s1 = 0.5 * (s0 + w / s0);
-    low_bits(4194304.0 * (s1 + w / s1) + 4503599627370496.0)
+    let s = 4349951.5329590365 + v * (6.270524081974803e-8 - v * 6.698355409067719e-23);
+    let t = s + v / s;
+    low_bits(0.25 * t + v / t + 4503599627370496.0)
 }
 
 // The largest s with s * s <= n, by halving.
@@ -73,17 +79,32 @@ fn root_of(q: u32, k: u32) -> u32
     k / 2 * 8388608 + (nearest_root(n) as u32)
 }
 
-// The bit pattern of the root of the positive number whose pattern is b.
-pub fn root_bits(b: u32) -> u32
+// The number with the pattern b. A subnormal's digits are moved up to be 24.
+fn read_bits(b: u32) -> Scaled
     requires { ⌜ (0 < b) × (b < 0x7f80_0000) ⌝ }
-    ensures { λ r. ⌜ (ofBits binary32 r ≡ root (ofBits binary32 b)) × T (not (nanBits binary32 r)) ⌝ }
+    ensures { λ r. ⌜ (2 ^ 23 ≤ r .q) × (r .q < 2 ^ 24) × (r .k < 400) × HasValue (ofBits binary32 b) false (r .q * 2 ^ (r .k + 23)) (2 ^ 298) ⌝ }
 {
     let e = b / 8388608;
     let t = b % 8388608;
     if e == 0 {
         let z = u32::leading_zeros(t) - 8;
-        root_of(t << z, 126 - z)
+        Scaled {
+            q: t << z,
+            k: 126 - z,
+        }
     } else {
-        root_of(t + 8388608, e + 125)
+        Scaled {
+            q: t + 8388608,
+            k: e + 125,
+        }
     }
+}
+
+// The bit pattern of the root of the number above zero with the pattern b.
+pub fn root_bits(b: u32) -> u32
+    requires { ⌜ (0 < b) × (b < 0x7f80_0000) ⌝ }
+    ensures { λ r. ⌜ (ofBits binary32 r ≡ root (ofBits binary32 b)) × T (not (nanBits binary32 r)) ⌝ }
+{
+    let x = read_bits(b);
+    root_of(x.q, x.k)
 }
