@@ -57,7 +57,7 @@ place m (negsuc k) h =
     le-back a l h = omega (arith, pow-lt-back a (suc l) (lt-of-le-of-lt h (pow-lt {i = l} {j = suc l} (omega arith))))
 
 -- a value has one number of units
-pub one-count : (y : Float) (s t : Bool) (a b c : ℕ) → HasValue y s a c → HasValue y t b c → a ≡ b
+one-count : (y : Float) (s t : Bool) (a b c : ℕ) → HasValue y s a c → HasValue y t b c → a ≡ b
 one-count nan s t a b c h k = absurd h
 one-count (inf u) s t a b c h k = absurd h
 one-count (fin u m e) s t a b c h k = eq-of-mul-eq-mul-right (down e) (down-pos e) a b (sym (h .1) ∙ k .1)

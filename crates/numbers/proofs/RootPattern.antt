@@ -51,7 +51,7 @@ toBits-is : (m : ℕ) (e : _) (a : ℕ) → m * up e * 2 ^ 149 / down e ≡ a �
 unfolding toBits
 toBits-is m e a h = ap (λ (n : ℕ). 0 + (size n - 24) * 8388608 + n / 2 ^ (size n - 24)) h ∙ ap (λ (x : ℕ). x + a / 2 ^ (size a - 24)) (zero-add ((size a - 24) * 8388608))
 
-pub by-units : (v : Float) (a : ℕ) → T (fits binary32 v) → HasValue v false a (2 ^ 149) → ofBits binary32 (write a) ≡ v
+by-units : (v : Float) (a : ℕ) → T (fits binary32 v) → HasValue v false a (2 ^ 149) → ofBits binary32 (write a) ≡ v
 by-units nan a f h = absurd h
 by-units (inf s) a f h = absurd h
 by-units (fin s m e) a f (p, h) =
@@ -60,7 +60,7 @@ by-units (fin s m e) a f (p, h) =
     ∙ ofBits-toBits binary32 (fin false m e) g
     ∙ ap (λ (t : Bool). fin t m e) (sym p)
 
-pub written : (v : Float) (q k : ℕ) → 2 ^ 23 ≤ q → q < 2 ^ 24 → T (fits binary32 v) → HasValue v false (q * 2 ^ k) (2 ^ 149) → ofBits binary32 (k * 8388608 + q) ≡ v
+written : (v : Float) (q k : ℕ) → 2 ^ 23 ≤ q → q < 2 ^ 24 → T (fits binary32 v) → HasValue v false (q * 2 ^ k) (2 ^ 149) → ofBits binary32 (k * 8388608 + q) ≡ v
 written v q k lo hi f h =
     ap (ofBits binary32) (sym (ap (λ (z : ℕ). z * 8388608 + q * 2 ^ k / 2 ^ z) (over q k lo hi) ∙ ap (λ (x : ℕ). k * 8388608 + x) (shl-shr q k)))
     ∙ by-units v (q * 2 ^ k) f h
