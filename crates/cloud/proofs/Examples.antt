@@ -1,0 +1,46 @@
+-- The definition of the format on written inputs, by computation. Assumes nothing.
+use mathlib.Core.Path.{_≡_, refl}
+use mathlib.Core.List.{List, [], _∷_, map}
+use Prim.Native.Nat.{ℕ, zero}
+use Prim.Native.String.{String, [] as []ˢ, _∷_ as _∷ˢ_}
+use Prim.Native.Char.{code}
+use lib.Ieee.{Float, ofBits, ofInt, add, div, neg, round, units, odd, size, climb, span, ofFields, sum}
+use Rattle.numbers.specs.Rounded.{f32}
+use Rattle.cloud.specs.Format.{Parsed, parsed, malformed, then, startsWith, digits, few, whole, decimal, fraction, magnitude, number, field, triple, point, ahead, lines, body, File, cloud, malformedLine, under, file}
+use Rattle.cloud.specs.declared.line.Triple.{Triple}
+
+-- the bytes of a text of ASCII characters
+abbrev text : String → List ℕ
+text []ˢ = []
+text (c ∷ˢ s) = code c ∷ text s
+
+-- the number at the front of a text; 9 where there is none
+abbrev value : Parsed Float → Float
+value (parsed v rest) = v
+value malformed = f32 0x41100000
+
+-- the first malformed line; 0 where the file is a cloud
+abbrev wrongLine : File → ℕ
+wrongLine (cloud radius ps) = 0
+wrongLine (malformedLine line) = line
+
+abbrev at : Float → Float → Float → Triple
+at x y z = record { x = x; y = y; z = z }
+
+four-lines : file (text "1\n0,0,0,0,0,1\n1,0,0,0,0,1\n0,1,0,0,0,1\n")
+    ≡ (let o = f32 0 in let i = f32 0x3f800000 in
+    cloud i (record { position = at o o o; normal = at o o i } ∷ record { position = at i o o; normal = at o o i } ∷ record { position = at o i o; normal = at o o i } ∷ []))
+unfolding file field then number magnitude fraction digits few whole decimal startsWith triple point ahead lines body under ofBits ofFields ofInt add div neg round units odd size climb span sum
+four-lines = refl
+
+-- 0.5, minus zero, leading zeros, the largest number, and 1.57, whose fraction is rounded before the sum
+numbers : map (λ t. value (number (text t))) ("0.5" ∷ "-0" ∷ "-0.000000" ∷ "00012.50" ∷ "99999.999999" ∷ "1.57" ∷ [])
+    ≡ map f32 (0x3f000000 ∷ 0x80000000 ∷ 0x80000000 ∷ 0x41480000 ∷ 0x47c35000 ∷ 0x3fc8f5c2 ∷ [])
+unfolding number magnitude fraction digits few whole decimal startsWith ofBits ofFields ofInt add div neg round units odd size climb span sum
+numbers = refl
+
+-- an empty input, a last line without a line feed, a line too many, and a number too long on either side of its point
+malformed-lines : map (λ t. wrongLine (file (text t))) ("" ∷ "\n" ∷ "1" ∷ "1\n" ∷ "1\n0,0,0,0,0,1" ∷ "1\n0,0,0,0,0,1\n\n" ∷ "123456\n" ∷ "1.1234567\n" ∷ "1.\n" ∷ ".5\n" ∷ "-\n" ∷ "1\n0,0,0,0,0\n" ∷ "1\n0,0,0,0,0,0,0\n" ∷ [])
+    ≡ 1 ∷ 1 ∷ 1 ∷ 0 ∷ 2 ∷ 3 ∷ 1 ∷ 1 ∷ 1 ∷ 1 ∷ 1 ∷ 2 ∷ 2 ∷ []
+unfolding file field then number magnitude fraction digits few whole decimal startsWith triple point ahead lines body under ofBits ofFields ofInt add div neg round units odd size climb span sum
+malformed-lines = refl

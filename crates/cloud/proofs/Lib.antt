@@ -1,0 +1,9 @@
+-- Laws about the definitions of specs/, which the functions' proofs cite.
+pub mod Bytes
+pub mod Numeral
+pub mod Means
+pub mod Shorter
+pub mod Lines
+pub mod Stored
+pub mod Answer
+pub mod Examples

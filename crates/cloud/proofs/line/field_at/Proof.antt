@@ -1,0 +1,56 @@
+-- `cloud::line::field_at` meets its contract: each way out is a case of `field`. Assumes nothing.
+use mathlib.Core.Path.{_≡_, sym, _∙_}
+use native.Mathlib.Omega.{arith}
+use borrow.Author.Needs.{needs}
+use lib.ListN.{drop}
+use lib.Seq.{drop-drop}
+use Rattle.cloud.specs.Answers.{numberMeans}
+use Rattle.cloud.specs.Format.{parsed, number, field, then}
+use Rattle.cloud.proofs.Bytes.{starts-inside}
+use Rattle.cloud.proofs.Means.{number-got, number-not}
+use Rattle.cloud.proofs.line.field_at.Statement.{statement}
+use Rattle.cloud.proofs.line.field_at.Tie as tie
+
+-- the number that was read
+read : (c : tie.After-value) → number (drop (c .before .before .before .before .args .at) (c .before .before .before .before .args .s .now)) ≡ parsed (c .value .given .0 .0) (drop (c .value .given .0 .1 .0) (c .before .before .before .before .args .s .now))
+read c = number-got (c .before .before .before .before .args .s .now) _ _ _ _ (c .before .before .number-at .ensures) (c .value .given .1)
+
+number-at-requires : tie.Need-number-at-requires
+number-at-requires c κs = search needs
+
+enum-known-value : tie.Need-enum-known-value
+enum-known-value c = search needs
+
+byte-is-requires : tie.Need-byte-is-requires
+byte-is-requires c κs = search needs
+
+add-t10 : tie.Need-add-t10
+add-t10 c = let h = starts-inside (c .before .before .before .before .before .before .before .args .end) (c .before .before .before .before .before .before .before .args .s .now) (c .before .before .before .value .given .0 .1 .0) (sym (c .before .byte-is .ensures) ∙ c .if1 .taken) in omega arith
+
+enum-told : tie.Need-enum-told
+enum-told c = search needs
+
+returns : tie.Need-returns
+unfolding numberMeans field then
+returns c = let s = c .before .before .before .before .before .before .before .args .s .now in let e = read (c .before .before .before) in rw (e, sym (c .before .byte-is .ensures) ∙ c .if1 .taken, drop-drop 1 (c .before .before .before .value .given .0 .1 .0) s)
+
+returns-2 : tie.Need-returns-2
+unfolding numberMeans field then
+returns-2 c = let e = read (c .before .before .before) in rw (e, sym (c .before .byte-is .ensures) ∙ c .if1 .left)
+
+returns-3 : tie.Need-returns-3
+unfolding numberMeans field then
+returns-3 c = let e = number-not (c .before .before .before .before .args .s .now) _ _ (c .before .before .number-at .ensures) (c .enum-told .given .1) in rw e
+
+pub field-at-spec : {M : Type 1} → statement M
+field-at-spec =
+    tie.close
+    (tie.spec
+    number-at-requires
+    enum-known-value
+    byte-is-requires
+    add-t10
+    enum-told
+    returns
+    returns-2
+    returns-3)

@@ -1,0 +1,75 @@
+// Reads a cloud file: a line with the radius, then a line for each point, into two lent slices.
+//
+// What the file means is the definition `file` of specs/Format.antt, and what the reader answers `outcome` of specs/Answers.antt.
+mod line;
+mod number;
+mod points;
+
+ghost use mathlib.Core.Path.{_≡_};
+ghost use lib.ListN.{length, drop};
+ghost use Rattle.cloud.specs.Format.{body, under};
+ghost use Rattle.cloud.specs.Answers.{Outcome, outcome, judged, told, Answered};
+use crate::line::LINE_FEED;
+use crate::line::field_at;
+use crate::number::NumberRead;
+use crate::points::Counted;
+use crate::points::count_points;
+use crate::points::store_points;
+
+// The answer's number, 0 where the file was accepted; the detail, the first malformed line from 1 at refusal 10; and what was read.
+pub struct CloudRead {
+    pub answer: u32,
+    pub detail: usize,
+    pub radius: f32,
+    pub count: usize,
+}
+
+fn refused(answer: u32, detail: usize) -> CloudRead
+    ensures { λ r. ⌜ r ≡ told (Outcome.refused answer detail) ⌝ }
+{
+    CloudRead {
+        answer,
+        detail,
+        radius: 0.0,
+        count: 0,
+    }
+}
+
+// The points' lines, from a place on, under a radius that was read.
+fn read_points(
+    bytes: &[u8],
+    from: usize,
+    radius: f32,
+    points: &mut [f32],
+    normals: &mut [f32],
+) -> CloudRead
+    ensures { λ r. ⌜ Answered (judged (length (now (points .entry))) (length (now (normals .entry))) (under radius (body (drop from (now (bytes .entry)))))) (now (points .entry)) (now (normals .entry)) r (now (points .exit)) (now (normals .exit)) ⌝ }
+{
+    match count_points(bytes, from) {
+        Counted::Malformed { line } => refused(10, line + 1),
+        Counted::Lines { count } => {
+            if points.len() / 3 < count {
+                return refused(11, 0);
+            }
+            if normals.len() / 3 < count {
+                return refused(11, 0);
+            }
+            store_points(bytes, from, points, normals);
+            CloudRead {
+                answer: 0,
+                detail: 0,
+                radius,
+                count,
+            }
+        }
+    }
+}
+
+pub fn read_cloud(bytes: &[u8], points: &mut [f32], normals: &mut [f32]) -> CloudRead
+    ensures { λ r. ⌜ Answered (outcome (now (bytes .entry)) (length (now (points .entry))) (length (now (normals .entry)))) (now (points .entry)) (now (normals .entry)) r (now (points .exit)) (now (normals .exit)) ⌝ }
+{
+    match field_at(bytes, 0, LINE_FEED) {
+        NumberRead::Number { value, next } => read_points(bytes, next, value, points, normals),
+        NumberRead::Malformed => refused(10, 1),
+    }
+}
