@@ -1,0 +1,22 @@
+-- The pattern is no not-a-number's where it is made a float. Assumes nothing.
+use mathlib.Core.Path.{sym, subst, _∙_}
+use mathlib.Core.Bool.{Bool, not}
+use lib.Dec.{T}
+use lib.Ieee.{binary32}
+use lib.Ieee.Bits.{nanBits-above}
+use borrow.Author.Tests.{le-ltb}
+use borrow.Author.Needs.{needs}
+use Rattle.replay.proofs.bits.float_of.Statement.{statement}
+use Rattle.replay.proofs.bits.float_of.Tie as tie
+
+returns : tie.Need-returns
+returns c = search needs
+
+float-from-bits-result : tie.Need-float-from-bits-result
+float-from-bits-result c = subst (λ (t : Bool). T (not t)) (sym (nanBits-above binary32 (c .before .args .b) ∙ le-ltb _ _ (c .if1 .left))) tt
+
+returns-2 : tie.Need-returns-2
+returns-2 c = search needs
+
+pub float-of-spec : {M : Type 1} → statement M
+float-of-spec = tie.close (tie.spec returns float-from-bits-result returns-2)
