@@ -1,0 +1,4 @@
+pub mod Sifting
+pub mod Scanning
+pub mod Slices
+pub mod Work

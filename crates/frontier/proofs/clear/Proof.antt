@@ -1,0 +1,12 @@
+use Rattle.frontier.proofs.Work.{clear-takes}
+use Rattle.frontier.proofs.clear.Statement.{statement}
+use Rattle.frontier.proofs.clear.Tie as tie
+use Rattle.frontier.proofs.clear.Reads as reads
+use Rattle.frontier.proofs.clear.Lts as lts
+
+-- src/lib.rt:31:1
+returns : tie.Need-returns
+returns c = clear-takes (c .args .c)
+
+pub clear-spec : {M : Type 1} → statement M
+clear-spec = tie.close (tie.spec returns)

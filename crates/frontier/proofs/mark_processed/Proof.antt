@@ -1,0 +1,33 @@
+use Rattle.frontier.proofs.Work.{processed-takes}
+use borrow.Author.Needs.{needs}
+use Rattle.frontier.proofs.mark_processed.Statement.{statement}
+use Rattle.frontier.proofs.mark_processed.Tie as tie
+use Rattle.frontier.proofs.mark_processed.Reads as reads
+use Rattle.frontier.proofs.mark_processed.Lts as lts
+use Rattle.frontier.proofs.add_processed.Reads as add-processed-reads
+
+-- src/lib.rt:170:5
+add-processed-requires : tie.Need-add-processed-requires
+add-processed-requires c κs = search needs
+
+-- src/lib.rt:172:19
+add-r : tie.Need-add-r
+add-r c = search needs
+
+-- src/lib.rt:173:16
+add-r-2 : tie.Need-add-r-2
+add-r-2 c = search needs
+
+-- src/lib.rt:165:1
+same-length : tie.Need-same-length
+same-length c = search needs
+
+-- src/lib.rt:165:1
+returns : tie.Need-returns
+returns c =
+    let s = c .before .before .before .before .before .before in
+    let p = c .before .before .before .add-processed in
+    processed-takes (s .args .n) (s .args .c) (s .args .w .now) (p .last .0) (s .args .entry) (s .pre .0) (p .ensures)
+
+pub mark-processed-spec : {M : Type 1} → statement M
+mark-processed-spec = tie.close (tie.spec add-processed-requires add-r add-r-2 same-length returns)

@@ -1,0 +1,33 @@
+use Rattle.frontier.proofs.Work.{pop-takes}
+use borrow.Author.Needs.{needs}
+use Rattle.frontier.proofs.pop.Statement.{statement}
+use Rattle.frontier.proofs.pop.Tie as tie
+use Rattle.frontier.proofs.pop.Reads as reads
+use Rattle.frontier.proofs.pop.Lts as lts
+use Rattle.frontier.proofs.pop_frontier.Reads as pop-frontier-reads
+
+-- src/lib.rt:87:9
+pop-frontier-requires : tie.Need-pop-frontier-requires
+pop-frontier-requires c κs = search needs
+
+-- src/lib.rt:89:18
+sub-r : tie.Need-sub-r
+sub-r c = search needs
+
+-- src/lib.rt:90:15
+add-r : tie.Need-add-r
+add-r c = search needs
+
+-- src/lib.rt:82:1
+same-length : tie.Need-same-length
+same-length c = search needs
+
+-- src/lib.rt:82:1
+returns : tie.Need-returns
+returns c =
+    let s = c .before .before .before .before .before .before in
+    let p = c .before .before .before .pop-frontier in
+    pop-takes (s .args .n) (s .args .c) (s .args .w .now) (p .last .0) (p .result) (p .ensures)
+
+pub pop-spec : {M : Type 1} → statement M
+pop-spec = tie.close (tie.spec pop-frontier-requires sub-r add-r same-length returns)

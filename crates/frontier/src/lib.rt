@@ -1,0 +1,235 @@
+// The frontier, the processed edges and the used points in the lent work slice, and the faces in the lent face slice: the parts of a step of the laying.
+mod heap;
+mod scan;
+
+ghost use mathlib.Core.Path.{_≡_};
+ghost use mathlib.Core.Option.{some};
+ghost use mathlib.Core.List.{[], _∷_};
+ghost use lib.ListN.{replicate};
+ghost use Prim.Native.Nat.{_+_, _*_, _≤_, _<_};
+ghost use Rattle.regions.specs.Regions.{usedAt, frontierAt};
+ghost use Rattle.patch.specs.Count.{any};
+ghost use Rattle.patch.specs.Lay.{same, edge, face, edgesOf, met, seeded, pivoted};
+ghost use Rattle.patch.specs.View.{decode};
+ghost use Rattle.frontier.specs.Work.{usedIn, processedIn, Takes, TakesAside, Begins, Clears, Pops, Sized, Ready, Room, OnlyIn, Taken, Pushed, Marked, Wrote, Added};
+
+// How many faces, seeds, looks and pivots there were, how many entries wait and how many edges are processed.
+pub struct Counts {
+    pub faces: usize,
+    pub seeds: u32,
+    pub frontier: usize,
+    pub processed: usize,
+    pub looks: u32,
+    pub pivots: u32,
+}
+
+// An entry that was popped, and the counts then.
+pub struct Popped {
+    pub entry: u32,
+    pub counts: Counts,
+}
+
+// No point is used.
+fn clear_used(w: &mut [u32], n: usize)
+    requires { ⌜ Sized n (now w) ⌝ }
+    ensures { λ _. ⌜ usedIn n (now (w .exit)) ≡ replicate n 0 ⌝ }
+    ensures { λ _. ⌜ OnlyIn (usedAt n) (frontierAt n) (now (w .entry)) (now (w .exit)) ⌝ }
+{
+    let mut i: usize = 0;
+    while i < n {
+        w[5 * n + i] = 0;
+        i += 1;
+    }
+}
+
+// The laying begins: there is no face, and no point is used.
+pub fn begin(w: &mut [u32], n: usize) -> Counts
+    requires { ⌜ Sized n (now w) ⌝ }
+    ensures { λ r. ⌜ Begins n r (now (w .exit)) ⌝ }
+    ensures { λ _. ⌜ OnlyIn (usedAt n) (frontierAt n) (now (w .entry)) (now (w .exit)) ⌝ }
+{
+    clear_used(w, n);
+    Counts {
+        faces: 0,
+        seeds: 0,
+        frontier: 0,
+        processed: 0,
+        looks: 0,
+        pivots: 0,
+    }
+}
+
+// A radius begins: no entry waits and no edge is processed.
+pub fn clear(c: Counts) -> Counts
+    ensures { λ r. ⌜ Clears c r ⌝ }
+{
+    let mut r = c;
+    r.frontier = 0;
+    r.processed = 0;
+    r
+}
+
+// Takes an entry out of the `count` ones that wait.
+fn pop_frontier(w: &mut [u32], n: usize, count: usize) -> u32
+    requires { ⌜ Sized n (now w) × (0 < count) × (count ≤ 3 * n) ⌝ }
+    ensures { λ r. ⌜ Taken n count (now (w .entry)) (now (w .exit)) r ⌝ }
+{
+    let at = 6 * n;
+    heap::pop(&mut w[at..], count)
+}
+
+// A look begins: an entry is popped.
+pub fn pop(w: &mut [u32], n: usize, c: Counts) -> Popped
+    requires { ⌜ Ready n c (now w) × (0 < c .frontier) ⌝ }
+    ensures { λ r. ⌜ Pops n c (now (w .entry)) (r .entry) (r .counts) (now (w .exit)) ⌝ }
+{
+    let count = c.frontier;
+    let entry = pop_frontier(w, n, count);
+    let mut r = c;
+    r.frontier = count - 1;
+    r.looks = c.looks + 1;
+    Popped {
+        entry: entry,
+        counts: r,
+    }
+}
+
+// Whether the edge a, b is among the `count` processed ones, direction aside.
+pub fn is_processed(w: &[u32], n: usize, count: usize, a: u32, b: u32) -> bool
+    requires { ⌜ Sized n (now w) × (count ≤ 2 * n) ⌝ }
+    ensures { λ r. ⌜ r ≡ any (same (edge a b)) (processedIn n count (now (w .entry))) ⌝ }
+{
+    scan::has_edge(w, 9 * n, count, a, b)
+}
+
+// The edge a, b goes to the end of the `count` entries that wait, unless it is among the `done` processed ones. Answers how many wait then.
+fn push_edge(w: &mut [u32], n: usize, count: usize, done: usize, a: u32, b: u32) -> usize
+    requires { ⌜ Sized n (now w) × (count + 1 ≤ 3 * n) × (done ≤ 2 * n) × (a < 4096) × (b < 4096) ⌝ }
+    ensures { λ r. ⌜ Pushed n count done (edge a b ∷ []) (now (w .entry)) (now (w .exit)) r ⌝ }
+{
+    if is_processed(w, n, done, a, b) {
+        return count;
+    }
+    let i = 6 * n + count;
+    w[i] = a * 4096 + b;
+    count + 1
+}
+
+// The three edges of the face a, b, k.
+pub fn add_triangle_edges_to_frontier(
+    w: &mut [u32],
+    n: usize,
+    count: usize,
+    done: usize,
+    a: u32,
+    b: u32,
+    k: u32,
+) -> usize
+    requires { ⌜ Sized n (now w) × (count + 3 ≤ 3 * n) × (done ≤ 2 * n) × (a < 4096) × (b < 4096) × (k < 4096) ⌝ }
+    ensures { λ r. ⌜ Pushed n count done (edgesOf (face a b k)) (now (w .entry)) (now (w .exit)) r ⌝ }
+{
+    let one = push_edge(w, n, count, done, a, b);
+    let two = push_edge(w, n, one, done, b, k);
+    push_edge(w, n, two, done, k, a)
+}
+
+// Point k is used from now on.
+fn mark_used(w: &mut [u32], n: usize, k: u32)
+    requires { ⌜ Sized n (now w) × (k < n) ⌝ }
+    ensures { λ _. ⌜ Marked n (k ∷ []) (now (w .entry)) (now (w .exit)) ⌝ }
+{
+    let i = 5 * n + k as usize;
+    w[i] = 1;
+}
+
+// The three points of a seed are used from now on.
+fn mark_seed(w: &mut [u32], n: usize, a: u32, b: u32, c: u32)
+    requires { ⌜ Sized n (now w) × (a < n) × (b < n) × (c < n) ⌝ }
+    ensures { λ _. ⌜ Marked n (a ∷ b ∷ c ∷ []) (now (w .entry)) (now (w .exit)) ⌝ }
+{
+    mark_used(w, n, a);
+    mark_used(w, n, b);
+    mark_used(w, n, c);
+}
+
+// The entry goes to the end of the `count` processed edges.
+fn add_processed(w: &mut [u32], n: usize, count: usize, entry: u32)
+    requires { ⌜ Sized n (now w) × (count < 2 * n) ⌝ }
+    ensures { λ _. ⌜ Added n count entry (now (w .entry)) (now (w .exit)) ⌝ }
+{
+    let i = 9 * n + count;
+    w[i] = entry;
+}
+
+// A pivot is over: its edge is processed from now on.
+pub fn mark_processed(w: &mut [u32], n: usize, c: Counts, entry: u32) -> Counts
+    requires { ⌜ Ready n c (now w) × (c .processed < 2 * n) ⌝ }
+    ensures { λ r. ⌜ TakesAside n (pivoted (decode entry)) c (now (w .entry)) r (now (w .exit)) ⌝ }
+{
+    let count = c.processed;
+    add_processed(w, n, count, entry);
+    let mut r = c;
+    r.processed = count + 1;
+    r.pivots = c.pivots + 1;
+    r
+}
+
+// The face a, b, k goes behind the `count` faces in the slice, if it fits there.
+pub fn put_face(faces: &mut [u32], count: usize, a: u32, b: u32, k: u32)
+    requires { ⌜ count ≤ 4096 ⌝ }
+    ensures { λ _. ⌜ Wrote count (face a b k) (now (faces .entry)) (now (faces .exit)) ⌝ }
+{
+    let i = 3 * count;
+    if i + 3 <= faces.len() {
+        faces[i] = a;
+        faces[i + 1] = b;
+        faces[i + 2] = k;
+    }
+}
+
+// The ball met the point k over the edge a, b: the face is laid.
+pub fn lay_pivot(
+    faces: &mut [u32],
+    w: &mut [u32],
+    n: usize,
+    c: Counts,
+    a: u32,
+    b: u32,
+    k: u32,
+) -> Counts
+    requires { ⌜ Room n c (now w) a b k ⌝ }
+    ensures { λ r. ⌜ Takes n (met (edge a b) (some k)) c (now (w .entry)) (now (faces .entry)) r (now (w .exit)) (now (faces .exit)) ⌝ }
+{
+    let count = c.faces;
+    put_face(faces, count, a, b, k);
+    mark_used(w, n, k);
+    let waiting = add_triangle_edges_to_frontier(w, n, c.frontier, c.processed, a, b, k);
+    let mut r = c;
+    r.faces = count + 1;
+    r.frontier = waiting;
+    r
+}
+
+// The seed i, j, k is laid.
+pub fn lay_seed(
+    faces: &mut [u32],
+    w: &mut [u32],
+    n: usize,
+    c: Counts,
+    i: u32,
+    j: u32,
+    k: u32,
+) -> Counts
+    requires { ⌜ Room n c (now w) i j k ⌝ }
+    ensures { λ r. ⌜ Takes n (seeded (i, j, k)) c (now (w .entry)) (now (faces .entry)) r (now (w .exit)) (now (faces .exit)) ⌝ }
+{
+    let count = c.faces;
+    put_face(faces, count, i, j, k);
+    mark_seed(w, n, i, j, k);
+    let waiting = add_triangle_edges_to_frontier(w, n, c.frontier, c.processed, i, j, k);
+    let mut r = c;
+    r.faces = count + 1;
+    r.seeds = c.seeds + 1;
+    r.frontier = waiting;
+    r
+}
