@@ -9,7 +9,6 @@ use native.Mathlib.Omega.{arith}
 use lib.ListN.{length, getD, take, drop, set, replicate, length-set, length-map, length-drop, length-append, List·getD-map}
 use lib.Seq.{getD-take, drop-set-add, take-set-lt, take-suc-set, length-take-le}
 use borrow.Rule.Slice.PartMut.{putMid}
-use Rattle.regions.specs.Regions.{usedAt, frontierAt, processedAt}
 use Rattle.patch.specs.Count.{bit, count, any}
 use Rattle.patch.specs.Lay.{Edge, edge, same, Face, face, edgesOf, State, push, marked, withFace, cleared, popped, met, seeded, pivoted}
 use Rattle.patch.specs.Frontier.{noEdge, afterPop}

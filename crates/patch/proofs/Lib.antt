@@ -4,6 +4,7 @@ pub mod Inv
 pub mod Steps
 pub mod Looks
 pub mod Laying
+pub mod Look
 pub mod Pops
 pub mod Searching
 pub mod Claim

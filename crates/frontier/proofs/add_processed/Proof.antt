@@ -5,27 +5,21 @@ use Rattle.frontier.proofs.add_processed.Tie as tie
 use Rattle.frontier.proofs.add_processed.Reads as reads
 use Rattle.frontier.proofs.add_processed.Lts as lts
 
--- src/lib.rt:128:13
 mul-i : tie.Need-mul-i
 mul-i c = search needs
 
--- src/lib.rt:128:13
 add-i : tie.Need-add-i
 add-i c = search needs
 
--- src/lib.rt:129:5
 mul-w : tie.Need-mul-w
 mul-w c = search needs
 
--- src/lib.rt:129:5
 slice-write-w : tie.Need-slice-write-w
 slice-write-w c = search needs
 
--- src/lib.rt:124:1
 same-length : tie.Need-same-length
 same-length c = search needs
 
--- src/lib.rt:124:1
 returns : tie.Need-returns
 returns c = added (c .args .n) (c .args .count) (c .args .entry) (c .args .w .now) (c .pre .0) (c .pre .1)
 

@@ -6,23 +6,18 @@ use Rattle.frontier.proofs.add_triangle_edges_to_frontier.Reads as read
 use Rattle.frontier.proofs.add_triangle_edges_to_frontier.Lts as lts
 use Rattle.frontier.proofs.push_edge.Reads as push-edge-reads
 
--- src/lib.rt:99:9
 push-edge-requires : tie.Need-push-edge-requires
 push-edge-requires c κs = search needs
 
--- src/lib.rt:100:9
 push-edge-requires-2 : tie.Need-push-edge-requires-2
 push-edge-requires-2 c κs = search needs
 
--- src/lib.rt:101:5
 push-edge-requires-3 : tie.Need-push-edge-requires-3
 push-edge-requires-3 c κs = search needs
 
--- src/lib.rt:95:1
 same-length : tie.Need-same-length
 same-length c = search needs
 
--- src/lib.rt:95:1
 returns : tie.Need-returns
 returns c =
     let c3 = c .before .before in

@@ -6,15 +6,12 @@ use Rattle.frontier.proofs.begin.Reads as reads
 use Rattle.frontier.proofs.begin.Lts as lts
 use Rattle.frontier.proofs.clear_used.Reads as clear-used-reads
 
--- src/lib.rt:51:5
 clear-used-requires : tie.Need-clear-used-requires
 clear-used-requires c κs = search needs
 
--- src/lib.rt:46:1
 same-length : tie.Need-same-length
 same-length c = search needs
 
--- src/lib.rt:46:1
 returns : tie.Need-returns
 returns c = let p = c .before .before .clear-used in (begin-holds _ (p .last .0) (p .ensures .0), p .ensures .1)
 

@@ -4,7 +4,6 @@ use Rattle.frontier.proofs.clear.Tie as tie
 use Rattle.frontier.proofs.clear.Reads as reads
 use Rattle.frontier.proofs.clear.Lts as lts
 
--- src/lib.rt:31:1
 returns : tie.Need-returns
 returns c = clear-takes (c .args .c)
 

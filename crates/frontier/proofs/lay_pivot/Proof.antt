@@ -8,31 +8,24 @@ use Rattle.frontier.proofs.add_triangle_edges_to_frontier.Reads as add-
 use Rattle.frontier.proofs.mark_used.Reads as mark-used-reads
 use Rattle.frontier.proofs.put_face.Reads as put-face-reads
 
--- src/lib.rt:204:5
 put-face-requires : tie.Need-put-face-requires
 put-face-requires c κs = search needs
 
--- src/lib.rt:205:5
 mark-used-requires : tie.Need-mark-used-requires
 mark-used-requires c κs = search needs
 
--- src/lib.rt:206:9
 add-triangle-edges-to-frontier-requires : tie.Need-add-triangle-edges-to-frontier-requires
 add-triangle-edges-to-frontier-requires c κs = search needs
 
--- src/lib.rt:208:15
 add-r : tie.Need-add-r
 add-r c = search needs
 
--- src/lib.rt:191:1
 same-length : tie.Need-same-length
 same-length c = search needs
 
--- src/lib.rt:191:1
 same-length-2 : tie.Need-same-length-2
 same-length-2 c = search needs
 
--- src/lib.rt:191:1
 returns : tie.Need-returns
 returns c =
     let pushed = c .before .before .add-triangle-edges-to-frontier in

@@ -8,35 +8,27 @@ use Rattle.frontier.proofs.add_triangle_edges_to_frontier.Reads as add-
 use Rattle.frontier.proofs.mark_seed.Reads as mark-seed-reads
 use Rattle.frontier.proofs.put_face.Reads as put-face-reads
 
--- src/lib.rt:227:5
 put-face-requires : tie.Need-put-face-requires
 put-face-requires c κs = search needs
 
--- src/lib.rt:228:5
 mark-seed-requires : tie.Need-mark-seed-requires
 mark-seed-requires c κs = search needs
 
--- src/lib.rt:229:9
 add-triangle-edges-to-frontier-requires : tie.Need-add-triangle-edges-to-frontier-requires
 add-triangle-edges-to-frontier-requires c κs = search needs
 
--- src/lib.rt:231:15
 add-r : tie.Need-add-r
 add-r c = search needs
 
--- src/lib.rt:232:15
 add-r-2 : tie.Need-add-r-2
 add-r-2 c = search needs
 
--- src/lib.rt:214:1
 same-length : tie.Need-same-length
 same-length c = search needs
 
--- src/lib.rt:214:1
 same-length-2 : tie.Need-same-length-2
 same-length-2 c = search needs
 
--- src/lib.rt:214:1
 returns : tie.Need-returns
 returns c =
     let pushed = c .before .before .before .add-triangle-edges-to-frontier in

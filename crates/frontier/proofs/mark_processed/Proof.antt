@@ -6,23 +6,18 @@ use Rattle.frontier.proofs.mark_processed.Reads as reads
 use Rattle.frontier.proofs.mark_processed.Lts as lts
 use Rattle.frontier.proofs.add_processed.Reads as add-processed-reads
 
--- src/lib.rt:170:5
 add-processed-requires : tie.Need-add-processed-requires
 add-processed-requires c κs = search needs
 
--- src/lib.rt:172:19
 add-r : tie.Need-add-r
 add-r c = search needs
 
--- src/lib.rt:173:16
 add-r-2 : tie.Need-add-r-2
 add-r-2 c = search needs
 
--- src/lib.rt:165:1
 same-length : tie.Need-same-length
 same-length c = search needs
 
--- src/lib.rt:165:1
 returns : tie.Need-returns
 returns c =
     let s = c .before .before .before .before .before .before in

@@ -6,23 +6,18 @@ use Rattle.frontier.proofs.mark_seed.Reads as reads
 use Rattle.frontier.proofs.mark_seed.Lts as lts
 use Rattle.frontier.proofs.mark_used.Reads as mark-used-reads
 
--- src/lib.rt:118:5
 mark-used-requires : tie.Need-mark-used-requires
 mark-used-requires c κs = search needs
 
--- src/lib.rt:119:5
 mark-used-requires-2 : tie.Need-mark-used-requires-2
 mark-used-requires-2 c κs = search needs
 
--- src/lib.rt:120:5
 mark-used-requires-3 : tie.Need-mark-used-requires-3
 mark-used-requires-3 c κs = search needs
 
--- src/lib.rt:114:1
 same-length : tie.Need-same-length
 same-length c = search needs
 
--- src/lib.rt:114:1
 returns : tie.Need-returns
 returns c =
     let c3 = c .before .before in

@@ -5,27 +5,21 @@ use Rattle.frontier.proofs.mark_used.Tie as tie
 use Rattle.frontier.proofs.mark_used.Reads as reads
 use Rattle.frontier.proofs.mark_used.Lts as lts
 
--- src/lib.rt:109:13
 mul-i : tie.Need-mul-i
 mul-i c = search needs
 
--- src/lib.rt:109:13
 add-i : tie.Need-add-i
 add-i c = search needs
 
--- src/lib.rt:110:5
 mul-w : tie.Need-mul-w
 mul-w c = search needs
 
--- src/lib.rt:110:5
 slice-write-w : tie.Need-slice-write-w
 slice-write-w c = search needs
 
--- src/lib.rt:105:1
 same-length : tie.Need-same-length
 same-length c = search needs
 
--- src/lib.rt:105:1
 returns : tie.Need-returns
 returns c = marked-one (c .args .n) (c .args .k) (c .args .w .now) (c .pre .1)
 

@@ -6,23 +6,18 @@ use Rattle.frontier.proofs.pop.Reads as reads
 use Rattle.frontier.proofs.pop.Lts as lts
 use Rattle.frontier.proofs.pop_frontier.Reads as pop-frontier-reads
 
--- src/lib.rt:87:9
 pop-frontier-requires : tie.Need-pop-frontier-requires
 pop-frontier-requires c κs = search needs
 
--- src/lib.rt:89:18
 sub-r : tie.Need-sub-r
 sub-r c = search needs
 
--- src/lib.rt:90:15
 add-r : tie.Need-add-r
 add-r c = search needs
 
--- src/lib.rt:82:1
 same-length : tie.Need-same-length
 same-length c = search needs
 
--- src/lib.rt:82:1
 returns : tie.Need-returns
 returns c =
     let s = c .before .before .before .before .before .before in

@@ -6,35 +6,27 @@ use Rattle.frontier.proofs.pop_frontier.Reads as reads
 use Rattle.frontier.proofs.pop_frontier.Lts as lts
 use Rattle.frontier.proofs.heap.pop.Reads as pop-reads
 
--- src/lib.rt:49:14
 mul-at : tie.Need-mul-at
 mul-at c = search needs
 
--- src/lib.rt:50:15
 mul-pop : tie.Need-mul-pop
 mul-pop c = search needs
 
--- src/lib.rt:50:15
 sub-pop : tie.Need-sub-pop
 sub-pop c = search needs
 
--- src/lib.rt:50:15
 part-pop-start : tie.Need-part-pop-start
 part-pop-start c = search needs
 
--- src/lib.rt:50:15
 part-pop-end : tie.Need-part-pop-end
 part-pop-end c = search needs
 
--- src/lib.rt:50:5
 pop-requires : tie.Need-pop-requires
 pop-requires c κs = search needs
 
--- src/lib.rt:45:1
 same-length : tie.Need-same-length
 same-length c = search needs
 
--- src/lib.rt:45:1
 returns : tie.Need-returns
 returns c =
     let s = c .before .before .before .before .before in

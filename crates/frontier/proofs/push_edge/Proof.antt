@@ -6,54 +6,42 @@ use Rattle.frontier.proofs.push_edge.Reads as reads
 use Rattle.frontier.proofs.push_edge.Lts as lts
 use Rattle.frontier.proofs.is_processed.Reads as is-processed-reads
 
--- src/lib.rt:86:8
 is-processed-requires : tie.Need-is-processed-requires
 is-processed-requires c κs = search needs
 
--- src/lib.rt:87:9
 same-length : tie.Need-same-length
 same-length c = search needs
 
--- src/lib.rt:87:9
 returns : tie.Need-returns
 returns c =
     let s = c .before .before .before .before in
     let p = c .before .is-processed in
     pushed-not (s .args .n) (s .args .count) (s .args .done) (s .args .a) (s .args .b) (s .args .w .now) (p .result) (p .ensures) (c .if1 .taken)
 
--- src/lib.rt:89:13
 mul-i : tie.Need-mul-i
 mul-i c = search needs
 
--- src/lib.rt:89:13
 add-i : tie.Need-add-i
 add-i c = search needs
 
--- src/lib.rt:90:12
 mul-w : tie.Need-mul-w
 mul-w c = search needs
 
--- src/lib.rt:90:12
 add-w : tie.Need-add-w
 add-w c = search needs
 
--- src/lib.rt:90:5
 mul-w-2 : tie.Need-mul-w-2
 mul-w-2 c = search needs
 
--- src/lib.rt:90:5
 slice-write-w : tie.Need-slice-write-w
 slice-write-w c = search needs
 
--- src/lib.rt:91:5
 add-result : tie.Need-add-result
 add-result c = search needs
 
--- src/lib.rt:82:1
 same-length-2 : tie.Need-same-length-2
 same-length-2 c = search needs
 
--- src/lib.rt:82:1
 returns-2 : tie.Need-returns-2
 returns-2 c =
     let s = c .before .before .before .before in

@@ -7,55 +7,42 @@ use Rattle.frontier.proofs.put_face.Tie as tie
 use Rattle.frontier.proofs.put_face.Reads as reads
 use Rattle.frontier.proofs.put_face.Lts as lts
 
--- src/lib.rt:154:13
 mul-i : tie.Need-mul-i
 mul-i c = search needs
 
--- src/lib.rt:155:8
 add-if1 : tie.Need-add-if1
 add-if1 c = search needs
 
--- src/lib.rt:156:9
 mul-faces : tie.Need-mul-faces
 mul-faces c = search needs
 
--- src/lib.rt:156:9
 slice-write-faces : tie.Need-slice-write-faces
 slice-write-faces c = search needs
 
--- src/lib.rt:157:15
 add-faces : tie.Need-add-faces
 add-faces c = search needs
 
--- src/lib.rt:157:9
 mul-faces-2 : tie.Need-mul-faces-2
 mul-faces-2 c = search needs
 
--- src/lib.rt:157:9
 slice-write-faces-2 : tie.Need-slice-write-faces-2
 slice-write-faces-2 c = simp length-set (omega arith)
 
--- src/lib.rt:158:15
 add-faces-2 : tie.Need-add-faces-2
 add-faces-2 c = search needs
 
--- src/lib.rt:158:9
 mul-faces-3 : tie.Need-mul-faces-3
 mul-faces-3 c = search needs
 
--- src/lib.rt:158:9
 slice-write-faces-3 : tie.Need-slice-write-faces-3
 slice-write-faces-3 c = simp length-set (omega arith)
 
--- src/lib.rt:150:1
 same-length : tie.Need-same-length
 same-length c = search needs
 
--- src/lib.rt:150:1
 returns : tie.Need-returns
 returns c = let s = c .before in wrote-more (s .args .count) (s .args .a) (s .args .b) (s .args .k) (s .args .faces .now) (c .if1 .taken)
 
--- src/lib.rt:150:1
 returns-2 : tie.Need-returns-2
 returns-2 c = let s = c .before in wrote-full (s .args .count) (s .args .a) (s .args .b) (s .args .k) (s .args .faces .now) (c .if1 .left)
 

@@ -7,31 +7,24 @@ use Rattle.frontier.proofs.heap.pop.Reads as reads
 use Rattle.frontier.proofs.heap.pop.Lts as lts
 use Rattle.frontier.proofs.heap.sift_down.Reads as sift-down-reads
 
--- src/heap.rt:30:15
 slice-read-top : tie.Need-slice-read-top
 slice-read-top c = search needs
 
--- src/heap.rt:31:16
 sub-left : tie.Need-sub-left
 sub-left c = search needs
 
--- src/heap.rt:33:17
 mul-v : tie.Need-mul-v
 mul-v c = search needs
 
--- src/heap.rt:33:17
 slice-read-v : tie.Need-slice-read-v
 slice-read-v c = search needs
 
--- src/heap.rt:34:9
 sift-down-requires : tie.Need-sift-down-requires
 sift-down-requires c κs = search needs
 
--- src/heap.rt:26:1
 same-length : tie.Need-same-length
 same-length c = search needs
 
--- src/heap.rt:26:1
 returns : tie.Need-returns
 returns c =
     let s = c .before .before .before .before .before .before .before .before in
@@ -39,7 +32,6 @@ returns c =
     let q = pop-more (s .args .w .now) (p .last .0) (s .args .m) (c .before .before .before .before .before .if1 .taken) (s .pre .1) (p .ensures .0) (p .ensures .1) in
     (refl, q .0, q .1)
 
--- src/heap.rt:26:1
 returns-2 : tie.Need-returns-2
 returns-2 c = let s = c .before .before .before in (refl, pop-none _ _ (c .if1 .left) (s .pre .1), refl)
 

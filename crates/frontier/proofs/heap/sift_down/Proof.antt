@@ -1,8 +1,8 @@
 use native.Mathlib.Omega.{arith}
 use borrow.Author.Needs.{needs}
-use Prim.Native.Nat.{ℕ, _+_, _-_, _≤_, _<_}
-use mathlib.Core.Path.{_≡_, refl, sym}
-use lib.ListN.{length, set, getD, length-set}
+use Prim.Native.Nat.{_-_, _≤_, _<_}
+use mathlib.Core.Path.{_≡_, refl}
+use lib.ListN.{length, length-set}
 use Rattle.frontier.proofs.Sifting.{Sifting, start, step, end-left, end-none}
 use Rattle.frontier.proofs.heap.sift_down.Statement.{statement}
 use Rattle.frontier.proofs.heap.sift_down.Tie as tie
@@ -15,131 +15,100 @@ Inv-loop w₀ m v p₀ w p = (length w ≡ length w₀) × (p < m) × (m ≤ len
 abbrev μ-loop : tie.MeasureT-loop
 μ-loop w₀ m v p₀ w p = m - p
 
--- src/lib.rt:12:5
 loop-holds : tie.Need-loop-holds Inv-loop μ-loop
 loop-holds c = (refl, search needs, search needs, start _ _ _)
 
--- src/lib.rt:12:11
 add-loop : tie.Need-add-loop Inv-loop μ-loop
 add-loop c = search needs
 
--- src/lib.rt:12:11
 add-loop-2 : tie.Need-add-loop-2 Inv-loop μ-loop
 add-loop-2 c = search needs
 
--- src/lib.rt:13:18
 add-w : tie.Need-add-w Inv-loop μ-loop
 add-w c = search needs
 
--- src/lib.rt:13:18
 add-w-2 : tie.Need-add-w-2 Inv-loop μ-loop
 add-w-2 c = search needs
 
--- src/lib.rt:13:16
 mul-w : tie.Need-mul-w Inv-loop μ-loop
 mul-w c = search needs
 
--- src/lib.rt:13:16
 slice-read-w : tie.Need-slice-read-w Inv-loop μ-loop
 slice-read-w c = search needs
 
--- src/lib.rt:13:9
 mul-w-2 : tie.Need-mul-w-2 Inv-loop μ-loop
 mul-w-2 c = search needs
 
--- src/lib.rt:13:9
 slice-write-w : tie.Need-slice-write-w Inv-loop μ-loop
 slice-write-w c = search needs
 
--- src/lib.rt:14:13
 add-p : tie.Need-add-p Inv-loop μ-loop
 add-p c = search needs
 
--- src/lib.rt:14:13
 add-p-2 : tie.Need-add-p-2 Inv-loop μ-loop
 add-p-2 c = search needs
 
--- src/lib.rt:12:5
 loop-less : tie.Need-loop-less Inv-loop μ-loop
 loop-less c = search needs
 
--- src/lib.rt:12:5
 loop-again : tie.Need-loop-again Inv-loop μ-loop
 loop-again c =
     let i = c .before .before .loop .inv in
     (simp length-set (omega arith), search needs, simp length-set (omega arith), step _ _ _ _ _ (i .2) (i .1) (i .3) (c .before .loop-test .taken))
 
--- src/lib.rt:16:8
 add-if1 : tie.Need-add-if1 Inv-loop μ-loop
 add-if1 c = search needs
 
--- src/lib.rt:16:8
 add-if1-2 : tie.Need-add-if1-2 Inv-loop μ-loop
 add-if1-2 c = search needs
 
--- src/lib.rt:17:18
 add-w-3 : tie.Need-add-w-3 Inv-loop μ-loop
 add-w-3 c = search needs
 
--- src/lib.rt:17:18
 add-w-4 : tie.Need-add-w-4 Inv-loop μ-loop
 add-w-4 c = search needs
 
--- src/lib.rt:17:16
 mul-w-3 : tie.Need-mul-w-3 Inv-loop μ-loop
 mul-w-3 c = search needs
 
--- src/lib.rt:17:16
 slice-read-w-2 : tie.Need-slice-read-w-2 Inv-loop μ-loop
 slice-read-w-2 c = search needs
 
--- src/lib.rt:17:9
 mul-w-4 : tie.Need-mul-w-4 Inv-loop μ-loop
 mul-w-4 c = search needs
 
--- src/lib.rt:17:9
 slice-write-w-2 : tie.Need-slice-write-w-2 Inv-loop μ-loop
 slice-write-w-2 c = search needs
 
--- src/lib.rt:18:11
 add-w-5 : tie.Need-add-w-5 Inv-loop μ-loop
 add-w-5 c = search needs
 
--- src/lib.rt:18:11
 add-w-6 : tie.Need-add-w-6 Inv-loop μ-loop
 add-w-6 c = search needs
 
--- src/lib.rt:18:9
 mul-w-5 : tie.Need-mul-w-5 Inv-loop μ-loop
 mul-w-5 c = search needs
 
--- src/lib.rt:18:9
 slice-write-w-3 : tie.Need-slice-write-w-3 Inv-loop μ-loop
 slice-write-w-3 c = simp length-set (omega arith)
 
--- src/lib.rt:20:9
 mul-w-6 : tie.Need-mul-w-6 Inv-loop μ-loop
 mul-w-6 c = search needs
 
--- src/lib.rt:20:9
 slice-write-w-4 : tie.Need-slice-write-w-4 Inv-loop μ-loop
 slice-write-w-4 c = search needs
 
--- src/lib.rt:7:1
 same-length : tie.Need-same-length Inv-loop μ-loop
 same-length c = search needs
 
--- src/lib.rt:7:1
 returns : tie.Need-returns Inv-loop μ-loop
 returns c =
     let i = c .before .before .before .loop .inv in
     end-left _ _ _ _ _ (i .2) (i .1) (i .3) (c .before .before .loop-test .left) (c .before .if1 .taken)
 
--- src/lib.rt:7:1
 same-length-2 : tie.Need-same-length-2 Inv-loop μ-loop
 same-length-2 c = search needs
 
--- src/lib.rt:7:1
 returns-2 : tie.Need-returns-2 Inv-loop μ-loop
 returns-2 c =
     let i = c .before .before .loop .inv in

@@ -1,16 +1,12 @@
 use borrow.Author.Tests.{eq-eqb, ne-eqb}
-use native.Mathlib.Omega.{arith}
-use borrow.Author.Needs.{needs}
 use Rattle.frontier.proofs.scan.both.Statement.{statement}
 use Rattle.frontier.proofs.scan.both.Tie as tie
 use Rattle.frontier.proofs.scan.both.Reads as reads
 use Rattle.frontier.proofs.scan.both.Lts as lts
 
--- src/lib.rt:11:1
 returns : tie.Need-returns
 returns c = rw (eq-eqb _ _ (c .if1 .taken))
 
--- src/lib.rt:11:1
 returns-2 : tie.Need-returns-2
 returns-2 c = rw (ne-eqb _ _ (c .if1 .left))
 

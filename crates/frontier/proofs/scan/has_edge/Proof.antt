@@ -2,7 +2,6 @@ use Prim.Native.Nat.{_≤_, _-_}
 use mathlib.Core.Path.{_≡_, refl}
 use Rattle.patch.specs.Lay.{edge}
 use Rattle.frontier.proofs.Scanning.{among, hit, pass, end}
-use native.Mathlib.Omega.{arith}
 use borrow.Author.Needs.{needs}
 use Rattle.frontier.proofs.scan.has_edge.Statement.{statement}
 use Rattle.frontier.proofs.scan.has_edge.Tie as tie
@@ -16,47 +15,37 @@ Inv-loop w at m a b i₀ i = (i ≤ m) × (among w at (edge a b) i ≡ 0)
 abbrev μ-loop : tie.MeasureT-loop
 μ-loop w at m a b i₀ i = m - i
 
--- src/lib.rt:35:5
 loop-holds : tie.Need-loop-holds Inv-loop μ-loop
 loop-holds c = (search needs, refl)
 
--- src/lib.rt:36:24
 add-same-edge : tie.Need-add-same-edge Inv-loop μ-loop
 add-same-edge c = search needs
 
--- src/lib.rt:36:22
 mul-same-edge : tie.Need-mul-same-edge Inv-loop μ-loop
 mul-same-edge c = search needs
 
--- src/lib.rt:36:22
 shared-slice-read-same-edge : tie.Need-shared-slice-read-same-edge Inv-loop μ-loop
 shared-slice-read-same-edge c = search needs
 
--- src/lib.rt:36:12
 same-edge-requires : tie.Need-same-edge-requires Inv-loop μ-loop
 same-edge-requires c κs = search needs
 
--- src/lib.rt:37:13
 returns : tie.Need-returns Inv-loop μ-loop
 returns c =
     let t = c .before .before .before .before .before .before in
     hit (t .args .w .now) (t .args .at) (edge (t .args .a) (t .args .b)) (c .before .before .before .before .loop .i) (t .args .m) _ (search needs) (t .pre) (c .before .same-edge .ensures) (c .if1 .taken)
 
--- src/lib.rt:39:9
 add-i : tie.Need-add-i Inv-loop μ-loop
 add-i c = search needs
 
--- src/lib.rt:35:5
 loop-less : tie.Need-loop-less Inv-loop μ-loop
 loop-less c = search needs
 
--- src/lib.rt:35:5
 loop-again : tie.Need-loop-again Inv-loop μ-loop
 loop-again c =
     let t = c .before .before .before .before .before .before in
     (search needs, pass (t .args .w .now) (t .args .at) (edge (t .args .a) (t .args .b)) (c .before .before .before .before .loop .i) (t .args .m) _ (search needs) (t .pre) (c .before .before .before .before .loop .inv .1) (c .before .same-edge .ensures) (c .if1 .left))
 
--- src/lib.rt:30:1
 returns-2 : tie.Need-returns-2 Inv-loop μ-loop
 returns-2 c =
     let t = c .before .before .before in

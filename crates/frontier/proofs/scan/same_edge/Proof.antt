@@ -1,5 +1,4 @@
 use Rattle.frontier.proofs.Scanning.{same-straight, same-crossed}
-use native.Mathlib.Omega.{arith}
 use borrow.Author.Needs.{needs}
 use Rattle.frontier.proofs.scan.same_edge.Statement.{statement}
 use Rattle.frontier.proofs.scan.same_edge.Tie as tie
@@ -7,19 +6,15 @@ use Rattle.frontier.proofs.scan.same_edge.Reads as reads
 use Rattle.frontier.proofs.scan.same_edge.Lts as lts
 use Rattle.frontier.proofs.scan.both.Reads as both-reads
 
--- src/lib.rt:23:8
 both-requires : tie.Need-both-requires
 both-requires c κs = search needs
 
--- src/lib.rt:24:9
 returns : tie.Need-returns
 returns c = same-straight _ _ _ _ (c .before .both .ensures) (c .if1 .taken)
 
--- src/lib.rt:26:5
 both-requires-2 : tie.Need-both-requires-2
 both-requires-2 c κs = search needs
 
--- src/lib.rt:18:1
 returns-2 : tie.Need-returns-2
 returns-2 c = same-crossed _ _ _ _ _ (c .before .before .both .ensures) (c .before .if1 .left) (c .both2 .ensures)
 
