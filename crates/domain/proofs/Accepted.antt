@@ -1,17 +1,17 @@
 -- What holds of a call's arguments once its checks have passed. Assumes nothing.
-use mathlib.Core.Path.{_≡_, refl, sym, ap, _∙_}
-use mathlib.Core.Bool.{Bool, true, false, cond}
+use mathlib.Core.Path.{_≡_, refl}
+use mathlib.Core.Bool.{Bool, true, false}
 use mathlib.Core.List.{List, [], _∷_}
-use Prim.Native.Nat.{ℕ, suc, _+_, _*_, _/_, _%_, _≤_, _<_, min}
+use Prim.Native.Nat.{ℕ, suc, _/_, _%_, _≤_, _<_, min}
 use native.Mathlib.Nat.{min-le-left, min-le-right}
 use native.Mathlib.Omega.{arith}
-use lib.ListN.{length, getD}
+use lib.ListN.{length}
 use lib.Ieee.{Float, neg}
 use borrow.Author.Tests.{leb-true, eqb-true}
-use Rattle.domain.specs.Range.{inside, leading, listInside, firstOutside, farthest, largest, percentileInside}
+use Rattle.domain.specs.Range.{leading, listInside, firstOutside, farthest, largest, percentileInside}
 use Rattle.domain.specs.Settings.{firstFailing, settingTests, firstBadSetting}
-use Rattle.domain.specs.Refusals.{Check, check, pointCheck, settingCheck, firstRefusal, sizeChecks, roomy, firstBadPoint, estimateRefusal, reconstructRefusal}
-use Rattle.domain.specs.Accepted.{Slots, Within, Cloud, Room, Settled, AcceptedEstimate, AcceptedReconstruct}
+use Rattle.domain.specs.Refusals.{check, pointCheck, settingCheck, roomy, firstBadPoint, estimateRefusal, reconstructRefusal}
+use Rattle.domain.specs.Accepted.{Slots, Within, Cloud, Settled, AcceptedEstimate, AcceptedReconstruct}
 use Rattle.domain.specs.declared.BallPivotingConfig.{BallPivotingConfig}
 use Rattle.domain.proofs.Range.{leading-inside}
 use Rattle.domain.proofs.Refusals.{both, Sized, check-accepted, size-accepted, roomy-room}

@@ -1,14 +1,13 @@
 -- Laws of `leading`, by which a loop over the values finds it, and what it says of each value. Assumes nothing.
-use mathlib.Core.Path.{_≡_, refl, sym, ap, _∙_, subst}
+use mathlib.Core.Path.{_≡_, refl, sym, ap, _∙_}
 use mathlib.Core.Bool.{Bool, true, false, cond, _&&_}
 use mathlib.Core.List.{List, [], _∷_}
-use Prim.Native.Nat.{ℕ, zero, suc, _+_, _-_, _≤_, _<_}
+use Prim.Native.Nat.{ℕ, zero, suc, _+_, _≤_, _<_}
 use native.Mathlib.Nat.{not-suc-le-zero, le-of-suc-le-suc}
 use native.Mathlib.Omega.{arith}
 use native.Mathlib.Numerals.{add-one}
-use lib.Dec.{T}
 use lib.ListN.{length, drop, getD, drop-of-length-le}
-use lib.Ieee.{Float, nan, inf, fin, le, lt, eq}
+use lib.Ieee.{Float, nan, le, lt, eq}
 use Rattle.domain.specs.Range.{inside, leading}
 
 module _ (lo hi : Float) where

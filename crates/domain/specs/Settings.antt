@@ -1,7 +1,7 @@
 -- The scope's settings, their ranges in its order, and those of `ball_pivoting_from_normals`. Definitions only.
 use Prim.Native.Nat.{ℕ, suc}
 use mathlib.Core.Bool.{Bool, true, cond}
-use mathlib.Core.List.{List, [], _∷_, _++_}
+use mathlib.Core.List.{List, [], _∷_}
 use lib.Ieee.{Float}
 use Rattle.numbers.specs.Rounded.{f32}
 use Rattle.domain.specs.Range.{inside, listInside}
