@@ -51,6 +51,13 @@ pub fn field_at(s: &[u8], at: usize, end: u8) -> NumberRead
     }
 }
 
+// The radius line.
+pub fn radius_at(s: &[u8], at: usize) -> NumberRead
+    ensures { λ r. ⌜ numberMeans (now (s .entry)) r ≡ field 10 (drop at (now (s .entry))) ⌝ }
+{
+    field_at(s, at, LINE_FEED)
+}
+
 // Three numbers, of which the last is ended by the byte last.
 pub fn triple_at(s: &[u8], at: usize, last: u8) -> TripleRead
     ensures { λ r. ⌜ tripleMeans (now (s .entry)) r ≡ triple last (drop at (now (s .entry))) ⌝ }
