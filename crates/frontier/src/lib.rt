@@ -5,7 +5,7 @@ mod scan;
 ghost use mathlib.Core.Path.{_≡_};
 ghost use mathlib.Core.Option.{some};
 ghost use mathlib.Core.List.{[], _∷_};
-ghost use lib.ListN.{replicate};
+ghost use lib.ListN.{replicate, take};
 ghost use Prim.Native.Nat.{_+_, _*_, _≤_, _<_};
 ghost use Rattle.regions.specs.Regions.{usedAt, frontierAt};
 ghost use Rattle.patch.specs.Count.{any};
@@ -82,6 +82,7 @@ fn pop_frontier(w: &mut [u32], n: usize, count: usize) -> u32
 pub fn pop(w: &mut [u32], n: usize, c: Counts) -> Popped
     requires { ⌜ Ready n c (now w) × (0 < c .frontier) ⌝ }
     ensures { λ r. ⌜ Pops n c (now (w .entry)) (r .entry) (r .counts) (now (w .exit)) ⌝ }
+    ensures { λ _. ⌜ take (usedAt n) (now (w .exit)) ≡ take (usedAt n) (now (w .entry)) ⌝ }
 {
     let count = c.frontier;
     let entry = pop_frontier(w, n, count);
@@ -165,6 +166,7 @@ fn add_processed(w: &mut [u32], n: usize, count: usize, entry: u32)
 pub fn mark_processed(w: &mut [u32], n: usize, c: Counts, entry: u32) -> Counts
     requires { ⌜ Ready n c (now w) × (c .processed < 2 * n) ⌝ }
     ensures { λ r. ⌜ TakesAside n (pivoted (decode entry)) c (now (w .entry)) r (now (w .exit)) ⌝ }
+    ensures { λ _. ⌜ take (usedAt n) (now (w .exit)) ≡ take (usedAt n) (now (w .entry)) ⌝ }
 {
     let count = c.processed;
     add_processed(w, n, count, entry);
@@ -199,6 +201,7 @@ pub fn lay_pivot(
 ) -> Counts
     requires { ⌜ Room n c (now w) a b k ⌝ }
     ensures { λ r. ⌜ Takes n (met (edge a b) (some k)) c (now (w .entry)) (now (faces .entry)) r (now (w .exit)) (now (faces .exit)) ⌝ }
+    ensures { λ _. ⌜ take (usedAt n) (now (w .exit)) ≡ take (usedAt n) (now (w .entry)) ⌝ }
 {
     let count = c.faces;
     put_face(faces, count, a, b, k);
@@ -222,6 +225,7 @@ pub fn lay_seed(
 ) -> Counts
     requires { ⌜ Room n c (now w) i j k ⌝ }
     ensures { λ r. ⌜ Takes n (seeded (i, j, k)) c (now (w .entry)) (now (faces .entry)) r (now (w .exit)) (now (faces .exit)) ⌝ }
+    ensures { λ _. ⌜ take (usedAt n) (now (w .exit)) ≡ take (usedAt n) (now (w .entry)) ⌝ }
 {
     let count = c.faces;
     put_face(faces, count, i, j, k);
