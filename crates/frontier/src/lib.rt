@@ -178,7 +178,7 @@ pub fn mark_processed(w: &mut [u32], n: usize, c: Counts, entry: u32) -> Counts
 
 // The face a, b, k goes behind the `count` faces in the slice, if it fits there.
 pub fn put_face(faces: &mut [u32], count: usize, a: u32, b: u32, k: u32)
-    requires { ⌜ count ≤ 4096 ⌝ }
+    requires { ⌜ count ≤ 10000 ⌝ }
     ensures { λ _. ⌜ Wrote count (face a b k) (now (faces .entry)) (now (faces .exit)) ⌝ }
 {
     let i = 3 * count;

@@ -1,33 +1,21 @@
 -- Laws of faces laid into a slice: nothing more, past the limit, one more, and one lot after the other. Assumes nothing.
-use Prim.Native.Nat.{ℕ, zero, suc, _+_, _*_, _≤_, _<_}
-use mathlib.Core.Path.{_≡_, refl, sym, ap, ap₂, subst, _∙_}
+use Prim.Native.Nat.{ℕ, zero, suc, _+_, _≤_, _<_}
+use mathlib.Core.Path.{_≡_, refl, sym, ap, subst, _∙_}
 use mathlib.Core.List.{List, [], _∷_, _++_, append-assoc, append-nil}
 use native.Mathlib.Omega.{arith}
-use lib.ListN.{length, set, take, length-append}
+use lib.ListN.{length, take, length-append}
 use lib.Seq.{take-all, take-append-le}
-use Rattle.patch.specs.Lay.{Face, face}
+use Rattle.patch.specs.Lay.{Face}
 use Rattle.patch.specs.View.{written}
-use Rattle.patch.proofs.View.{written-none, written-more, written-full, length-written}
-use Rattle.plain.specs.Laid.{Wrote, Holds, Lays}
+use Rattle.patch.proofs.View.{written-none}
+use Rattle.frontier.specs.Work.{Wrote}
+use Rattle.plain.specs.Laid.{Holds, Lays}
 
 take-again : {A : Type 0} (m : ℕ) (xs ys : List A) → take m (take m xs ++ ys) ≡ take m (xs ++ ys)
 take-again zero xs ys = refl
 take-again (suc m) [] ys = refl
 take-again {A} (suc m) (x ∷ xs) ys = ap (λ (l : List A). x ∷ l) (take-again m xs ys)
 
--- ---- one face in the slice
-module _ (count a b c : ℕ) (slice : List ℕ) where
-  pub wrote-none : length slice < 3 * count + 3 → Wrote count (face a b c) slice slice
-  wrote-none short lent fs e h =
-      let full : length lent < 3 * length fs + 3 = omega (arith, ap length h, length-written fs lent) in
-      h ∙ written-full fs (face a b c) lent full
-
-  pub wrote-more : 3 * count + 3 ≤ length slice → Wrote count (face a b c) slice (set (set (set slice (3 * count) a) (3 * count + 1) b) (3 * count + 2) c)
-  wrote-more long lent fs e h =
-      let room : 3 * length fs + 3 ≤ length lent = omega (arith, ap length h, length-written fs lent) in
-      ap₂ (λ (l : List ℕ) (n : ℕ). set (set (set l (3 * n) a) (3 * n + 1) b) (3 * n + 2) c) h (sym e) ∙ written-more fs (face a b c) lent room
-
--- ---- lots of faces
 held : {fs gs : List Face} {lent slice : List ℕ} {count : ℕ} → fs ≡ gs → Holds fs lent slice count → Holds gs lent slice count
 held {lent = lent} {slice = slice} {count = count} e h = subst (λ (l : List Face). Holds l lent slice count) e h
 

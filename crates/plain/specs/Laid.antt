@@ -12,10 +12,6 @@ pub record Ready (points : List Float) (i : ℕ) : Type 0 where
   pub few : i < 4096
   pub there : 3 * i + 2 < length points
 
--- the face f goes behind `count` faces
-abbrev pub Wrote : ℕ → Face → List ℕ → List ℕ → Type 0
-Wrote count f slice back = (lent : List ℕ) (fs : List Face) → length fs ≡ count → slice ≡ written fs lent → back ≡ written (fs ++ (f ∷ [])) lent
-
 -- the faces fs, `count` of them, have been laid into a slice that was lent
 pub record Holds (fs : List Face) (lent slice : List ℕ) (count : ℕ) : Type 0 where
   pub counted : count ≡ length fs

@@ -1,6 +1,4 @@
 // The plain path: faces among near points, where there are no radii to pivot at.
-mod put;
-
 use triangle::Point3f;
 ghost use mathlib.Core.Path.{_≡_};
 ghost use mathlib.Core.Bool.{cond, _&&_};
@@ -75,7 +73,7 @@ fn try_face(
     if !is_valid(points, radius, i, a, b) {
         return count;
     }
-    put::put_face(faces, count, i as u32, a as u32, b as u32);
+    frontier::put_face(faces, count, i as u32, a as u32, b as u32);
     count + 1
 }
 
