@@ -75,7 +75,7 @@ module _ {R : Type 0} (n : ℕ) (rules : Rules R) (order : Pop) (fair : Fair n r
 
     judged-looked : (b : Bool) → any (same e) (s .processed) ≡ b → Looked n s (judged rules order r b e (popped rest s))
     unfolding judged popped
-    judged-looked true h = skip-looked n s inv e rest pop h
+    judged-looked true h = skip-looked n s inv e rest pop h _ _ (omega arith) (omega arith)
     judged-looked false h = met-looked h (rules .pivotOf r (s .used) e) refl
 
     pub look-looked : Looked n s (look rules order r e rest s)

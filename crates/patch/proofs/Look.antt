@@ -11,10 +11,11 @@ use borrow.Author.Tests.{eqb-true}
 use lib.ListN.{length, length-append}
 use Rattle.patch.specs.Count.{bit, count, any}
 use Rattle.patch.specs.Lay.{Edge, same, State, seedsOf, Rules, Pop, popped, met, pivoted, judged, look, next, run, Free}
-use Rattle.patch.proofs.Counts.{either, pigeons}
+use Rattle.patch.proofs.Counts.{either, count-all, pigeons}
+use Rattle.patch.proofs.Edges.{same-refl}
 use Rattle.patch.proofs.Inv.{Inv}
 use Rattle.patch.proofs.Looks.{miss-looked}
-use Rattle.patch.proofs.Laying.{room}
+use Rattle.patch.proofs.Laying.{Room, room, entry-below}
 
 module _ {R : Type 0} (rules : Rules R) (order : Pop) (r : R) where
   pub look-skip : (e : Edge) (rest : List Edge) (s : State) → any (same e) (s .processed) ≡ true → look rules order r e rest s ≡ popped rest s
@@ -32,6 +33,15 @@ module _ {R : Type 0} (rules : Rules R) (order : Pop) (r : R) where
 pub met-none : (e : Edge) (s : State) → met e none s ≡ s
 unfolding met
 met-none e s = refl
+
+-- before an edge is marked as processed there is room for it
+pub pivoted-room : (n : ℕ) (e : Edge) (t : State) → Room n (pivoted e t) → Room n t × (length (t .processed) + 1 ≤ 2 * n)
+unfolding pivoted
+pivoted-room n e t r =
+    let l = length-append (t .processed) (e ∷ []) in (
+      record { faces = r .faces; used = r .used; frontier = r .frontier; processed = omega (arith, r .processed); looks = r .looks; pivots = omega (arith, r .pivots) },
+      omega (arith, r .processed),
+    )
 
 module _ (n : ℕ) (s : State) (inv : Inv n s) where
   -- where an unused point is left, a face more and its entries fit
@@ -54,7 +64,20 @@ module _ (n : ℕ) (s : State) (inv : Inv n s) where
     pub face-room : (length (s .faces) + 2 * seedsOf s + 1 ≤ n) × (length (s .frontier) + 3 ≤ 3 * n)
     face-room = let few = pigeons n (k ∷ inv .points) listed-once listed-below in omega (arith, inv .points-count, inv .looked)
 
-  -- where an entry is not processed, there is room to mark it
-  pub pivot-room : (e : Edge) (rest : List Edge) → ((p : Edge → Bool) → count p (s .frontier) ≡ bit (p e) + count p rest) → any (same e) (s .processed) ≡ false → length (s .processed) + 1 ≤ 2 * n
-  unfolding pivoted met popped
-  pivot-room e rest pop h = omega (arith, room n (pivoted e (met e none (popped rest s))) (miss-looked n s inv e rest pop h .inv) .processed, length-append (s .processed) (e ∷ []))
+  module _ (e : Edge) (rest : List Edge) (pop : (p : Edge → Bool) → count p (s .frontier) ≡ bit (p e) + count p rest) where
+    -- the popped entry's points are points of the cloud
+    pub popped-below : (e .v1 < n) × (e .v2 < n)
+    popped-below = entry-below n s inv e (omega (arith, pop (same e), ap bit (same-refl e)))
+
+    -- what holds of the lists' lengths once it is out
+    pub popped-room : Room n (popped rest s)
+    unfolding popped
+    popped-room =
+        let r = room n s inv in
+        let out : length (s .frontier) ≡ suc (length rest) = omega (arith, pop (λ x. true), count-all (s .frontier), count-all rest) in
+        record { faces = r .faces; used = r .used; frontier = omega arith; processed = r .processed; looks = omega (arith, inv .looked, r .faces); pivots = r .pivots }
+
+    -- if it is not processed, there is room to mark it
+    pub pivot-room : any (same e) (s .processed) ≡ false → length (s .processed) + 1 ≤ 2 * n
+    unfolding popped met
+    pivot-room h = pivoted-room n e (met e none (popped rest s)) (room n (pivoted e (met e none (popped rest s))) (miss-looked n s inv e rest pop h .inv)) .1

@@ -56,14 +56,15 @@ module _ (n : ℕ) (s : State) (inv : Inv n s) where
     one-out : length (s .frontier) ≡ suc (length rest)
     one-out = omega (arith, pop (λ x. true), count-all (s .frontier), count-all rest)
 
-    pub skip-looked : any (same e) (s .processed) ≡ true → Looked n s (popped rest s)
-    unfolding popped
-    skip-looked seen =
+    pub skip-looked : any (same e) (s .processed) ≡ true → (looks pivots : ℕ) → looks ≡ suc (s .looks) → pivots ≡ s .pivots
+        → Looked n s (record { faces = s .faces; seedFlags = s .seedFlags; used = s .used; frontier = rest; processed = s .processed; looks = looks; pivots = pivots })
+    skip-looked seen looks pivots l q =
         let z : bit (waiting (s .processed) e) ≡ 0 = rw seen in
         record {
-          inv = still n s inv rest (s .processed) (suc (s .looks)) (s .pivots)
+          inv =
+              still n s inv rest (s .processed) looks pivots
               (λ g. edge-skip (count (has g) (s .faces)) (count (same g) rest) (count (same g) (s .processed)) (count (same g) (inv .edges)) (bit (same g e)) (omega (arith, inv .edgewise g, pop (same g))))
-              (inv .processed-few)
+              (omega (arith, inv .processed-few))
               (omega (arith, inv .looked, one-out))
               (omega (arith, inv .pivoted, pop (waiting (s .processed))));
           falls = omega (arith, one-out);
@@ -79,7 +80,7 @@ module _ (n : ℕ) (s : State) (inv : Inv n s) where
       pub miss-looked : Looked n s (pivoted e (met e none (popped rest s)))
       unfolding pivoted met popped
       miss-looked = record {
-        inv = missed n s inv hand rest from-hand fresh (suc (s .looks)) (suc (s .pivots)) (omega arith) (omega arith);
+        inv = missed n s inv hand rest from-hand fresh _ _ (omega arith) (omega arith);
         falls = omega (arith, one-out);
       }
 
@@ -145,7 +146,7 @@ module _ (n : ℕ) (s : State) (inv : Inv n s) where
         pub grow-looked : Looked n s (pivoted e (met e (some k) (popped rest s)))
         unfolding pivoted met withFace popped
         grow-looked = record {
-          inv = grown n s inv hand rest from-hand fresh false (k ∷ []) next-face comes (suc (s .looks)) (suc (s .pivots)) (omega arith) (omega arith);
+          inv = grown n s inv hand rest from-hand fresh false (k ∷ []) next-face comes _ _ (omega arith) (omega arith);
           falls = omega (arith, one-out, entries-length n s inv hand rest from-hand fresh false (k ∷ []) next-face comes, length-append (s .faces) (next-face ∷ []));
         }
 
