@@ -11,33 +11,28 @@ use Rattle.domain.specs.declared.Refusal.{Refusal}
 use Rattle.domain.specs.Refusals.{estimateRefusal}
 use Rattle.domain.specs.Accepted.{AcceptedEstimate}
 use Rattle.domain.proofs.Accepted.{accepted-estimate}
-use Rattle.estimate.specs.declared.Estimate.{Estimate}
-use Rattle.estimate.specs.Estimate.{optimalRadius, accepted, estimate, estimateOf, clearedIf}
+use Rattle.estimate.specs.Estimate.{optimalRadius, accepted, estimate, estimateOf, clearedIf, Estimated}
 
 module _ (pts : List Float) (p : Float) (words : List ℕ) (floats : List Float) where
   abbrev passes : Bool
   passes = accepted pts p (length words) (length floats)
 
-  -- a result and the work slices at the end, as the contract has them
-  abbrev Outcome : Estimate → List ℕ → List Float → Type 0
-  Outcome r u f = (r ≡ estimateOf pts p (length words) (length floats)) × ((u ≡ clearedIf passes 0 words) × (f ≡ clearedIf passes (f32 0) floats))
-
   module _ (r : Refusal) (e : r ≡ estimateRefusal pts p (length words) (length floats)) where
     answer-is : r .answer ≡ estimateRefusal pts p (length words) (length floats) .answer
     answer-is = ap (λ (q : Refusal). q .answer) e
 
-    pub outcome-refused : (r .answer ≡ 0 → ⊥) → Outcome (estimate (r .answer) (r .detail) (f32 0)) words floats
+    pub outcome-refused : (r .answer ≡ 0 → ⊥) → Estimated pts p words floats (estimate (r .answer) (r .detail) (f32 0)) words floats
     unfolding estimateOf clearedIf
     outcome-refused h =
         let no : passes ≡ false = ne-eqb (estimateRefusal pts p (length words) (length floats) .answer) 0 (λ z. h (answer-is ∙ z)) in
-        (ap (λ (q : Refusal). estimate (q .answer) (q .detail) (f32 0)) e ∙ rw no, (rw no, rw no))
+        record { result = ap (λ (q : Refusal). estimate (q .answer) (q .detail) (f32 0)) e ∙ rw no; words-left = rw no; floats-left = rw no }
 
     pub outcome-passed : (d : Float) (u : List ℕ) (f : List Float) → r .answer ≡ 0 → d ≡ optimalRadius pts (length pts / 3) p → u ≡ replicate (length words) 0 → f ≡ replicate (length floats) (f32 0)
-        → Outcome (estimate 0 0 d) u f
+        → Estimated pts p words floats (estimate 0 0 d) u f
     unfolding estimateOf clearedIf
     outcome-passed d u f h ed eu ef =
         let yes : passes ≡ true = eq-eqb (estimateRefusal pts p (length words) (length floats) .answer) 0 (sym answer-is ∙ h) in
-        (ap (estimate 0 0) ed ∙ rw yes, (rw yes eu, rw yes ef))
+        record { result = ap (estimate 0 0) ed ∙ rw yes; words-left = rw yes eu; floats-left = rw yes ef }
 
     pub in-domain : r .answer ≡ 0 → AcceptedEstimate pts p (length words) (length floats)
     in-domain h = accepted-estimate pts p (length words) (length floats) (sym answer-is ∙ h)

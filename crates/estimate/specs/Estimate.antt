@@ -1,6 +1,7 @@
 -- The scope's Estimate: `estimate_optimal_radius`. Definitions only.
 use Prim.Native.Nat.{ℕ, zero, suc, _+_, _/_, min, max}
 use mathlib.Core.Bool.{Bool, false, cond}
+use mathlib.Core.Path.{_≡_}
 use mathlib.Core.List.{List, [], _∷_}
 use lib.Dec.{eqb}
 use lib.ListN.{length, replicate}
@@ -70,3 +71,9 @@ estimateOf pts p words floats =
 -- a work slice after the call: all zeros once the checks have passed, else untouched
 unfoldable pub clearedIf : {A : Type 0} → Bool → A → List A → List A
 clearedIf passed z w = cond passed (replicate (length w) z) w
+
+-- what a call leaves: its result, and the two work slices whole
+pub record Estimated (pts : List Float) (p : Float) (words : List ℕ) (floats : List Float) (r : Estimate) (words' : List ℕ) (floats' : List Float) : Type 0 where
+  pub result : r ≡ estimateOf pts p (length words) (length floats)
+  pub words-left : words' ≡ clearedIf (accepted pts p (length words) (length floats)) 0 words
+  pub floats-left : floats' ≡ clearedIf (accepted pts p (length words) (length floats)) (f32 0) floats

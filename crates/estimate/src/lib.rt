@@ -1,10 +1,7 @@
 // The radius estimate.
 mod samples;
 
-ghost use mathlib.Core.Path.{_≡_};
-ghost use lib.ListN.{length};
-ghost use Rattle.numbers.specs.Rounded.{f32};
-ghost use Rattle.estimate.specs.Estimate.{optimalRadius, accepted, estimateOf, clearedIf};
+ghost use Rattle.estimate.specs.Estimate.{Estimated};
 
 // The answer's number, its detail, and the estimate, which is 0 at a refusal.
 #[repr(C)]
@@ -21,9 +18,7 @@ pub fn estimate_optimal_radius(
     work_u32: &mut [u32],
     work_f32: &mut [f32],
 ) -> Estimate
-    ensures answer { λ r. ⌜ r ≡ estimateOf (now (points .entry)) percentile (length (now («work_u32» .entry))) (length (now («work_f32» .entry))) ⌝ }
-    ensures words { λ _. ⌜ now («work_u32» .exit) ≡ clearedIf (accepted (now (points .entry)) percentile (length (now («work_u32» .entry))) (length (now («work_f32» .entry)))) 0 (now («work_u32» .entry)) ⌝ }
-    ensures floats { λ _. ⌜ now («work_f32» .exit) ≡ clearedIf (accepted (now (points .entry)) percentile (length (now («work_u32» .entry))) (length (now («work_f32» .entry)))) (f32 0) (now («work_f32» .entry)) ⌝ }
+    ensures { λ r. ⌜ Estimated (now (points .entry)) percentile (now («work_u32» .entry)) (now («work_f32» .entry)) r (now («work_u32» .exit)) (now («work_f32» .exit)) ⌝ }
 {
     let refusal = domain::refusal_of_estimate(points, percentile, work_u32.len(), work_f32.len());
     if refusal.answer != 0 {
