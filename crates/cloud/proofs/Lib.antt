@@ -4,6 +4,7 @@ pub mod Numeral
 pub mod Means
 pub mod Shorter
 pub mod Lines
+pub mod LineFeeds
 pub mod Stored
 pub mod Answer
 pub mod Examples
