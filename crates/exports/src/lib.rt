@@ -6,6 +6,8 @@ ghost use Rattle.numbers.specs.Cut.{cut, ceil};
 ghost use Rattle.numbers.specs.Acos.{acos};
 ghost use Rattle.triangle.specs.Vector.{point};
 ghost use Rattle.triangle.specs.Quality.{circumradius, quality, acceptable};
+ghost use Rattle.estimate.specs.Estimate.{Estimated};
+use estimate::Estimate;
 use triangle::TriangleQuality;
 
 #[no_mangle]
@@ -116,4 +118,16 @@ pub extern "C" fn yb_is_triangle_acceptable(
         quality_threshold,
         max_edge_factor,
     )
+}
+
+#[no_mangle]
+pub extern "C" fn yb_estimate_optimal_radius(
+    points: &[f32],
+    percentile: f32,
+    work_u32: &mut [u32],
+    work_f32: &mut [f32],
+) -> Estimate
+    ensures { λ r. ⌜ Estimated (now (points .entry)) percentile (now («work_u32» .entry)) (now («work_f32» .entry)) r (now («work_u32» .exit)) (now («work_f32» .exit)) ⌝ }
+{
+    estimate::estimate_optimal_radius(points, percentile, work_u32, work_f32)
 }
