@@ -1,0 +1,75 @@
+// The spatial index. Everything that it keeps stands in the u32 work slice, in the regions of the order and of the cells; see specs/Index.antt.
+mod cells;
+mod order;
+mod search;
+
+use triangle::Point3f;
+ghost use mathlib.Core.Path.{_≡_};
+ghost use mathlib.Core.Bool.{cond};
+ghost use Prim.Native.Nat.{_+_, _*_, _≤_, _<_};
+ghost use lib.ListN.{length, take, drop};
+ghost use Rattle.grid.specs.Grid.{boundsMin, gridOf, cellOf, neighbors};
+ghost use Rattle.grid.specs.Index.{Indexed};
+
+// Cells are cubes of side cell_size, counted from the cloud's least coordinates.
+pub struct SpatialGrid {
+    pub cell_size: f32,
+    pub bounds_min: Point3f,
+}
+
+pub struct Cell {
+    pub x: u32,
+    pub y: u32,
+    pub z: u32,
+}
+
+// The least coordinate of n points on each axis.
+pub fn bounds_min(points: &[f32], n: usize) -> Point3f
+    requires { ⌜ 3 * n ≤ length (now points) ⌝ }
+    ensures { λ r. ⌜ r ≡ boundsMin (now (points .entry)) n ⌝ }
+{
+    let x = cells::least_from(points, 0, n);
+    let y = cells::least_from(points, 1, n);
+    let z = cells::least_from(points, 2, n);
+    Point3f { x: x, y: y, z: z }
+}
+
+// The cell of a place.
+pub fn cell_of(grid: SpatialGrid, p: Point3f) -> Cell
+    ensures { λ r. ⌜ r ≡ cellOf grid p ⌝ }
+{
+    let x = cells::cell_on(grid.cell_size, grid.bounds_min.x, p.x);
+    let y = cells::cell_on(grid.cell_size, grid.bounds_min.y, p.y);
+    let z = cells::cell_on(grid.cell_size, grid.bounds_min.z, p.z);
+    Cell { x: x, y: y, z: z }
+}
+
+// Indexes n points: their cells, and the order in which they are looked through.
+pub fn build_spatial_grid(points: &[f32], n: usize, cell_size: f32, indexed: bool, w: &mut [u32]) -> SpatialGrid
+    requires { ⌜ (n ≤ 4096) × (3 * n ≤ length (now points)) × (24 * n + 64 ≤ length (now w)) ⌝ }
+    ensures { λ r. ⌜ (r ≡ gridOf «cell_size» (now (points .entry)) n)
+        × Indexed r indexed (now (points .entry)) n (now (w .exit))
+        × (drop (4 * n) (now (w .exit)) ≡ drop (4 * n) (now (w .entry))) ⌝ }
+{
+    let grid = SpatialGrid { cell_size: cell_size, bounds_min: bounds_min(points, n) };
+    cells::fill_cells(points, n, grid, w);
+    if indexed {
+        order::by_cell(n, w);
+    } else {
+        order::by_number(n, w);
+    }
+    grid
+}
+
+// Writes the numbers of the neighbours of a place at a radius and returns how many there are. The points are those that were indexed.
+pub fn find_neighbors(points: &[f32], w: &mut [u32], n: usize, grid: SpatialGrid, indexed: bool, place: Point3f, radius: f32) -> usize
+    requires { ⌜ Indexed grid indexed (now points) n (now w) ⌝ }
+    ensures { λ r. ⌜ (take r (drop (4 * n) (now (w .exit))) ≡ neighbors indexed grid (now (points .entry)) n place radius)
+        × (r ≤ n)
+        × (take (4 * n) (now (w .exit)) ≡ take (4 * n) (now (w .entry)))
+        × (drop (5 * n) (now (w .exit)) ≡ drop (5 * n) (now (w .entry))) ⌝ }
+{
+    let range = numbers::ceil_cut(radius / grid.cell_size);
+    let cell = cell_of(grid, place);
+    search::write_near(w, n, indexed, range, cell)
+}
