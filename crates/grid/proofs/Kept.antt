@@ -83,8 +83,10 @@ cell-of-drop w u n j e = rw (at (3 * j), at₁, at₂)
   where
     at : (k : ℕ) → getD u (n + k) 0 ≡ getD w (n + k) 0
     at k = sym (getD-drop n u k 0) ∙ ap (λ (l : List ℕ). getD l k 0) e ∙ getD-drop n w k 0
+
     at₁ : getD u (n + 3 * j + 1) 0 ≡ getD w (n + 3 * j + 1) 0
     at₁ = let q : n + 3 * j + 1 ≡ n + (3 * j + 1) = omega arith in rw q (sym (getD-drop n u (3 * j + 1) 0) ∙ ap (λ (l : List ℕ). getD l (3 * j + 1) 0) e ∙ getD-drop n w (3 * j + 1) 0)
+
     at₂ : getD u (n + 3 * j + 2) 0 ≡ getD w (n + 3 * j + 2) 0
     at₂ = let q : n + 3 * j + 2 ≡ n + (3 * j + 2) = omega arith in rw q (sym (getD-drop n u (3 * j + 2) 0) ∙ ap (λ (l : List ℕ). getD l (3 * j + 2) 0) e ∙ getD-drop n w (3 * j + 2) 0)
 

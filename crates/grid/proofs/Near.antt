@@ -18,9 +18,15 @@ use Rattle.grid.proofs.Sequence.{order-of-below, below-word}
 
 -- ---- one point
 module _ (indexed : Bool) (range : ℕ) (c : Cell) (n : ℕ) where
-  pub keep-one : (w : List ℕ) (j : ℕ) (b : Bool) → b ≡ (not indexed || inRange range c (cellIn w n j)) → keepIn indexed range c w n (j ∷ []) ≡ cond b (j ∷ []) []
+  keep-one : (w : List ℕ) (j : ℕ) (b : Bool) → b ≡ (not indexed || inRange range c (cellIn w n j)) → keepIn indexed range c w n (j ∷ []) ≡ cond b (j ∷ []) []
   unfolding keepIn
   keep-one w j b e = ap (λ (t : Bool). cond t (j ∷ []) []) (sym e)
+
+  pub keep-hit : (w xs : List ℕ) (j : ℕ) (b : Bool) → b ≡ (not indexed || inRange range c (cellIn w n j)) → b ≡ true → xs ++ (j ∷ []) ≡ xs ++ keepIn indexed range c w n (j ∷ [])
+  keep-hit w xs j b e t = ap (λ (ys : List ℕ). xs ++ ys) (sym (keep-one w j b e ∙ ap (λ (s : Bool). cond s (j ∷ []) []) t))
+
+  pub keep-miss : (w xs : List ℕ) (j : ℕ) (b : Bool) → b ≡ (not indexed || inRange range c (cellIn w n j)) → b ≡ false → xs ≡ xs ++ keepIn indexed range c w n (j ∷ [])
+  keep-miss w xs j b e t = sym (append-nil xs) ∙ ap (λ (ys : List ℕ). xs ++ ys) (sym (keep-one w j b e ∙ ap (λ (s : Bool). cond s (j ∷ []) []) t))
 
   keep-append : (w : List ℕ) (xs ys : List ℕ) → keepIn indexed range c w n (xs ++ ys) ≡ keepIn indexed range c w n xs ++ keepIn indexed range c w n ys
   unfolding keepIn

@@ -45,13 +45,22 @@ pub fn cell_of(grid: SpatialGrid, p: Point3f) -> Cell
 }
 
 // Indexes n points: their cells, and the order in which they are looked through.
-pub fn build_spatial_grid(points: &[f32], n: usize, cell_size: f32, indexed: bool, w: &mut [u32]) -> SpatialGrid
+pub fn build_spatial_grid(
+    points: &[f32],
+    n: usize,
+    cell_size: f32,
+    indexed: bool,
+    w: &mut [u32],
+) -> SpatialGrid
     requires { ⌜ (n ≤ 4096) × (3 * n ≤ length (now points)) × (24 * n + 64 ≤ length (now w)) ⌝ }
     ensures { λ r. ⌜ (r ≡ gridOf «cell_size» (now (points .entry)) n)
         × Indexed r indexed (now (points .entry)) n (now (w .exit))
         × (drop (4 * n) (now (w .exit)) ≡ drop (4 * n) (now (w .entry))) ⌝ }
 {
-    let grid = SpatialGrid { cell_size: cell_size, bounds_min: bounds_min(points, n) };
+    let grid = SpatialGrid {
+        cell_size: cell_size,
+        bounds_min: bounds_min(points, n),
+    };
     cells::fill_cells(points, n, grid, w);
     if indexed {
         order::by_cell(n, w);
@@ -62,7 +71,15 @@ pub fn build_spatial_grid(points: &[f32], n: usize, cell_size: f32, indexed: boo
 }
 
 // Writes the numbers of the neighbours of a place at a radius and returns how many there are. The points are those that were indexed.
-pub fn find_neighbors(points: &[f32], w: &mut [u32], n: usize, grid: SpatialGrid, indexed: bool, place: Point3f, radius: f32) -> usize
+pub fn find_neighbors(
+    points: &[f32],
+    w: &mut [u32],
+    n: usize,
+    grid: SpatialGrid,
+    indexed: bool,
+    place: Point3f,
+    radius: f32,
+) -> usize
     requires { ⌜ Indexed grid indexed (now points) n (now w) ⌝ }
     ensures { λ r. ⌜ (take r (drop (4 * n) (now (w .exit))) ≡ neighbors indexed grid (now (points .entry)) n place radius)
         × (r ≤ n)

@@ -18,7 +18,15 @@ fn is_near(w: &[u32], n: usize, indexed: bool, range: u32, c: Cell, j: usize) ->
 }
 
 // Adds the point that stands at k to the neighbours, of which there are `count`, if it is one.
-fn add_near(w: &mut [u32], n: usize, indexed: bool, range: u32, c: Cell, k: usize, count: usize) -> usize
+fn add_near(
+    w: &mut [u32],
+    n: usize,
+    indexed: bool,
+    range: u32,
+    c: Cell,
+    k: usize,
+    count: usize,
+) -> usize
     requires { ⌜ (k < n) × (count ≤ k) × (n ≤ 4096) × (5 * n ≤ length (now w)) × (getD (now w) k 0 < n) ⌝ }
     ensures { λ r. ⌜ (take r (drop (4 * n) (now (w .exit))) ≡ take count (drop (4 * n) (now (w .entry))) ++ keepIn indexed range c (now (w .entry)) n (getD (now (w .entry)) k 0 ∷ []))
         × (r ≤ count + 1)

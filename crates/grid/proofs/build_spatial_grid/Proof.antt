@@ -1,40 +1,28 @@
+-- `grid::build_spatial_grid` meets its contract. Assumes nothing.
+use mathlib.Core.Path.{ap, _∙_}
+use borrow.Author.Needs.{needs}
 use Rattle.triangle.specs.declared.Point3f.{Point3f}
 use Rattle.grid.specs.declared.SpatialGrid.{SpatialGrid}
-use mathlib.Core.Path.{_≡_, refl, sym, ap, _∙_}
-use Prim.Native.Nat.{ℕ, _+_, _-_, _*_, _≤_, _<_}
 use Rattle.grid.proofs.Near.{built}
 use Rattle.grid.proofs.Sequence.{order-indexed, order-plain}
-use borrow.Author.Needs.{needs}
 use Rattle.grid.proofs.build_spatial_grid.Statement.{statement}
 use Rattle.grid.proofs.build_spatial_grid.Tie as tie
-use Rattle.grid.proofs.build_spatial_grid.Reads as reads
-use Rattle.grid.proofs.build_spatial_grid.Lts as lts
-use Rattle.grid.proofs.bounds_min.Reads as bounds-min-reads
-use Rattle.grid.proofs.cells.fill_cells.Reads as fill-cells-reads
-use Rattle.grid.proofs.order.by_cell.Reads as by-cell-reads
-use Rattle.grid.proofs.order.by_number.Reads as by-number-reads
 
--- src/lib.rt:54:64
 bounds-min-requires : tie.Need-bounds-min-requires
 bounds-min-requires c κs = search needs
 
--- src/lib.rt:55:5
 fill-cells-requires : tie.Need-fill-cells-requires
 fill-cells-requires c κs = search needs
 
--- src/lib.rt:57:9
 by-cell-requires : tie.Need-by-cell-requires
 by-cell-requires c κs = search needs
 
--- src/lib.rt:59:9
 by-number-requires : tie.Need-by-number-requires
 by-number-requires c κs = search needs
 
--- src/lib.rt:48:1
 same-length : tie.Need-same-length
 same-length c = search needs
 
--- src/lib.rt:48:1
 returns : tie.Need-returns
 returns c = let s = c .before .before .before .before .before .before .before .before .before .before .before .before in
     let g : SpatialGrid = record { «cell_size» = s .args .cell-size; «bounds_min» = c .before .before .before .before .before .before .before .before .before .bounds-min .result } in
@@ -43,11 +31,9 @@ returns c = let s = c .before .before .before .before .before .before .before .b
     let q = built g (s .args .indexed) (s .args .points .now) (s .args .n) (s .args .w .now) (f .last .1 .1 .1 .0) (o .last .1 .0) (s .pre .0) (s .pre .2) (f .kept .1 .1 .1 .0) (o .kept .1 .0) (f .ensures .0) (f .ensures .1) (o .ensures .0 ∙ order-indexed g (s .args .indexed) (s .args .points .now) (s .args .n) (f .last .1 .1 .1 .0) (f .ensures .0) (c .before .before .before .before .if1 .taken)) (o .ensures .1) in
     (ap (λ (p : Point3f). record { «cell_size» = s .args .cell-size; «bounds_min» = p }) (c .before .before .before .before .before .before .before .before .before .bounds-min .ensures), q .0, q .1)
 
--- src/lib.rt:48:1
 same-length-2 : tie.Need-same-length-2
 same-length-2 c = search needs
 
--- src/lib.rt:48:1
 returns-2 : tie.Need-returns-2
 returns-2 c = let s = c .before .before .before .before .before .before .before .before .before .before .before .before in
     let g : SpatialGrid = record { «cell_size» = s .args .cell-size; «bounds_min» = c .before .before .before .before .before .before .before .before .before .bounds-min .result } in
