@@ -1,6 +1,7 @@
 -- Laws about the definitions of specs/, which the functions' proofs cite.
 pub mod Bytes
 pub mod Numeral
+pub mod Whole
 pub mod Means
 pub mod Shorter
 pub mod Lines

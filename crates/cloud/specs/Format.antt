@@ -25,6 +25,7 @@ unfoldable pub startsWith : ℕ → List ℕ → Bool
 startsWith c [] = false
 startsWith c (b ∷ bs) = eqb b c
 
+-- the bytes 48 to 57
 abbrev pub isDigit : ℕ → Bool
 isDigit b = leb 48 b && leb b 57
 
@@ -48,13 +49,13 @@ whole v (d ∷ ds) = whole (v * 10 + (d - 48)) ds
 
 -- ---- a number
 -- The f32 of a number: its whole part plus (its fraction's digits divided by their power of ten), each step rounded, then the sign.
--- Without a fraction there are 0 digits, which write 0.
+-- Without a fraction there are 0 digits, which write 0, and it is the whole part (`decimal-whole`).
 unfoldable pub decimal : Bool → ℕ → ℕ → ℕ → Float
 decimal negative units parts places =
     let v = ofInt binary32 (pos units) ⊕ (ofInt binary32 (pos parts) ⊘ ofInt binary32 (pos (10 ^ places))) in
     cond negative (neg v) v
 
--- what follows the whole part: a point and 1 to 6 digits, or nothing
+-- what follows the whole part: a point (byte 46) and 1 to 6 digits, or nothing
 unfoldable pub fraction : Bool → ℕ → List ℕ → Parsed Float
 unfolding startsWith digits few whole decimal
 fraction negative units bs =
@@ -69,7 +70,7 @@ magnitude negative bs =
     let count = digits bs in
     cond (few count 5) (fraction negative (whole 0 (take count bs)) (drop count bs)) malformed
 
--- an optional minus, and a magnitude
+-- an optional minus (byte 45), and a magnitude
 unfoldable pub number : List ℕ → Parsed Float
 unfolding startsWith magnitude
 number bs = cond (startsWith 45 bs) (magnitude true (drop 1 bs)) (magnitude false bs)
