@@ -1,5 +1,6 @@
 // One case: what the port gives against what the Rust gave.
 use super::bits;
+use super::estimates;
 ghost use Prim.Native.Nat.{_<_};
 use triangle::Point3f;
 use triangle::TriangleQuality;
@@ -81,6 +82,7 @@ fn judge_kind(words: &[u32], kind: u32) -> Verdict {
             triangle::compute_triangle_quality(point(words, 2), point(words, 5), point(words, 8)),
         )),
         6 => verdict_of(as_number(is_acceptable(words)) == bits::word(words, 12)),
+        7 => verdict_of(estimates::is_equal(words)),
         9 => verdict_of(is_float(
             words,
             11,

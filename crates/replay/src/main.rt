@@ -1,7 +1,9 @@
 // Replays the stored answers of the Rust, which come on standard input, and prints how many the port gives too.
 // The list's own head says how it was made and what its lines mean.
 mod bits;
+mod estimates;
 mod judge;
+mod lent;
 mod lines;
 
 use lines::State;
