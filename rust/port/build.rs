@@ -16,6 +16,7 @@ const CALLS: &[&str] = &[
     "yb_is_triangle_acceptable",
     "yb_estimate_optimal_radius",
     "yb_reconstruct_with_normals",
+    "yb_read_cloud",
 ];
 
 fn main() {

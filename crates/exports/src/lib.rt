@@ -1,5 +1,6 @@
 // The functions that C and Rust call. Each promises what the function that it calls does.
 ghost use mathlib.Core.Path.{_≡_};
+ghost use lib.ListN.{length};
 ghost use Rattle.numbers.specs.Root.{root};
 ghost use Rattle.numbers.specs.Order.{minimum, maximum, clamp};
 ghost use Rattle.numbers.specs.Cut.{cut, ceil};
@@ -7,6 +8,8 @@ ghost use Rattle.numbers.specs.Acos.{acos};
 ghost use Rattle.triangle.specs.Vector.{point};
 ghost use Rattle.triangle.specs.Quality.{circumradius, quality, acceptable};
 ghost use Rattle.estimate.specs.Estimate.{Estimated};
+ghost use Rattle.cloud.specs.Answers.{Answered, outcome};
+use cloud::CloudRead;
 use estimate::Estimate;
 use triangle::TriangleQuality;
 
@@ -130,4 +133,11 @@ pub extern "C" fn yb_estimate_optimal_radius(
     ensures { λ r. ⌜ Estimated (now (points .entry)) percentile (now («work_u32» .entry)) (now («work_f32» .entry)) r (now («work_u32» .exit)) (now («work_f32» .exit)) ⌝ }
 {
     estimate::estimate_optimal_radius(points, percentile, work_u32, work_f32)
+}
+
+#[no_mangle]
+pub extern "C" fn yb_read_cloud(bytes: &[u8], points: &mut [f32], normals: &mut [f32]) -> CloudRead
+    ensures { λ r. ⌜ Answered (outcome (now (bytes .entry)) (length (now (points .entry))) (length (now (normals .entry)))) (now (points .entry)) (now (normals .entry)) r (now (points .exit)) (now (normals .exit)) ⌝ }
+{
+    cloud::read_cloud(bytes, points, normals)
 }
