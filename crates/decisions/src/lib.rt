@@ -1,0 +1,128 @@
+// What the floats decide of points by their numbers: which are near enough to each other, which triangles are acceptable, and how good they are.
+use grid::SpatialGrid;
+use triangle::Point3f;
+use triangle::TriangleQuality;
+ghost use mathlib.Core.Path.{_≡_};
+ghost use Prim.Native.Nat.{_*_, _<_, _+_};
+ghost use lib.ListN.{length};
+ghost use Rattle.patch.specs.Lay.{edge};
+ghost use Rattle.decisions.specs.Decisions.{apart, isClose, qualityAt, accepts, completes, halfway, middle, pivotable, scoreAt};
+ghost use Rattle.decisions.specs.Found.{scoreFound};
+
+// What the decisions go by: the number of points, the index and whether it is used, and the thresholds of the settings.
+pub struct Scene {
+    pub n: usize,
+    pub indexed: bool,
+    pub grid: SpatialGrid,
+    pub min_triangle_area: f32,
+    pub quality_threshold: f32,
+    pub max_edge_factor: f32,
+}
+
+// The score of a triangle that may be laid.
+pub enum Score {
+    Of(f32),
+    None,
+}
+
+// How far points i and j are from each other.
+fn apart_at(points: &[f32], i: usize, j: usize) -> f32
+    requires { ⌜ (3 * i + 2 < length (now points)) × (3 * j + 2 < length (now points)) ⌝ }
+    ensures { λ r. ⌜ r ≡ apart (now (points .entry)) i j ⌝ }
+{
+    triangle::distance(points::point_at(points, i), points::point_at(points, j))
+}
+
+// Whether points i and j are not farther apart than twice the radius.
+pub fn is_close(points: &[f32], radius: f32, i: usize, j: usize) -> bool
+    requires { ⌜ (3 * i + 2 < length (now points)) × (3 * j + 2 < length (now points)) ⌝ }
+    ensures { λ r. ⌜ r ≡ isClose (now (points .entry)) radius i j ⌝ }
+{
+    !(apart_at(points, i, j) > radius * 2.0)
+}
+
+// The quality of the triangle of points i, j and k.
+fn quality_at(points: &[f32], i: usize, j: usize, k: usize) -> TriangleQuality
+    requires { ⌜ (3 * i + 2 < length (now points)) × (3 * j + 2 < length (now points)) × (3 * k + 2 < length (now points)) ⌝ }
+    ensures { λ r. ⌜ r ≡ qualityAt (now (points .entry)) i j k ⌝ }
+{
+    triangle::compute_triangle_quality(
+        points::point_at(points, i),
+        points::point_at(points, j),
+        points::point_at(points, k),
+    )
+}
+
+// Whether the settings accept a triangle at a radius.
+fn is_accepted(s: Scene, radius: f32, q: TriangleQuality) -> bool
+    ensures { λ r. ⌜ r ≡ accepts s radius q ⌝ }
+{
+    triangle::is_triangle_acceptable(
+        q,
+        radius,
+        s.min_triangle_area,
+        s.quality_threshold,
+        s.max_edge_factor,
+    )
+}
+
+fn halfway_to(x: f32, y: f32) -> f32
+    ensures { λ r. ⌜ r ≡ halfway x y ⌝ }
+{
+    (x + y) * 0.5
+}
+
+// The middle of two points.
+pub fn middle_of(p: Point3f, q: Point3f) -> Point3f
+    ensures { λ r. ⌜ r ≡ middle p q ⌝ }
+{
+    Point3f {
+        x: halfway_to(p.x, q.x),
+        y: halfway_to(p.y, q.y),
+        z: halfway_to(p.z, q.z),
+    }
+}
+
+// Whether the edge a, b is neither too long nor too short.
+pub fn is_pivotable(points: &[f32], radius: f32, a: usize, b: usize) -> bool
+    requires { ⌜ (3 * a + 2 < length (now points)) × (3 * b + 2 < length (now points)) ⌝ }
+    ensures { λ r. ⌜ r ≡ pivotable (now (points .entry)) radius (edge a b) ⌝ }
+{
+    let d = apart_at(points, b, a);
+    if d > radius * 2.0 {
+        return false;
+    }
+    !(d < 1e-10)
+}
+
+// The score of the edge a, b with point k, if k is near enough to both ends and the triangle is acceptable.
+pub fn score_at(s: Scene, points: &[f32], radius: f32, a: usize, b: usize, k: usize) -> Score
+    requires { ⌜ (3 * a + 2 < length (now points)) × (3 * b + 2 < length (now points)) × (3 * k + 2 < length (now points)) ⌝ }
+    ensures { λ r. ⌜ r ≡ scoreFound (scoreAt s (now (points .entry)) radius (edge a b) k) ⌝ }
+{
+    if !(apart_at(points, k, a) <= radius) {
+        return Score::None;
+    }
+    if !(apart_at(points, k, b) <= radius) {
+        return Score::None;
+    }
+    let q = quality_at(points, a, b, k);
+    if !is_accepted(s, radius, q) {
+        return Score::None;
+    }
+    Score::Of(q.quality_score)
+}
+
+// Whether k is near enough to i and j and makes an acceptable triangle with them.
+pub fn is_completed(s: Scene, points: &[f32], radius: f32, i: usize, j: usize, k: usize) -> bool
+    requires { ⌜ (3 * i + 2 < length (now points)) × (3 * j + 2 < length (now points)) × (3 * k + 2 < length (now points)) ⌝ }
+    ensures { λ r. ⌜ r ≡ completes s (now (points .entry)) radius i j k ⌝ }
+{
+    if !is_close(points, radius, i, k) {
+        return false;
+    }
+    if !is_close(points, radius, j, k) {
+        return false;
+    }
+    is_accepted(s, radius, quality_at(points, i, j, k))
+}
