@@ -1,0 +1,5 @@
+pub mod Nearest
+pub mod Densities
+pub mod Spaced
+pub mod Chosen
+pub mod Starred

@@ -1,0 +1,48 @@
+-- What the contracts of the steps cite. Definitions only.
+use Prim.Native.Nat.{ℕ, zero, suc, _+_, _-_, _*_, _≤_, _<_}
+use mathlib.Core.Path.{_≡_}
+use mathlib.Core.Bool.{Bool, cond}
+use mathlib.Core.List.{List, [], _∷_, _++_, map}
+use lib.Dec.{eqb}
+use lib.ListN.{length, take, drop, getD, replicate}
+use lib.Ieee.{Float, nan, lt}
+use Rattle.numbers.specs.Rounded.{f32, _⊖_, _⊗_}
+use Rattle.triangle.specs.Vector.{distance}
+use Rattle.points.specs.Points.{pointAt}
+use Rattle.sorting.specs.Sorted.{insert, percentileOf}
+use Rattle.domain.specs.declared.BallPivotingConfig.{BallPivotingConfig}
+use Rattle.grid.specs.declared.SpatialGrid.{SpatialGrid}
+use Rattle.grid.specs.Index.{Indexed}
+use Rattle.radii.specs.declared.Radii.{Radii}
+use Rattle.radii.specs.Radii.{average}
+
+-- what `compute_adaptive_radii` needs
+pub record Ready (c : BallPivotingConfig) (g : SpatialGrid) (pts : List Float) (n : ℕ) (w : List ℕ) (f : List Float) : Type 0 where
+  pub some : 0 < n
+  pub points : 3 * n ≤ length pts
+  pub indexed : Indexed g (c .«use_spatial_index») pts n w
+  pub room : 4 * n + 64 ≤ length f
+  pub percentiles : c .«percentile_count» ≤ 8
+  pub additional : c .«additional_count» ≤ 8
+
+-- the radii xs are in the first slots, and the others are 0
+pub record Listed (xs : List Float) (r : Radii) : Type 0 where
+  pub few : r .count ≤ 17
+  pub kept : take (r .count) (r .list) ≡ xs
+  pub zeros : drop (r .count) (r .list) ≡ replicate (17 - r .count) (f32 0)
+
+-- the least distances from point i, once point j has been looked at
+unfoldable pub withPoint : List Float → ℕ → ℕ → List Float → List Float
+withPoint pts i j kept = cond (eqb j i) kept (take 10 (insert (distance (pointAt pts i) (pointAt pts j)) kept))
+
+-- the densities, once a sample with the least distances ds has been looked at
+unfoldable pub withSample : List Float → List Float → List Float
+withSample ds densities = cond (eqb (length ds) 0) densities (insert (average ds) densities)
+
+-- twice the density at the percentile
+abbrev pub percentileRadius : List Float → Float → Float
+percentileRadius densities p = percentileOf densities p ⊗ f32 0x40000000
+
+-- the radii kept, once the radius x has been looked at
+unfoldable pub withRadius : List Float → Float → List Float
+withRadius kept x = cond (lt (x ⊖ getD kept (length kept - 1) nan) (f32 0x358637bd)) kept (kept ++ (x ∷ []))
