@@ -61,14 +61,14 @@ module _ (f : List Float) (at m : ℕ) (long : at + m ≤ length f) where
 
 -- ---- the list of radii
 pub listed-none : Listed [] (record { list = replicate 17 (f32 0); count = 0 })
-listed-none = record { few = omega arith; kept = refl; zeros = refl }
+listed-none = record { few = omega arith; counted = refl; kept = refl; zeros = refl }
 
 pub listed-one : (x : Float) → Listed (x ∷ []) (record { list = set (replicate 17 (f32 0)) 0 x; count = 1 })
-listed-one x = record { few = omega arith; kept = refl; zeros = refl }
+listed-one x = record { few = omega arith; counted = refl; kept = refl; zeros = refl }
 
 -- its own radii
 pub listed-self : {xs : List Float} {r : Radii} → Listed xs r → Listed (take (r .count) (r .list)) r
-listed-self h = record { few = h .few; kept = refl; zeros = h .zeros }
+listed-self h = record { few = h .few; counted = h .counted ∙ ap length (sym (h .kept)); kept = refl; zeros = h .zeros }
 
 module _ (r : Radii) (x y : Float) (some : 1 ≤ r .count) (room : r .count ≤ 16) (h : Listed (take (r .count) (r .list)) r) (last : y ≡ getD (r .list) (r .count - 1) nan) where
   size : length (r .list) ≡ 17
@@ -94,6 +94,7 @@ module _ (r : Radii) (x y : Float) (some : 1 ≤ r .count) (room : r .count ≤ 
       rw (last-is, t)
       (record {
         few = omega arith;
+        counted = omega (arith, length-append (take (r .count) (r .list)) (x ∷ []), count-is);
         kept = ap (λ (j : ℕ). take j (set (r .list) (r .count) x)) e ∙ take-suc-set (r .list) (r .count) x (omega (arith, size));
         zeros =
             drop-set-lt (r .count + 1) (r .list) (r .count) x (omega arith)

@@ -28,6 +28,7 @@ pub record Ready (c : BallPivotingConfig) (g : SpatialGrid) (pts : List Float) (
 -- the radii xs are in the first slots, and the others are 0
 pub record Listed (xs : List Float) (r : Radii) : Type 0 where
   pub few : r .count ≤ 17
+  pub counted : r .count ≡ length xs
   pub kept : take (r .count) (r .list) ≡ xs
   pub zeros : drop (r .count) (r .list) ≡ replicate (17 - r .count) (f32 0)
 
