@@ -1,0 +1,86 @@
+-- What survives a change of the work slice, and what is read off the answers of the searches. Assumes nothing.
+use Prim.Native.Nat.{ℕ, _*_, _≤_, _<_}
+use mathlib.Core.Path.{_≡_, refl, sym, ap, _∙_}
+use mathlib.Core.List.{List, [], _∷_, map}
+use mathlib.Core.Option.{Option, none, some}
+use native.Mathlib.Omega.{arith}
+use lib.ListN.{length, take}
+use lib.Seq.{take-take}
+use lib.Ieee.{Float}
+use Rattle.grid.proofs.Near.{indexed-kept}
+use Rattle.patch.specs.Lay.{Edge, State}
+use Rattle.patch.specs.View.{decode}
+use Rattle.decisions.specs.declared.Scene.{Scene}
+use Rattle.search.specs.declared.Seed.{Seed}
+use Rattle.search.specs.declared.Seed.the-variants.{Triangle, Nothing}
+use Rattle.search.specs.declared.Pivot.{Pivot}
+use Rattle.search.specs.declared.Pivot.the-variants.{To, Nowhere}
+use Rattle.search.specs.Ready.{Kept, seedFound, pivotFound}
+use Rattle.frontier.specs.declared.Counts.{Counts}
+use Rattle.frontier.specs.Work.{Holds, Sized, OnlyIn}
+use Rattle.frontier.proofs.Slices.{after-same}
+use Rattle.laying.specs.Laying.{Ground}
+
+-- the words of the index lie before those of the used points
+pub index-same : (n : ℕ) (w u : List ℕ) → take (5 * n) u ≡ take (5 * n) w → take (4 * n) u ≡ take (4 * n) w
+index-same n w u e =
+    let h : 4 * n ≤ 5 * n = omega arith in
+    sym (take-take (4 * n) (5 * n) u h) ∙ ap (λ (l : List ℕ). take (4 * n) l) e ∙ take-take (4 * n) (5 * n) w h
+
+pub ground-kept : {s : Scene} {pts : List Float} {w : List ℕ} (u : List ℕ) → Ground s pts w → length u ≡ length w → take (4 * s .n) u ≡ take (4 * s .n) w → Ground s pts u
+ground-kept u g l e = record {
+  some = g .some;
+  held = record { few = g .held .few; points-long = g .held .points-long; work-long = omega (arith, g .held .work-long) };
+  indexed = indexed-kept u (g .indexed) l e;
+}
+
+pub sized : {s : Scene} {pts : List Float} {w : List ℕ} → Ground s pts w → Sized (s .n) w
+sized g = record { some = g .some; few = g .held .few; long = g .held .work-long }
+
+-- a search leaves the state that is held
+pub holds-kept : {s : Scene} {lent : List ℕ} {t : State} {c : Counts} {w slice : List ℕ} (u : List ℕ) → Kept s w u → length u ≡ length w → Holds (s .n) lent t c w slice → Holds (s .n) lent t c u slice
+holds-kept {s} {lent} {t} {c} {w} {slice} u k l h =
+    let only : OnlyIn (4 * s .n) (5 * s .n) w u = record { before = k .before; after = k .after; length-same = l } in
+    record {
+      faces-count = h .faces-count;
+      seeds-count = h .seeds-count;
+      frontier-count = h .frontier-count;
+      processed-count = h .processed-count;
+      looks = h .looks;
+      pivots = h .pivots;
+      used = ap (λ (x : List ℕ). take (s .n) x) (k .after) ∙ h .used;
+      frontier = ap (map decode) (after-same only (6 * s .n) (c .frontier) (omega arith)) ∙ h .frontier;
+      processed = ap (map decode) (after-same only (9 * s .n) (c .processed) (omega arith)) ∙ h .processed;
+      faces = h .faces;
+    }
+
+-- a list that is not empty
+pub record Waiting (l : List Edge) : Type 0 where
+  pub first : Edge
+  pub others : List Edge
+  pub is : l ≡ first ∷ others
+
+pub waiting : (l : List Edge) → 0 < length l → Waiting l
+waiting [] h = absurd (omega arith)
+waiting (x ∷ xs) h = record { first = x; others = xs; is = refl }
+
+pub none-waits : (l : List Edge) → length l ≡ 0 → l ≡ []
+none-waits [] h = refl
+none-waits (x ∷ xs) h = absurd (omega arith)
+
+-- ---- the answers of the searches
+abbrev pub pointOf : Pivot → Option ℕ
+pointOf Nowhere = none
+pointOf (To k) = some k
+
+pub pointOf-found : (o : Option ℕ) → pointOf (pivotFound o) ≡ o
+pointOf-found none = refl
+pointOf-found (some k) = refl
+
+abbrev pub seedIn : Seed → Option (ℕ × ℕ × ℕ)
+seedIn Nothing = none
+seedIn (Triangle i j k) = some (i, j, k)
+
+pub seedIn-found : (o : Option (ℕ × ℕ × ℕ)) → seedIn (seedFound o) ≡ o
+seedIn-found none = refl
+seedIn-found (some t) = refl

@@ -1,0 +1,6 @@
+pub mod Kept
+pub mod Pivots
+pub mod Looks
+pub mod Runs
+pub mod Radii
+pub mod Claim

@@ -1,0 +1,142 @@
+-- One radius from its seed on, and all radii in turn. Assumes nothing.
+use Prim.Native.Nat.{ℕ, suc, _+_, _*_, _≤_, _<_}
+use mathlib.Core.Path.{_≡_, refl, sym, ap, _∙_, subst}
+use mathlib.Core.List.{List, [], _∷_, _++_}
+use mathlib.Core.Option.{Option, none, some}
+use native.Mathlib.Omega.{arith}
+use lib.ListN.{length, take, getD}
+use lib.Seq.{take-suc}
+use lib.Ieee.{Float}
+use Rattle.patch.specs.Lay.{State, Rules, Pop, cleared, seeded, run, begun, layOne, layAll, patch, blank, FreeSeed}
+use Rattle.patch.specs.Frontier.{heapOf}
+use Rattle.patch.proofs.Looks.{clear-inv, seed-inv}
+use Rattle.patch.proofs.Laying.{room, layAll-rest, blank-rest}
+use Rattle.patch.proofs.Pops.{heapOf-keeps}
+use Rattle.decisions.specs.declared.Scene.{Scene}
+use Rattle.search.specs.declared.Seed.{Seed}
+use Rattle.search.specs.declared.Seed.the-variants.{Triangle, Nothing}
+use Rattle.search.specs.Ready.{Kept, usedIn, seedFound}
+use Rattle.frontier.specs.declared.Counts.{Counts}
+use Rattle.frontier.specs.Work.{Holds, Takes, Clears, Begins, Room}
+use Rattle.frontier.proofs.Work.{ready}
+use Rattle.laying.specs.Laying.{Ground, rulesOf, Lays, Standing, Resting}
+use Rattle.laying.proofs.Kept.{index-same, ground-kept, sized, holds-kept, seedIn, seedIn-found}
+use Rattle.laying.proofs.Pivots.{fair}
+
+-- ---- one radius
+module _ {s : Scene} {pts : List Float} (r : Float) {c : Counts} {w slice : List ℕ} (st : Resting s pts c w slice) {blank-counts : Counts} (clears : Clears c blank-counts)
+    {found : Seed} {u : List ℕ} (is : found ≡ seedFound (rulesOf s pts .seedOf r (usedIn s w))) (kept : Kept s w u) (long : length u ≡ length w) where
+  abbrev state : State
+  state = st .state
+
+  -- cleared, and searched for a seed
+  begun-holds : (lent : List ℕ) (t : State) → Holds (s .n) lent t c w slice → Holds (s .n) lent (cleared t) blank-counts u slice
+  begun-holds lent t h = holds-kept u kept long (clears (s .n) w slice lent t h)
+
+  seed-is : (lent : List ℕ) (t : State) (o : Option (ℕ × ℕ × ℕ)) → Holds (s .n) lent t c w slice → found ≡ seedFound o → rulesOf s pts .seedOf r (t .used) ≡ o
+  seed-is lent t o h f =
+      ap (λ (used : List ℕ). rulesOf s pts .seedOf r used) (sym (h .used))
+      ∙ sym (seedIn-found (rulesOf s pts .seedOf r (usedIn s w))) ∙ ap seedIn (sym is ∙ f) ∙ seedIn-found o
+
+  pub no-seed : found ≡ Nothing → Lays (s .n) (layOne (rulesOf s pts) heapOf (s .n) r) c w slice blank-counts u slice
+  unfolding layOne begun
+  no-seed f = record {
+    takes = λ lent t h. subst (λ (o : Option (ℕ × ℕ × ℕ)). Holds (s .n) lent (begun (rulesOf s pts) heapOf r (s .n) o (cleared t)) blank-counts u slice) (sym (seed-is lent t none h f)) (begun-holds lent t h);
+    index = kept .before;
+  }
+
+  module _ {i j k : ℕ} (f : found ≡ Triangle i j k) where
+    pub free-seed : FreeSeed (s .n) (state .used) (i, j, k)
+    free-seed = fair s pts .seeds r (state .used) (i, j, k) (seed-is (st .lent) state (some (i, j, k)) (st .holds) f)
+
+    ground : Ground s pts u
+    ground = ground-kept u (st .ground) long (kept .before)
+
+    no-entry : length (cleared state .frontier) ≡ 0
+    unfolding cleared
+    no-entry = refl
+
+    pub seed-room : Room (s .n) blank-counts u i j k
+    seed-room =
+        let h = begun-holds (st .lent) state (st .holds) in
+        record {
+          ready = ready (s .n) (st .lent) (cleared state) blank-counts u slice (sized ground) h (room (s .n) (cleared state) (clear-inv (s .n) state (st .rest .inv) (st .rest .idle)));
+          entries = omega (arith, h .frontier-count, no-entry, ground .some);
+          first = free-seed .first .below;
+          second = free-seed .second .below;
+          third = free-seed .third .below;
+        }
+
+    -- the seed was laid
+    module _ {after : Counts} {v back : List ℕ} (takes : Takes (s .n) (seeded (i, j, k)) blank-counts u slice after v back) (same-words : take (5 * s .n) v ≡ take (5 * s .n) u) where
+      pub seed-standing : length v ≡ length u → Standing s pts after v back
+      seed-standing longer = record {
+        ground = ground-kept v ground longer (index-same (s .n) u v same-words);
+        lent = st .lent;
+        state = seeded (i, j, k) (cleared state);
+        inv = seed-inv (s .n) state (st .rest .inv) (st .rest .idle) (i, j, k) free-seed;
+        holds = takes (st .lent) (cleared state) (begun-holds (st .lent) state (st .holds));
+      }
+
+      pub seed-laid : {end : Counts} {z front : List ℕ} → Lays (s .n) (run (rulesOf s pts) heapOf r (3 * s .n)) after v back end z front → Lays (s .n) (layOne (rulesOf s pts) heapOf (s .n) r) c w slice end z front
+      unfolding layOne begun
+      seed-laid {end} {z} {front} lays = record {
+        takes = λ lent t h.
+            subst (λ (o : Option (ℕ × ℕ × ℕ)). Holds (s .n) lent (begun (rulesOf s pts) heapOf r (s .n) o (cleared t)) end z front) (sym (seed-is lent t (some (i, j, k)) h f))
+            (lays .takes lent (seeded (i, j, k) (cleared t)) (takes lent (cleared t) (begun-holds lent t h)));
+        index = lays .index ∙ index-same (s .n) u v same-words ∙ kept .before;
+      }
+
+-- ---- all radii
+layAll-more : {R : Type 0} (rules : Rules R) (order : Pop) (n : ℕ) (rs : List R) (r : R) (t : State) → layAll rules order n (rs ++ (r ∷ [])) t ≡ layOne rules order n r (layAll rules order n rs t)
+unfolding layAll
+layAll-more rules order n [] r t = refl
+layAll-more rules order n (x ∷ rs) r t = layAll-more rules order n rs r (layOne rules order n x t)
+
+-- the first i radii have been laid
+pub record Covering (s : Scene) (pts radii : List Float) (count : ℕ) (lent w₀ : List ℕ) (i : ℕ) (c : Counts) (w slice : List ℕ) : Type 0 where
+  pub inside : i ≤ count
+  pub ground : Ground s pts w
+  pub holds : Holds (s .n) lent (layAll (rulesOf s pts) heapOf (s .n) (take i radii) (blank (s .n))) c w slice
+  pub words : length w ≡ length w₀
+  pub face-words : length slice ≡ length lent
+
+module _ {s : Scene} {pts radii : List Float} {count : ℕ} {lent w₀ : List ℕ} where
+  pub cover-start : {w : List ℕ} {c : Counts} → Ground s pts w → Begins (s .n) c w₀ → take (5 * s .n) w₀ ≡ take (5 * s .n) w → length w₀ ≡ length w → Covering s pts radii count lent w₀ 0 c w₀ lent
+  unfolding layAll
+  cover-start {w} {c} g begins same-words long = record {
+    inside = omega arith;
+    ground = ground-kept w₀ g long (index-same (s .n) w w₀ same-words);
+    holds = begins lent;
+    words = refl;
+    face-words = refl;
+  }
+
+  module _ {i : ℕ} {c : Counts} {w slice : List ℕ} (so-far : Covering s pts radii count lent w₀ i c w slice) where
+    pub resting : Resting s pts c w slice
+    resting = record {
+      ground = so-far .ground;
+      lent = lent;
+      state = layAll (rulesOf s pts) heapOf (s .n) (take i radii) (blank (s .n));
+      rest = layAll-rest (s .n) (rulesOf s pts) heapOf (fair s pts) heapOf-keeps (take i radii) (blank (s .n)) (blank-rest (s .n));
+      holds = so-far .holds;
+    }
+
+    pub cover-step : (d : Float) {after : Counts} {v back : List ℕ} → i < count → i < length radii → Lays (s .n) (layOne (rulesOf s pts) heapOf (s .n) (getD radii i d)) c w slice after v back → length v ≡ length w → length back ≡ length slice
+        → Covering s pts radii count lent w₀ (i + 1) after v back
+    cover-step d {after} {v} {back} h g lays long face-long =
+        let e : i + 1 ≡ suc i = omega arith in
+        let one-more : take (i + 1) radii ≡ take i radii ++ (getD radii i d ∷ []) = ap (λ (m : ℕ). take m radii) e ∙ take-suc radii i d g in
+        let step : layAll (rulesOf s pts) heapOf (s .n) (take (i + 1) radii) (blank (s .n)) ≡ layOne (rulesOf s pts) heapOf (s .n) (getD radii i d) (layAll (rulesOf s pts) heapOf (s .n) (take i radii) (blank (s .n))) =
+        ap (λ (rs : List Float). layAll (rulesOf s pts) heapOf (s .n) rs (blank (s .n))) one-more ∙ layAll-more (rulesOf s pts) heapOf (s .n) (take i radii) (getD radii i d) (blank (s .n)) in
+        record {
+          inside = omega arith;
+          ground = ground-kept v (so-far .ground) long (lays .index);
+          holds = subst (λ (t : State). Holds (s .n) lent t after v back) (sym step) (lays .takes lent (layAll (rulesOf s pts) heapOf (s .n) (take i radii) (blank (s .n))) (so-far .holds));
+          words = long ∙ so-far .words;
+          face-words = face-long ∙ so-far .face-words;
+        }
+
+    pub cover-end : count ≤ i → Holds (s .n) lent (patch (rulesOf s pts) heapOf (s .n) (take count radii)) c w slice
+    unfolding patch
+    cover-end h = let e : i ≡ count = omega (arith, so-far .inside) in subst (λ (m : ℕ). Holds (s .n) lent (layAll (rulesOf s pts) heapOf (s .n) (take m radii) (blank (s .n))) c w slice) e (so-far .holds)

@@ -1,0 +1,110 @@
+-- The looks of one radius, until no entry waits. Assumes nothing.
+use Prim.Native.Nat.{ℕ, zero, suc, _+_, _-_, _*_, _≤_, _<_}
+use mathlib.Core.Path.{_≡_, refl, sym, ap, _∙_, subst}
+use mathlib.Core.List.{List, []}
+use native.Mathlib.Omega.{arith}
+use lib.ListN.{length}
+use lib.Ieee.{Float}
+use Rattle.patch.specs.Lay.{State, look, next, run}
+use Rattle.patch.specs.Frontier.{heapOf}
+use Rattle.patch.proofs.Laying.{room, run-idle}
+use Rattle.patch.proofs.Pops.{heapOf-keeps}
+use Rattle.decisions.specs.declared.Scene.{Scene}
+use Rattle.frontier.specs.declared.Counts.{Counts}
+use Rattle.frontier.specs.Work.{Holds}
+use Rattle.laying.specs.Laying.{rulesOf, looked, Lays, Standing}
+use Rattle.laying.proofs.Kept.{ground-kept, waiting, none-waits}
+use Rattle.laying.proofs.Pivots.{fair, looked-looked}
+
+-- ---- the definition's run, from its end
+module _ (s : Scene) (pts : List Float) (r : Float) where
+  abbrev ran : ℕ → State → State
+  ran = run (rulesOf s pts) heapOf r
+
+  run-more : (m : ℕ) (t : State) → ran (suc m) t ≡ looked s pts r (ran m t)
+  unfolding run
+  run-more zero t = refl
+  run-more (suc m) t = run-more m (looked s pts r t)
+
+  run-on : (k m j : ℕ) (t : State) → j ≡ k + m → ran j t ≡ ran m (ran k t)
+  unfolding run
+  run-on zero m j t h = let e : j ≡ m = omega arith in ap (λ (i : ℕ). ran i t) e
+  run-on (suc k) m j t h = let e : j ≡ suc (k + m) = omega arith in ap (λ (i : ℕ). ran i t) e ∙ run-on k m (k + m) (looked s pts r t) refl
+
+  -- once no entry waits, nothing more happens
+  run-stop : (k m : ℕ) (t : State) → k ≤ m → ran k t .frontier ≡ [] → ran m t ≡ ran k t
+  run-stop k m t h idle = run-on k (m - k) m t (omega arith) ∙ run-idle (s .n) (rulesOf s pts) heapOf (fair s pts) heapOf-keeps r (m - k) (ran k t) idle
+
+-- ---- a look leads from one state between two looks to the next
+pub record Stepped (s : Scene) (pts : List Float) (c : Counts) (r : Counts) (u back : List ℕ) : Type 0 where
+  pub standing : Standing s pts r u back
+  pub one-look : r .looks ≡ c .looks + 1
+  pub few : c .looks < 3 * s .n
+
+module _ {s : Scene} {pts : List Float} (r : Float) {c : Counts} {w slice : List ℕ} (st : Standing s pts c w slice) (some-wait : 0 < c .frontier) where
+  pub stepped : {after : Counts} {u back : List ℕ} → Lays (s .n) (looked s pts r) c w slice after u back → length u ≡ length w → Stepped s pts c after u back
+  stepped {after} {u} {back} lays long =
+      let t = st .state in
+      let h = st .holds in
+      let x = waiting (t .frontier) (omega (arith, h .frontier-count)) in
+      let m = looked-looked s pts r (x .first) (x .others) t (x .is) (st .inv) in
+      let g = lays .takes (st .lent) t h in
+      record {
+        standing = record { ground = ground-kept u (st .ground) long (lays .index); lent = st .lent; state = looked s pts r t; inv = m .inv; holds = g };
+        one-look = omega (arith, h .looks, g .looks, m .falls, m .inv .looked, st .inv .looked);
+        few = omega (arith, h .looks, h .frontier-count, st .inv .looked, room (s .n) t (st .inv) .faces);
+      }
+
+-- ---- the loop: the looks so far were those of the definition
+pub record Running (s : Scene) (pts : List Float) (r : Float) (c₀ : Counts) (w₀ slice₀ : List ℕ) (c : Counts) (w slice : List ℕ) : Type 0 where
+  pub standing : Standing s pts c w slice
+  pub later : c₀ .looks ≤ c .looks
+  pub lays : Lays (s .n) (run (rulesOf s pts) heapOf r (c .looks - c₀ .looks)) c₀ w₀ slice₀ c w slice
+  pub words : length w ≡ length w₀
+  pub face-words : length slice ≡ length slice₀
+
+module _ {s : Scene} {pts : List Float} {r : Float} {c₀ : Counts} {w₀ slice₀ : List ℕ} where
+  pub run-start : Standing s pts c₀ w₀ slice₀ → Running s pts r c₀ w₀ slice₀ c₀ w₀ slice₀
+  unfolding run
+  run-start st =
+      let e : 0 ≡ c₀ .looks - c₀ .looks = omega arith in
+      record {
+        standing = st;
+        later = omega arith;
+        lays = record { takes = λ lent t h. subst (λ (k : ℕ). Holds (s .n) lent (ran s pts r k t) c₀ w₀ slice₀) e h; index = refl };
+        words = refl;
+        face-words = refl;
+      }
+
+  module _ {c : Counts} {w slice : List ℕ} (run : Running s pts r c₀ w₀ slice₀ c w slice) where
+    pub run-step : {after : Counts} {u back : List ℕ} → 0 < c .frontier → Lays (s .n) (looked s pts r) c w slice after u back → length u ≡ length w → length back ≡ length slice → Running s pts r c₀ w₀ slice₀ after u back
+    run-step {after} {u} {back} some-wait lays long face-long =
+        let t = stepped r (run .standing) some-wait lays long in
+        let k : ℕ = c .looks - c₀ .looks in
+        let e : suc k ≡ after .looks - c₀ .looks = omega (arith, t .one-look, run .later) in
+        record {
+          standing = t .standing;
+          later = omega (arith, t .one-look, run .later);
+          lays = record {
+            takes = λ lent z h. subst (λ (j : ℕ). Holds (s .n) lent (ran s pts r j z) after u back) e
+                (subst (λ (y : State). Holds (s .n) lent y after u back) (sym (run-more s pts r k z)) (lays .takes lent (ran s pts r k z) (run .lays .takes lent z h)));
+            index = lays .index ∙ run .lays .index;
+          };
+          words = long ∙ run .words;
+          face-words = face-long ∙ run .face-words;
+        }
+
+    pub run-less : {after : Counts} {u back : List ℕ} → 0 < c .frontier → Lays (s .n) (looked s pts r) c w slice after u back → length u ≡ length w → 3 * s .n - after .looks < 3 * s .n - c .looks
+    run-less {after} {u} {back} some-wait lays long = let t = stepped r (run .standing) some-wait lays long in omega (arith, t .one-look, t .few)
+
+    pub run-end : c .frontier ≤ 0 → Lays (s .n) (ran s pts r (3 * s .n)) c₀ w₀ slice₀ c w slice
+    run-end none =
+        let st = run .standing in
+        let k : ℕ = c .looks - c₀ .looks in
+        let few : k ≤ 3 * s .n = omega (arith, st .holds .looks, room (s .n) (st .state) (st .inv) .looks) in
+        record {
+          takes = λ lent t h.
+              let g = run .lays .takes lent t h in
+              subst (λ (y : State). Holds (s .n) lent y c w slice) (sym (run-stop s pts r k (3 * s .n) t few (none-waits (ran s pts r k t .frontier) (omega (arith, g .frontier-count))))) g;
+          index = run .lays .index;
+        }

@@ -1,0 +1,77 @@
+-- `laying::pivot_over` meets its contract. Assumes nothing.
+use native.Mathlib.Omega.{arith}
+use Rattle.laying.proofs.Pivots.{edge-below, free-point, pivot-room, pivot-laid, pivot-missed}
+use borrow.Author.Needs.{needs}
+use Rattle.laying.proofs.pivot_over.Statement.{statement}
+use Rattle.laying.proofs.pivot_over.Tie as tie
+
+abbrev start-of : tie.After-try-ball-pivot → tie.Start
+start-of t = t .before .before .before .before .before
+
+abbrev search-of : tie.After-found → tie.After-try-ball-pivot
+search-of f = f .before .before .before .before
+
+try-ball-pivot-requires : tie.Need-try-ball-pivot-requires
+try-ball-pivot-requires c κs =
+    let s = c .before .before .before .before in
+    let e = edge-below (s .args .radius) (s .pre) in
+    (s .pre .ground .held, s .pre .ground .indexed, e .0, e .1)
+
+enum-known-found : tie.Need-enum-known-found
+enum-known-found c = search needs
+
+cast-lay-pivot : tie.Need-cast-lay-pivot
+cast-lay-pivot c =
+    let f = c .before .before .before in
+    let t = search-of f in
+    let s = start-of t in
+    let h = free-point (s .args .radius) (s .pre) (t .try-ball-pivot .ensures .0) (t .try-ball-pivot .ensures .1) (t .try-ball-pivot .kept .1 .1 .0) (f .found .given .1) in
+    omega (arith, h .below, s .pre .ground .held .few)
+
+lay-pivot-requires : tie.Need-lay-pivot-requires
+lay-pivot-requires c κs =
+    let f = c .before .before .before in
+    let t = search-of f in
+    let s = start-of t in
+    pivot-room (s .args .radius) (s .pre) (t .try-ball-pivot .ensures .0) (t .try-ball-pivot .ensures .1) (t .try-ball-pivot .kept .1 .1 .0) (f .found .given .1)
+
+enum-told : tie.Need-enum-told
+enum-told c = search needs
+
+same-length : tie.Need-same-length
+same-length c = search needs
+
+same-length-2 : tie.Need-same-length-2
+same-length-2 c = search needs
+
+returns : tie.Need-returns
+returns c =
+    let p = c .before .before .before .before in
+    let f = p .before .before .before .before in
+    let t = search-of f in
+    let s = start-of t in
+    pivot-laid (s .args .radius) (s .pre) (t .try-ball-pivot .ensures .0) (t .try-ball-pivot .ensures .1) (t .try-ball-pivot .kept .1 .1 .0) (f .found .given .1) (p .lay-pivot .ensures .0) (p .lay-pivot .ensures .1)
+
+same-length-3 : tie.Need-same-length-3
+same-length-3 c = search needs
+
+returns-2 : tie.Need-returns-2
+returns-2 c =
+    let t = c .before .before .before .before in
+    let s = start-of t in
+    pivot-missed (s .args .radius) (s .pre) (t .try-ball-pivot .ensures .0) (t .try-ball-pivot .ensures .1) (t .try-ball-pivot .kept .1 .1 .0) (c .enum-told .given .1)
+
+pub pivot-over-spec : {M : Type 1} → statement M
+pivot-over-spec =
+    tie.close
+    (tie.spec
+    try-ball-pivot-requires
+    enum-known-found
+    cast-lay-pivot
+    lay-pivot-requires
+    enum-told
+    same-length
+    same-length-2
+    returns
+    same-length-3
+    returns-2)

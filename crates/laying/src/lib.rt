@@ -1,0 +1,118 @@
+// Ball pivoting over the lent slices: a look at an entry, the looks of one radius, and the radii in turn.
+use decisions::Scene;
+use frontier::Counts;
+use search::Pivot;
+use search::Seed;
+ghost use Prim.Native.Nat.{_*_, _≤_, _<_};
+ghost use lib.ListN.{take};
+ghost use Rattle.patch.specs.Lay.{edge, run, layOne, patch};
+ghost use Rattle.patch.specs.Frontier.{heapOf};
+ghost use Rattle.frontier.specs.Work.{Holds};
+ghost use Rattle.laying.specs.Laying.{Ground, rulesOf, ballMet, looked, Lays, Pivoting, Standing, Resting};
+
+// The ball is pivoted over the edge a, b; if it meets a point, their face is laid.
+fn pivot_over(
+    s: Scene,
+    points: &[f32],
+    faces: &mut [u32],
+    w: &mut [u32],
+    radius: f32,
+    c: Counts,
+    a: u32,
+    b: u32,
+) -> Counts
+    requires { ⌜ Pivoting s (now points) c (now w) (now faces) (edge a b) ⌝ }
+    ensures { λ r. ⌜ Lays (s .n) (ballMet s (now (points .entry)) radius (edge a b)) c (now (w .entry)) (now (faces .entry)) r (now (w .exit)) (now (faces .exit)) ⌝ }
+{
+    let found = search::try_ball_pivot(s, points, w, radius, a as usize, b as usize);
+    match found {
+        Pivot::To(k) => frontier::lay_pivot(faces, w, s.n, c, a, b, k as u32),
+        Pivot::Nowhere => c,
+    }
+}
+
+// One look: an entry is popped, and pivoted over unless its edge is processed.
+fn look(
+    s: Scene,
+    points: &[f32],
+    faces: &mut [u32],
+    w: &mut [u32],
+    radius: f32,
+    c: Counts,
+) -> Counts
+    requires { ⌜ Standing s (now points) c (now w) (now faces) × (0 < c .frontier) ⌝ }
+    ensures { λ r. ⌜ Lays (s .n) (looked s (now (points .entry)) radius) c (now (w .entry)) (now (faces .entry)) r (now (w .exit)) (now (faces .exit)) ⌝ }
+{
+    let top = frontier::pop(w, s.n, c);
+    let left = top.counts;
+    let a = top.entry / 4096;
+    let b = top.entry % 4096;
+    if frontier::is_processed(w, s.n, left.processed, a, b) {
+        return left;
+    }
+    let laid = pivot_over(s, points, faces, w, radius, left, a, b);
+    frontier::mark_processed(w, s.n, laid, top.entry)
+}
+
+// Looks until no entry waits.
+fn run(
+    s: Scene,
+    points: &[f32],
+    faces: &mut [u32],
+    w: &mut [u32],
+    radius: f32,
+    start: Counts,
+) -> Counts
+    requires { ⌜ Standing s (now points) start (now w) (now faces) ⌝ }
+    ensures { λ r. ⌜ Lays (s .n) (run (rulesOf s (now (points .entry))) heapOf radius (3 * s .n)) start (now (w .entry)) (now (faces .entry)) r (now (w .exit)) (now (faces .exit)) ⌝ }
+{
+    let mut c = start;
+    while 0 < c.frontier {
+        c = look(s, points, faces, w, radius, c);
+    }
+    c
+}
+
+// One radius: from its seed, if there is one.
+fn lay_one(
+    s: Scene,
+    points: &[f32],
+    faces: &mut [u32],
+    w: &mut [u32],
+    radius: f32,
+    before: Counts,
+) -> Counts
+    requires { ⌜ Resting s (now points) before (now w) (now faces) ⌝ }
+    ensures { λ r. ⌜ Lays (s .n) (layOne (rulesOf s (now (points .entry))) heapOf (s .n) radius) before (now (w .entry)) (now (faces .entry)) r (now (w .exit)) (now (faces .exit)) ⌝ }
+{
+    let c = frontier::clear(before);
+    let seed = search::find_seed_triangle(s, points, w, radius);
+    match seed {
+        Seed::Triangle(i, j, k) => {
+            let first = frontier::lay_seed(faces, w, s.n, c, i as u32, j as u32, k as u32);
+            run(s, points, faces, w, radius, first)
+        }
+        Seed::Nothing => c,
+    }
+}
+
+// Lays the patch: the first `count` radii in turn.
+pub fn advanced_ball_pivoting(
+    s: Scene,
+    points: &[f32],
+    radii: [f32; 17],
+    count: usize,
+    faces: &mut [u32],
+    w: &mut [u32],
+) -> Counts
+    requires { ⌜ Ground s (now points) (now w) × (count ≤ 17) ⌝ }
+    ensures { λ r. ⌜ Holds (s .n) (now (faces .entry)) (patch (rulesOf s (now (points .entry))) heapOf (s .n) (take count radii)) r (now (w .exit)) (now (faces .exit)) ⌝ }
+{
+    let mut c = frontier::begin(w, s.n);
+    let mut i: usize = 0;
+    while i < count {
+        c = lay_one(s, points, faces, w, radii[i], c);
+        i += 1;
+    }
+    c
+}
