@@ -9,7 +9,10 @@ ghost use Rattle.triangle.specs.Vector.{point};
 ghost use Rattle.triangle.specs.Quality.{circumradius, quality, acceptable};
 ghost use Rattle.estimate.specs.Estimate.{Estimated};
 ghost use Rattle.cloud.specs.Answers.{Answered, outcome};
+ghost use Rattle.ball_pivoting.specs.Outcome.{Reconstructs};
+use ball_pivoting::Patch;
 use cloud::CloudRead;
+use domain::BallPivotingConfig;
 use estimate::Estimate;
 use triangle::TriangleQuality;
 
@@ -133,6 +136,20 @@ pub extern "C" fn yb_estimate_optimal_radius(
     ensures { λ r. ⌜ Estimated (now (points .entry)) percentile (now («work_u32» .entry)) (now («work_f32» .entry)) r (now («work_u32» .exit)) (now («work_f32» .exit)) ⌝ }
 {
     estimate::estimate_optimal_radius(points, percentile, work_u32, work_f32)
+}
+
+#[no_mangle]
+pub extern "C" fn yb_reconstruct_with_normals(
+    points: &[f32],
+    normals: &[f32],
+    settings: BallPivotingConfig,
+    faces: &mut [u32],
+    words: &mut [u32],
+    floats: &mut [f32],
+) -> Patch
+    ensures { λ r. ⌜ Reconstructs (now (points .entry)) (now (normals .entry)) settings (now (faces .entry)) (now (words .entry)) (now (floats .entry)) r (now (faces .exit)) (now (words .exit)) (now (floats .exit)) ⌝ }
+{
+    ball_pivoting::reconstruct_with_normals(points, normals, settings, faces, words, floats)
 }
 
 #[no_mangle]

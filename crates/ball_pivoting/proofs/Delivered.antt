@@ -1,0 +1,66 @@
+-- What is found comes back as the definition says: nothing, too much, or the faces. Assumes nothing.
+use Prim.Native.Nat.{ℕ, zero, suc, _+_, _-_, _/_, _≤_, _<_}
+use mathlib.Core.Path.{_≡_, refl, sym, ap, _∙_, subst}
+use mathlib.Core.List.{List, [], _∷_, _++_}
+use native.Mathlib.Omega.{arith}
+use lib.ListN.{length, take, drop, replicate, take-append-drop}
+use lib.Ieee.{Float}
+use borrow.Author.Tests.{eq-eqb, ne-eqb, lt-ltb, le-ltb}
+use Rattle.numbers.specs.Rounded.{f32}
+use Rattle.patch.specs.Lay.{Face}
+use Rattle.patch.specs.View.{written}
+use Rattle.patch.proofs.View.{written-none, length-written}
+use Rattle.radii.specs.Steps.{Listed}
+use Rattle.radii.specs.declared.Radii.{Radii}
+use Rattle.ball_pivoting.specs.Reconstruct.{Found, slots, refused, accepted, delivered, facesAfter}
+use Rattle.ball_pivoting.specs.Parts.{Finds}
+use Rattle.ball_pivoting.specs.declared.Finding.{Finding}
+use Rattle.ball_pivoting.specs.declared.Patch.{Patch}
+
+no-faces : (fs : List Face) (slice : List ℕ) → length fs ≡ 0 → written fs slice ≡ slice
+no-faces [] slice e = written-none slice
+no-faces (f ∷ fs) slice e = absurd (omega arith)
+
+-- the radii fill the first slots
+listed-slots : (rs : List Float) (r : Radii) → Listed rs r → r .list ≡ slots rs
+unfolding slots
+listed-slots rs r h =
+    sym (take-append-drop (r .count) (r .list))
+    ∙ ap (λ (l : List Float). l ++ drop (r .count) (r .list)) (h .kept)
+    ∙ ap (λ (l : List Float). rs ++ l) (h .zeros)
+    ∙ ap (λ (k : ℕ). rs ++ replicate (17 - k) (f32 0)) (h .counted)
+
+module _ (f : Found) (rs : List Float) (lent slice : List ℕ) (r : Finding) (h : Finds f rs lent r slice) where
+  room : length slice ≡ length lent
+  room = ap length (h .written-in) ∙ length-written (f .faces) lent
+
+  pub delivers-none : (p : Patch) → p ≡ refused 8 0 → r .faces ≡ 0 → (p ≡ delivered f rs (length lent)) × (slice ≡ facesAfter p f lent)
+  unfolding delivered facesAfter refused
+  delivers-none p e nothing =
+      let none : length (f .faces) ≡ 0 = sym (h .faces) ∙ nothing in
+      (rw (eq-eqb (length (f .faces)) 0 none) e, rw e (h .written-in ∙ no-faces (f .faces) lent none))
+
+  pub delivers-over : (p : Patch) (back : List ℕ) → p ≡ refused 9 0 → back ≡ replicate (length slice) 0 → (r .faces ≡ 0 → ⊥) → length slice / 3 < r .faces
+      → (p ≡ delivered f rs (length lent)) × (back ≡ facesAfter p f lent)
+  unfolding delivered facesAfter refused
+  delivers-over p back e cleared some over =
+      let more : length lent / 3 < length (f .faces) = subst (λ (k : ℕ). k / 3 < length (f .faces)) room (subst (λ (k : ℕ). length slice / 3 < k) (h .faces) over) in
+      let not-none : length (f .faces) ≡ 0 → ⊥ = λ q. some (h .faces ∙ q) in
+      (rw (ne-eqb (length (f .faces)) 0 not-none, lt-ltb (length lent / 3) (length (f .faces)) more) e, rw e (cleared ∙ ap (λ (k : ℕ). replicate k 0) room))
+
+  pub delivers-faces : (r .faces ≡ 0 → ⊥) → r .faces ≤ length slice / 3 → (p : Patch) → p ≡ record {
+    answer = 0;
+    detail = 0;
+    faces = r .faces;
+    seeds = r .seeds;
+    looks = r .looks;
+    pivots = r .pivots;
+    «radii_count» = r .radii .count;
+    radii = r .radii .list;
+  } → (p ≡ delivered f rs (length lent)) × (slice ≡ facesAfter p f lent)
+  unfolding delivered facesAfter accepted
+  delivers-faces some fit p e =
+      let fits : length (f .faces) ≤ length lent / 3 = subst (λ (k : ℕ). length (f .faces) ≤ k / 3) room (subst (λ (k : ℕ). k ≤ length slice / 3) (h .faces) fit) in
+      let not-none : length (f .faces) ≡ 0 → ⊥ = λ q. some (h .faces ∙ q) in
+      let same : p ≡ accepted f rs = cc (h .faces, h .seeds, h .looks, h .pivots, h .radii .counted, listed-slots rs (r .radii) (h .radii)) in
+      (rw (ne-eqb (length (f .faces)) 0 not-none, le-ltb (length lent / 3) (length (f .faces)) fits) same, rw e (h .written-in))

@@ -1,0 +1,84 @@
+-- What the two paths find is what the definition finds. Assumes nothing.
+use Prim.Native.Nat.{ℕ, zero, suc, _+_, _*_, _≤_, _<_}
+use mathlib.Core.Path.{_≡_, refl, sym, ap, _∙_, subst}
+use mathlib.Core.List.{List, [], _∷_}
+use native.Mathlib.Omega.{arith}
+use lib.ListN.{length, take}
+use lib.Ieee.{Float}
+use Rattle.domain.specs.declared.BallPivotingConfig.{BallPivotingConfig}
+use Rattle.patch.specs.Lay.{State, patch}
+use Rattle.patch.specs.Frontier.{heapOf}
+use Rattle.patch.specs.Shape.{Shape}
+use Rattle.decisions.specs.declared.Scene.{Scene}
+use Rattle.radii.specs.Radii.{adaptiveRadii}
+use Rattle.radii.specs.Steps as radii
+use Rattle.radii.specs.declared.Radii.{Radii}
+use Rattle.laying.specs.Laying.{Ground, rulesOf}
+use Rattle.laying.proofs.Claim.{laid-shape}
+use Rattle.ball_pivoting.specs.Reconstruct.{pointCount, indexOf, sceneOf, radiiOf, laidOf, laid, plainly, foundAt, found}
+use Rattle.ball_pivoting.specs.Parts.{Ready, Finds}
+use Rattle.ball_pivoting.specs.declared.Finding.{Finding}
+
+-- the patch of the multi-radius path has the shape, for every cloud and all settings
+pub shape-of : (c : BallPivotingConfig) (pts : List Float) → Shape (laidOf c pts)
+unfolding laidOf sceneOf
+shape-of c pts = laid-shape (sceneOf c pts) pts (radiiOf c pts)
+
+-- ---- the radii
+
+ready-at : (c : BallPivotingConfig) (pts : List Float) (w : List ℕ) (w₀ : List ℕ) (f : List Float) → Ready c pts w₀ f → Ground (sceneOf c pts) pts w → radii.Ready c (sceneOf c pts .grid) pts (sceneOf c pts .n) w f
+unfolding sceneOf
+ready-at c pts w w₀ f h g = record {
+  some = g .some;
+  points = omega (arith, h .sized .threes);
+  indexed = g .indexed;
+  room = h .floats-enough;
+  percentiles = h .percentiles;
+  additional = h .additional;
+}
+
+pub radii-ready : (c : BallPivotingConfig) (pts : List Float) (s : Scene) (w w₀ : List ℕ) (f : List Float) → s ≡ sceneOf c pts → Ready c pts w₀ f → Ground s pts w → radii.Ready c (s .grid) pts (s .n) w f
+radii-ready c pts s w w₀ f e h = subst (λ (t : Scene). Ground t pts w → radii.Ready c (t .grid) pts (t .n) w f) (sym e) (ready-at c pts w w₀ f h)
+
+-- the radii are the definition's
+pub listed-at : (c : BallPivotingConfig) (pts : List Float) (s : Scene) (r : Radii) → s ≡ sceneOf c pts → radii.Listed (adaptiveRadii c (s .grid) pts (s .n)) r → radii.Listed (radiiOf c pts) r
+unfolding radiiOf sceneOf
+listed-at c pts s r e h = subst (λ (t : Scene). radii.Listed (adaptiveRadii c (t .grid) pts (t .n)) r) e h
+
+-- no radii are listed
+no-radii : (xs : List Float) (r : Radii) → radii.Listed xs r → r .count ≡ 0 → xs ≡ []
+no-radii xs r h e = sym (h .kept) ∙ ap (λ (k : ℕ). take k (r .list)) e
+
+pub listed-none : (xs : List Float) (r : Radii) → radii.Listed xs r → r .count ≡ 0 → radii.Listed [] r
+listed-none xs r h e = subst (λ (l : List Float). radii.Listed l r) (no-radii xs r h e) h
+
+pub listed-self : (xs : List Float) (r : Radii) → radii.Listed xs r → radii.Listed (take (r .count) (r .list)) r
+listed-self xs r h = subst (λ (l : List Float). radii.Listed l r) (sym (h .kept)) h
+
+-- ---- what is found
+
+found-plain : (c : BallPivotingConfig) (pts : List Float) → radiiOf c pts ≡ [] → found c pts ≡ plainly c pts
+unfolding found foundAt
+found-plain c pts e = ap (foundAt c pts) e
+
+found-laid : (c : BallPivotingConfig) (pts xs : List Float) → radiiOf c pts ≡ xs → (xs ≡ [] → ⊥) → found c pts ≡ laid (laidOf c pts)
+unfolding found foundAt
+found-laid c pts [] e some = absurd (some refl)
+found-laid c pts (x ∷ xs) e some = ap (foundAt c pts) e
+
+module _ (c : BallPivotingConfig) (pts : List Float) (s : Scene) (g : Radii) (lent : List ℕ) (r : Finding) (slice : List ℕ) (e : s ≡ sceneOf c pts) where
+  -- by way of the scene's own index and number of points
+  pub finds-plain : radii.Listed (radiiOf c pts) g → g .count ≡ 0 → Finds (plainly c pts) [] lent r slice → Finds (found c pts) (radiiOf c pts) lent r slice
+  finds-plain h none f =
+      let no : radiiOf c pts ≡ [] = no-radii (radiiOf c pts) g h none in
+      rw (found-plain c pts no, no) f
+
+  pub finds-laid : radii.Listed (radiiOf c pts) g → (g .count ≡ 0 → ⊥)
+      → Finds (laid (patch (rulesOf s pts) heapOf (s .n) (take (g .count) (g .list)))) (take (g .count) (g .list)) lent r slice
+      → Finds (found c pts) (radiiOf c pts) lent r slice
+  unfolding laidOf sceneOf
+  finds-laid h some f =
+      let there : radiiOf c pts ≡ [] → ⊥ = λ q. some (h .counted ∙ ap length q) in
+      let one : Finds (laid (patch (rulesOf s pts) heapOf (s .n) (radiiOf c pts))) (radiiOf c pts) lent r slice = subst (λ (xs : List Float). Finds (laid (patch (rulesOf s pts) heapOf (s .n) xs)) xs lent r slice) (h .kept) f in
+      let two : Finds (laid (laidOf c pts)) (radiiOf c pts) lent r slice = subst (λ (t : Scene). Finds (laid (patch (rulesOf t pts) heapOf (t .n) (radiiOf c pts))) (radiiOf c pts) lent r slice) e one in
+      rw (found-laid c pts (radiiOf c pts) refl there) two

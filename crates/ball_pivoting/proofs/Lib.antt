@@ -1,0 +1,3 @@
+pub mod Delivered
+pub mod Found
+pub mod Outcome

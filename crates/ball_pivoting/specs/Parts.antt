@@ -1,0 +1,41 @@
+-- What the parts of the main call ask and give. Definitions only.
+use Prim.Native.Nat.{ℕ, _+_, _*_, _≤_, _<_}
+use mathlib.Core.Path.{_≡_}
+use mathlib.Core.List.{List}
+use lib.ListN.{length}
+use lib.Ieee.{Float}
+use Rattle.domain.specs.declared.BallPivotingConfig.{BallPivotingConfig}
+use Rattle.patch.specs.View.{written}
+use Rattle.radii.specs.Steps.{Listed}
+use Rattle.ball_pivoting.specs.Reconstruct.{Found, pointCount, delivered, facesAfter}
+use Rattle.ball_pivoting.specs.declared.Finding.{Finding}
+use Rattle.ball_pivoting.specs.declared.Patch.{Patch}
+
+-- a cloud, and a work slice for it
+pub record Sized (points : List Float) (words : List ℕ) : Type 0 where
+  pub some : 0 < pointCount points
+  pub few : pointCount points ≤ 4096
+  pub threes : length points ≡ 3 * pointCount points
+  pub words-enough : 24 * pointCount points + 64 ≤ length words
+
+-- what the checks leave for the work that follows
+pub record Ready (c : BallPivotingConfig) (points : List Float) (words : List ℕ) (floats : List Float) : Type 0 where
+  pub sized : Sized points words
+  pub floats-enough : 4 * pointCount points + 64 ≤ length floats
+  pub percentiles : c .«percentile_count» ≤ 8
+  pub additional : c .«additional_count» ≤ 8
+
+-- the code's account r of what is found, f, with the radii rs; the faces that fit stand in front of the slice that was lent
+pub record Finds (f : Found) (rs : List Float) (lent : List ℕ) (r : Finding) (slice : List ℕ) : Type 0 where
+  pub faces : r .faces ≡ length (f .faces)
+  pub few : r .faces ≤ 10000
+  pub seeds : r .seeds ≡ f .seeds
+  pub looks : r .looks ≡ f .looks
+  pub pivots : r .pivots ≡ f .pivots
+  pub radii : Listed rs (r .radii)
+  pub written-in : slice ≡ written (f .faces) lent
+
+-- whatever was found comes back as the definition says
+abbrev pub Delivers : Finding → List ℕ → Patch → List ℕ → Type 0
+Delivers found slice p back = (f : Found) (rs : List Float) (lent : List ℕ) → Finds f rs lent found slice
+    → (p ≡ delivered f rs (length lent)) × (back ≡ facesAfter p f lent)

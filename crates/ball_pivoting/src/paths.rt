@@ -1,0 +1,102 @@
+// The two paths: pivoting at the radii, or faces among near points where there are none.
+use crate::Finding;
+use decisions::Scene;
+use domain::BallPivotingConfig;
+use radii::Radii;
+ghost use mathlib.Core.Path.{_≡_};
+ghost use mathlib.Core.List.{[]};
+ghost use Prim.Native.Nat.{_/_, _≤_};
+ghost use lib.ListN.{length, take};
+ghost use Rattle.patch.specs.Lay.{patch};
+ghost use Rattle.patch.specs.Frontier.{heapOf};
+ghost use Rattle.laying.specs.Laying.{Ground, rulesOf};
+ghost use Rattle.radii.specs.Steps.{Listed};
+ghost use Rattle.ball_pivoting.specs.Reconstruct.{sceneOf, radiiOf, laid, plainly, found};
+ghost use Rattle.ball_pivoting.specs.Parts.{Sized, Ready, Finds};
+
+// The cloud's points, indexed.
+fn index_points(points: &[f32], settings: BallPivotingConfig, words: &mut [u32]) -> Scene
+    requires { ⌜ Sized (now points) (now words) ⌝ }
+    ensures { λ r. ⌜ (r ≡ sceneOf settings (now (points .entry))) × Ground r (now (points .entry)) (now (words .exit)) ⌝ }
+{
+    let n = points.len() / 3;
+    let indexed = settings.use_spatial_index;
+    let size = settings.radius * settings.spatial_cell_factor;
+    let grid = grid::build_spatial_grid(points, n, size, indexed, words);
+    Scene {
+        n: n,
+        indexed: indexed,
+        grid: grid,
+        min_triangle_area: settings.min_triangle_area,
+        quality_threshold: settings.quality_threshold,
+        max_edge_factor: settings.max_edge_factor,
+    }
+}
+
+// There are no radii.
+fn find_plain(
+    points: &[f32],
+    settings: BallPivotingConfig,
+    radii: Radii,
+    faces: &mut [u32],
+) -> Finding
+    requires { ⌜ (length (now points) / 3 ≤ 4096) × Listed [] radii ⌝ }
+    ensures { λ r. ⌜ Finds (plainly settings (now (points .entry))) [] (now (faces .entry)) r (now (faces .exit)) ⌝ }
+{
+    let count = plain::simple_triangulate(points, settings.radius, faces);
+    Finding {
+        faces: count,
+        seeds: 0,
+        looks: 0,
+        pivots: 0,
+        radii: radii,
+    }
+}
+
+// All radii in turn.
+fn find_pivoting(
+    scene: Scene,
+    points: &[f32],
+    radii: Radii,
+    faces: &mut [u32],
+    words: &mut [u32],
+) -> Finding
+    requires { ⌜ Ground scene (now points) (now words) × Listed (take (radii .count) (radii .list)) radii ⌝ }
+    ensures { λ r. ⌜ Finds (laid (patch (rulesOf scene (now (points .entry))) heapOf (scene .n) (take (radii .count) (radii .list)))) (take (radii .count) (radii .list)) (now (faces .entry)) r (now (faces .exit)) ⌝ }
+{
+    let list = radii.list;
+    let counts = laying::advanced_ball_pivoting(
+        scene,
+        points,
+        list,
+        radii.count as usize,
+        faces,
+        words,
+    );
+    Finding {
+        faces: counts.faces,
+        seeds: counts.seeds,
+        looks: counts.looks,
+        pivots: counts.pivots,
+        radii: radii,
+    }
+}
+
+// What is found over the cloud, with the settings.
+pub fn find(
+    points: &[f32],
+    settings: BallPivotingConfig,
+    faces: &mut [u32],
+    words: &mut [u32],
+    floats: &mut [f32],
+) -> Finding
+    requires { ⌜ Ready settings (now points) (now words) (now floats) ⌝ }
+    ensures { λ r. ⌜ Finds (found settings (now (points .entry))) (radiiOf settings (now (points .entry))) (now (faces .entry)) r (now (faces .exit)) ⌝ }
+{
+    let scene = index_points(points, settings, words);
+    let radii = radii::compute_adaptive_radii(points, scene.n, settings, scene.grid, words, floats);
+    if radii.count == 0 {
+        return find_plain(points, settings, radii, faces);
+    }
+    find_pivoting(scene, points, radii, faces, words)
+}
