@@ -1,0 +1,3 @@
+-- The two tables.
+pub mod Clouds
+pub mod Starred
