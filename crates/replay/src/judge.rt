@@ -1,6 +1,7 @@
 // One case: what the port gives against what the Rust gave.
 use super::bits;
 use super::estimates;
+use super::patches;
 ghost use Prim.Native.Nat.{_<_};
 use triangle::Point3f;
 use triangle::TriangleQuality;
@@ -83,6 +84,7 @@ fn judge_kind(words: &[u32], kind: u32) -> Verdict {
         )),
         6 => verdict_of(as_number(is_acceptable(words)) == bits::word(words, 12)),
         7 => verdict_of(estimates::is_equal(words)),
+        8 => verdict_of(patches::is_equal(words)),
         9 => verdict_of(is_float(
             words,
             11,

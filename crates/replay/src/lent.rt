@@ -3,7 +3,8 @@ use super::bits;
 ghost use Prim.Native.Nat.{_≤_};
 ghost use lib.ListN.{length};
 
-fn mark(i: usize) -> u32 {
+// Word i before a call.
+pub fn mark(i: usize) -> u32 {
     if i < 1000000 {
         2768240640 + (i as u32)
     } else {

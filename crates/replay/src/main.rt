@@ -5,6 +5,7 @@ mod estimates;
 mod judge;
 mod lent;
 mod lines;
+mod patches;
 
 use lines::State;
 

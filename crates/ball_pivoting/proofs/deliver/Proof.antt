@@ -1,43 +1,31 @@
 -- Nothing found, more than fits, or the faces. Assumes nothing.
-use mathlib.Core.Path.{_≡_, refl, sym, subst}
+use mathlib.Core.Path.{refl}
 use Rattle.ball_pivoting.proofs.Delivered.{delivers-none, delivers-over, delivers-faces}
 use borrow.Author.Needs.{needs}
 use Rattle.ball_pivoting.proofs.deliver.Statement.{statement}
 use Rattle.ball_pivoting.proofs.deliver.Tie as tie
-use Rattle.ball_pivoting.proofs.deliver.Reads as reads
-use Rattle.ball_pivoting.proofs.deliver.Lts as lts
-use Rattle.ball_pivoting.proofs.refuse.Reads as refuse-reads
-use Rattle.domain.proofs.clear_u32.Reads as clear-u32-reads
 
--- src/lib.rt:52:9
 refuse-requires : tie.Need-refuse-requires
 refuse-requires c κs = search needs
 
--- src/lib.rt:52:9
 returns : tie.Need-returns
 returns c f rs lent h = delivers-none f rs lent _ _ h _ (c .refuse .ensures) (c .before .if1 .taken)
 
--- src/lib.rt:55:9
 clear-u32-requires : tie.Need-clear-u32-requires
 clear-u32-requires c κs = search needs
 
--- src/lib.rt:56:9
 refuse-requires-2 : tie.Need-refuse-requires-2
 refuse-requires-2 c κs = search needs
 
--- src/lib.rt:56:9
 same-length : tie.Need-same-length
 same-length c = search needs
 
--- src/lib.rt:56:9
 returns-2 : tie.Need-returns-2
 returns-2 c f rs lent h = delivers-over f rs lent _ _ h _ _ (c .refuse2 .ensures) (c .before .before .before .clear-u32 .ensures) (c .before .before .before .before .before .before .if1 .left) (c .before .before .before .before .before .if2 .taken)
 
--- src/lib.rt:63:16
 cast-t12 : tie.Need-cast-t12
 cast-t12 c = search needs
 
--- src/lib.rt:46:1
 returns-3 : tie.Need-returns-3
 returns-3 c f rs lent h = delivers-faces f rs lent _ _ h (c .before .before .before .if1 .left) (c .before .before .if2 .left) _ refl
 

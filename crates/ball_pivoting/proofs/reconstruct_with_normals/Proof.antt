@@ -1,6 +1,6 @@
 -- The main call meets the one claim about it: a cloud is turned away, or what is found over it comes back. Assumes nothing.
 use Prim.Native.Nat.{ℕ}
-use mathlib.Core.Path.{_≡_, sym, ap, _∙_}
+use mathlib.Core.Path.{sym, ap, _∙_}
 use lib.ListN.{replicate}
 use Rattle.numbers.specs.Rounded.{f32}
 use Rattle.domain.specs.declared.Refusal.{Refusal}
@@ -9,56 +9,37 @@ use Rattle.ball_pivoting.proofs.Outcome.{ready-of, turned-away, taken}
 use borrow.Author.Needs.{needs}
 use Rattle.ball_pivoting.proofs.reconstruct_with_normals.Statement.{statement}
 use Rattle.ball_pivoting.proofs.reconstruct_with_normals.Tie as tie
-use Rattle.ball_pivoting.proofs.reconstruct_with_normals.Reads as reads
-use Rattle.ball_pivoting.proofs.reconstruct_with_normals.Lts as lts
-use Rattle.ball_pivoting.proofs.deliver.Reads as deliver-reads
-use Rattle.ball_pivoting.proofs.paths.find.Reads as find-reads
-use Rattle.ball_pivoting.proofs.refuse.Reads as refuse-reads
-use Rattle.domain.proofs.clear_f32.Reads as clear-f32-reads
-use Rattle.domain.proofs.clear_u32.Reads as clear-u32-reads
-use Rattle.domain.proofs.refusal_of_reconstruct.Reads as refusal-of-reconstruct-reads
 
--- src/lib.rt:87:9
 refusal-of-reconstruct-requires : tie.Need-refusal-of-reconstruct-requires
 refusal-of-reconstruct-requires c κs = search needs
 
--- src/lib.rt:89:9
 refuse-requires : tie.Need-refuse-requires
 refuse-requires c κs = search needs
 
--- src/lib.rt:89:9
 returns : tie.Need-returns
 returns c = turned-away _ _ _ _ _ _ _ (c .before .before .before .refusal-of-reconstruct .ensures) _ (c .refuse .ensures) (c .before .if1 .taken)
 
--- src/lib.rt:91:9
 find-requires : tie.Need-find-requires
 find-requires c κs = ready-of _ _ _ _ _ (ap (λ (q : Refusal). q .answer) (sym (c .before .before .before .before .before .refusal-of-reconstruct .ensures)) ∙ c .before .before .before .if1 .left)
 
--- src/lib.rt:92:5
 clear-u32-requires : tie.Need-clear-u32-requires
 clear-u32-requires c κs = search needs
 
--- src/lib.rt:93:5
 clear-f32-requires : tie.Need-clear-f32-requires
 clear-f32-requires c κs = search needs
 
--- src/lib.rt:94:5
 deliver-requires : tie.Need-deliver-requires
 deliver-requires c κs = search needs
 
--- src/lib.rt:77:1
 same-length : tie.Need-same-length
 same-length c = search needs
 
--- src/lib.rt:77:1
 same-length-2 : tie.Need-same-length-2
 same-length-2 c = search needs
 
--- src/lib.rt:77:1
 same-length-3 : tie.Need-same-length-3
 same-length-3 c = search needs
 
--- src/lib.rt:77:1
 returns-2 : tie.Need-returns-2
 returns-2 c =
     let found = c .before .before .before .before .before .before .before .before .before .before .before .before .before .before .before .before .before .before .find in

@@ -3,10 +3,7 @@ use mathlib.Core.Path.{refl}
 use Rattle.ball_pivoting.specs.Reconstruct.{slots, refused}
 use Rattle.ball_pivoting.proofs.refuse.Statement.{statement}
 use Rattle.ball_pivoting.proofs.refuse.Tie as tie
-use Rattle.ball_pivoting.proofs.refuse.Reads as reads
-use Rattle.ball_pivoting.proofs.refuse.Lts as lts
 
--- src/lib.rt:30:1
 returns : tie.Need-returns
 unfolding slots refused
 returns c = refl

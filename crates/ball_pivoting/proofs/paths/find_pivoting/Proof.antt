@@ -6,27 +6,19 @@ use Rattle.ball_pivoting.specs.Reconstruct.{laid}
 use borrow.Author.Needs.{needs}
 use Rattle.ball_pivoting.proofs.paths.find_pivoting.Statement.{statement}
 use Rattle.ball_pivoting.proofs.paths.find_pivoting.Tie as tie
-use Rattle.ball_pivoting.proofs.paths.find_pivoting.Reads as reads
-use Rattle.ball_pivoting.proofs.paths.find_pivoting.Lts as lts
-use Rattle.laying.proofs.advanced_ball_pivoting.Reads as advanced-ball-pivoting-reads
 
--- src/paths.rt:57:70
 cast-advanced-ball-pivoting : tie.Need-cast-advanced-ball-pivoting
 cast-advanced-ball-pivoting c = search needs
 
--- src/paths.rt:57:9
 advanced-ball-pivoting-requires : tie.Need-advanced-ball-pivoting-requires
 advanced-ball-pivoting-requires c κs = search needs
 
--- src/paths.rt:52:1
 same-length : tie.Need-same-length
 same-length c = search needs
 
--- src/paths.rt:52:1
 same-length-2 : tie.Need-same-length-2
 same-length-2 c = search needs
 
--- src/paths.rt:52:1
 returns : tie.Need-returns
 unfolding laid
 returns c =

@@ -6,19 +6,13 @@ use Rattle.ball_pivoting.specs.Reconstruct.{plainly}
 use borrow.Author.Needs.{needs}
 use Rattle.ball_pivoting.proofs.paths.find_plain.Statement.{statement}
 use Rattle.ball_pivoting.proofs.paths.find_plain.Tie as tie
-use Rattle.ball_pivoting.proofs.paths.find_plain.Reads as reads
-use Rattle.ball_pivoting.proofs.paths.find_plain.Lts as lts
-use Rattle.plain.proofs.simple_triangulate.Reads as simple-triangulate-reads
 
--- src/paths.rt:41:9
 simple-triangulate-requires : tie.Need-simple-triangulate-requires
 simple-triangulate-requires c κs = search needs
 
--- src/paths.rt:37:1
 same-length : tie.Need-same-length
 same-length c = search needs
 
--- src/paths.rt:37:1
 returns : tie.Need-returns
 unfolding plainly
 returns c =

@@ -3,19 +3,13 @@ use Rattle.ball_pivoting.specs.Reconstruct.{indexOf, sceneOf}
 use borrow.Author.Needs.{needs}
 use Rattle.ball_pivoting.proofs.paths.index_points.Statement.{statement}
 use Rattle.ball_pivoting.proofs.paths.index_points.Tie as tie
-use Rattle.ball_pivoting.proofs.paths.index_points.Reads as reads
-use Rattle.ball_pivoting.proofs.paths.index_points.Lts as lts
-use Rattle.grid.proofs.build_spatial_grid.Reads as build-spatial-grid-reads
 
--- src/paths.rt:25:9
 build-spatial-grid-requires : tie.Need-build-spatial-grid-requires
 build-spatial-grid-requires c κs = search needs
 
--- src/paths.rt:18:1
 same-length : tie.Need-same-length
 same-length c = search needs
 
--- src/paths.rt:18:1
 returns : tie.Need-returns
 unfolding indexOf sceneOf
 returns c =
