@@ -1,7 +1,6 @@
 //! The cloud file, read a second time and in another way: split into lines, lines into fields, fields into digits.
 
 /// What a reader answers: the refusal's number or 0, its detail, and what was read.
-#[repr(C)]
 #[derive(Clone, Copy, Debug)]
 pub struct CloudRead {
     pub answer: u32,

@@ -5,9 +5,6 @@ use crate::sides::Side;
 use expect::{Estimate, Lent, Patch, BUDGET};
 use generate::{case, old_word, Case};
 
-pub const ESTIMATE: &str = "yb_estimate_optimal_radius";
-pub const RECONSTRUCT: &str = "yb_reconstruct_with_normals";
-
 /// Slices of these lengths with recognisable contents.
 pub fn lend(faces: usize, words: usize, floats: usize) -> Lent {
     Lent {

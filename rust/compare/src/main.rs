@@ -9,7 +9,7 @@ mod report;
 mod sides;
 mod triangles;
 
-use sides::{Linked, Number, Side};
+use sides::Linked;
 
 const USAGE: &str = "usage:
   compare numbers COUNT SEED              roots, arc cosines, cuts, min, max, clamp
@@ -20,28 +20,10 @@ const USAGE: &str = "usage:
   compare oracle COUNT SEED [FIRST]       needs no port: what must hold of the oracle's counts
   compare selftest                        needs no port: a turned bit is found";
 
-/// The port's calls of a subcommand; one of them must have landed.
-fn calls(command: &str) -> Vec<&'static str> {
-    match command {
-        "numbers" => Number::ALL.map(Number::call).to_vec(),
-        "roots" => vec![Number::Sqrt.call()],
-        "triangles" => vec![triangles::CIRCUMRADIUS, triangles::QUALITY, triangles::ACCEPTABLE],
-        "estimate" => vec![clouds::ESTIMATE],
-        "reconstruct" => vec![clouds::RECONSTRUCT],
-        _ => vec![],
-    }
-}
-
 fn main() {
     let words: Vec<String> = std::env::args().skip(1).collect();
     let command = words.first().map_or("", String::as_str);
     let numbers: Vec<u64> = words.iter().skip(1).filter_map(|w| w.parse().ok()).collect();
-    let needed = calls(command);
-    let landed = needed.iter().filter(|call| Linked.has(&[call])).count();
-    if !needed.is_empty() && landed == 0 {
-        eprintln!("{command}: none of {needed:?} has landed");
-        std::process::exit(2);
-    }
     let report = match (command, numbers.as_slice()) {
         ("numbers", [count, seed]) => numbers::numbers(&Linked, *count, *seed),
         ("roots", [step]) if *step > 0 => numbers::roots(&Linked, *step),
@@ -55,9 +37,6 @@ fn main() {
             std::process::exit(2);
         }
     };
-    if landed < needed.len() {
-        println!("{command}: {landed} of {} calls have landed", needed.len());
-    }
     std::process::exit(i32::from(!report.finish()));
 }
 

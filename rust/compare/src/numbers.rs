@@ -30,11 +30,11 @@ fn compare(report: &mut Report, side: &dyn Side, call: Number, x: f32, y: f32, z
     }
 }
 
-/// Every landed call on the edge patterns and on `count` random numbers.
+/// Every call on the edge patterns and on `count` random numbers.
 pub fn numbers(side: &dyn Side, count: u64, seed: u64) -> Report {
     let mut report = Report::new("numbers");
     let edges = edges();
-    for call in Number::ALL.into_iter().filter(|n| side.has(&[n.call()])) {
+    for call in Number::ALL {
         let random = &mut Random::new(seed, call as u64);
         for x in &edges {
             let (y, z) = (random.pick(&edges), random.pick(&edges));

@@ -14,8 +14,6 @@ pub trait Side {
     fn acceptable(&self, quality: Quality, radius: f32, limits: &Limits) -> bool;
     fn estimate(&self, case: &Case, lent: &mut Lent) -> Estimate;
     fn reconstruct(&self, case: &Case, lent: &mut Lent) -> Patch;
-    /// True if these calls can be made.
-    fn has(&self, calls: &[&str]) -> bool;
 }
 
 /// The calls on one to three numbers.
@@ -99,10 +97,6 @@ impl Side for Linked {
 
     fn reconstruct(&self, case: &Case, lent: &mut Lent) -> Patch {
         port::reconstruct(&case.points, &case.normals, &case.settings, lent)
-    }
-
-    fn has(&self, calls: &[&str]) -> bool {
-        port::landed(calls)
     }
 }
 
@@ -224,9 +218,5 @@ impl Side for Mirror {
         self.float("last radius", &mut patch.radii[16]);
         self.slices(lent);
         patch
-    }
-
-    fn has(&self, _: &[&str]) -> bool {
-        true
     }
 }

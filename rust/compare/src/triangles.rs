@@ -6,10 +6,6 @@ use generate::numbers::{limits, number, radius, triangle};
 use generate::Random;
 use port::Quality;
 
-pub const CIRCUMRADIUS: &str = "yb_compute_circumradius";
-pub const QUALITY: &str = "yb_compute_triangle_quality";
-pub const ACCEPTABLE: &str = "yb_is_triangle_acceptable";
-
 /// The measures of the triangle, or now and then numbers that no triangle has.
 fn judged(random: &mut Random, quality: Quality) -> Quality {
     if random.percent(90) {
@@ -25,30 +21,24 @@ pub fn triangles(side: &dyn Side, count: u64, seed: u64, first: u64) -> Report {
         let corners = triangle(random);
         let context = || format!("case {case} of seed {seed}, coordinates {:08x?}", corners.map(f32::to_bits));
         let quality = measures(&oracle::quality(&corners));
-        if side.has(&[CIRCUMRADIUS]) {
-            report.check("circumradius", oracle::circumradius(&corners), side.circumradius(&corners), context);
+        report.check("circumradius", oracle::circumradius(&corners), side.circumradius(&corners), context);
+        let got = side.quality(&corners);
+        for (name, expected, got) in [
+            ("aspect_ratio", quality.aspect_ratio, got.aspect_ratio),
+            ("min_angle", quality.min_angle, got.min_angle),
+            ("max_angle", quality.max_angle, got.max_angle),
+            ("area", quality.area, got.area),
+            ("edge_ratio", quality.edge_ratio, got.edge_ratio),
+            ("quality_score", quality.quality_score, got.quality_score),
+        ] {
+            report.check(name, expected, got, context);
         }
-        if side.has(&[QUALITY]) {
-            let got = side.quality(&corners);
-            for (name, expected, got) in [
-                ("aspect_ratio", quality.aspect_ratio, got.aspect_ratio),
-                ("min_angle", quality.min_angle, got.min_angle),
-                ("max_angle", quality.max_angle, got.max_angle),
-                ("area", quality.area, got.area),
-                ("edge_ratio", quality.edge_ratio, got.edge_ratio),
-                ("quality_score", quality.quality_score, got.quality_score),
-            ] {
-                report.check(name, expected, got, context);
-            }
-        }
-        if side.has(&[ACCEPTABLE]) {
-            let quality = judged(random, quality);
-            let (radius, limits) = (radius(random, quality.area, quality.edge_ratio), limits(random));
-            let expected = oracle::acceptable(&published(&quality), radius, &limits);
-            let got = side.acceptable(quality, radius, &limits);
-            report.note(if expected { "acceptable" } else { "unacceptable" });
-            report.check("acceptable", expected, got, || format!("{quality:?} at {radius:?}, {limits:?}"));
-        }
+        let quality = judged(random, quality);
+        let (radius, limits) = (radius(random, quality.area, quality.edge_ratio), limits(random));
+        let expected = oracle::acceptable(&published(&quality), radius, &limits);
+        let got = side.acceptable(quality, radius, &limits);
+        report.note(if expected { "acceptable" } else { "unacceptable" });
+        report.check("acceptable", expected, got, || format!("{quality:?} at {radius:?}, {limits:?}"));
     }
     report
 }

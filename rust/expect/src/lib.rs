@@ -8,7 +8,6 @@ use oracle::{Error, Laid, Settings, Skip};
 pub const BUDGET: u64 = 16_000_000;
 
 /// The answer of the radius estimate.
-#[repr(C)]
 #[derive(Clone, Copy, Debug, Default)]
 pub struct Estimate {
     pub answer: u32,
@@ -17,7 +16,6 @@ pub struct Estimate {
 }
 
 /// The answer of a reconstruction; radii past the count are zeros.
-#[repr(C)]
 #[derive(Clone, Copy, Debug, Default)]
 pub struct Patch {
     pub answer: u32,

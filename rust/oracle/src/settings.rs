@@ -1,9 +1,8 @@
-//! The settings that this path reads, in the layout in which the port takes them.
+//! The settings that this path reads, with lists of 8 slots and a count, as the port has them.
 
 use crate::ball_pivoting::BallPivotingConfig;
 
 /// Slots past a count are never read.
-#[repr(C)]
 #[derive(Clone, Copy, Debug)]
 pub struct Settings {
     pub radius: f32,

@@ -1,0 +1,17 @@
+//! Reads a cloud file, lays a patch over it, and says how much of the wall was reached.
+
+use std::io::Read;
+
+fn main() -> Result<(), Box<dyn std::error::Error>> {
+    let mut bytes = Vec::new();
+    match std::env::args().nth(1) {
+        Some(path) => bytes = std::fs::read(path)?,
+        None => _ = std::io::stdin().read_to_end(&mut bytes)?,
+    }
+    let cloud = yarrowbleat::read_cloud(&bytes)?;
+    let patch = yarrowbleat::ball_pivoting_from_normals(&cloud.points, &cloud.normals, cloud.radius)?;
+    let reached = patch.coverage();
+    println!("{} faces", patch.faces.len());
+    println!("{} of {} points reached", reached.covered, reached.scanned);
+    Ok(())
+}

@@ -1,0 +1,67 @@
+//! The settings under their old names.
+
+use crate::sys;
+
+/// The fields of the old configuration that this path reads. Both lists have at most 8 entries.
+#[derive(Clone, Debug, PartialEq)]
+pub struct BallPivotingConfig {
+    /// 0.001 to 1,000.
+    pub radius: f32,
+    /// Each 0.001 to 1,000.
+    pub additional_radii: Vec<f32>,
+    pub adaptive_radius: bool,
+    /// Each 0 to 1.
+    pub adaptive_percentiles: Vec<f32>,
+    /// 0 to 1,000,000.
+    pub quality_threshold: f32,
+    /// 0 to 1,000,000.
+    pub max_edge_factor: f32,
+    /// 0 to 1,000,000.
+    pub min_triangle_area: f32,
+    pub use_spatial_index: bool,
+    /// 0.5 to 16.
+    pub spatial_cell_factor: f32,
+}
+
+impl Default for BallPivotingConfig {
+    fn default() -> Self {
+        Self {
+            radius: 0.1,
+            additional_radii: vec![0.05, 0.15, 0.2],
+            adaptive_radius: true,
+            adaptive_percentiles: vec![0.25, 0.5, 0.75, 0.9],
+            quality_threshold: 0.1,
+            max_edge_factor: 3.0,
+            min_triangle_area: 1e-8,
+            use_spatial_index: true,
+            spatial_cell_factor: 2.0,
+        }
+    }
+}
+
+/// A list's slots and its count; of a list over 8 the count alone says that it is too long.
+fn slots(list: &[f32]) -> ([f32; 8], u32) {
+    let mut slots = [0.0; 8];
+    slots.iter_mut().zip(list).for_each(|(slot, x)| *slot = *x);
+    (slots, list.len().min(9) as u32)
+}
+
+impl From<&BallPivotingConfig> for sys::BallPivotingConfig {
+    fn from(c: &BallPivotingConfig) -> Self {
+        let (additional_radii, additional_count) = slots(&c.additional_radii);
+        let (adaptive_percentiles, percentile_count) = slots(&c.adaptive_percentiles);
+        Self {
+            radius: c.radius,
+            additional_radii,
+            additional_count,
+            adaptive_radius: c.adaptive_radius,
+            adaptive_percentiles,
+            percentile_count,
+            quality_threshold: c.quality_threshold,
+            max_edge_factor: c.max_edge_factor,
+            min_triangle_area: c.min_triangle_area,
+            use_spatial_index: c.use_spatial_index,
+            spatial_cell_factor: c.spatial_cell_factor,
+        }
+    }
+}

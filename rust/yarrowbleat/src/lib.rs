@@ -1,0 +1,114 @@
+//! Ball pivoting over scanned points: the proved port, under the names of the old module.
+//!
+//! Memory is allocated here; `sys` has the calls over lent slices. Whatever is outside the domain is an [`Error`].
+
+mod config;
+mod error;
+pub mod sys;
+
+pub use config::BallPivotingConfig;
+pub use error::Error;
+
+/// The most points of a cloud.
+pub const MAX_POINTS: usize = 4_096;
+
+/// The most faces that are ever found: one a point, or on the plain path 10,000.
+const MAX_FACES: usize = 10_000;
+
+/// The faces laid over a cloud, as point numbers from 0, and how they came about.
+#[derive(Clone, Debug, PartialEq)]
+pub struct Patch {
+    /// The cloud's points.
+    pub points: usize,
+    pub faces: Vec<[u32; 3]>,
+    /// The radii tried, rising; none on the plain path.
+    pub radii: Vec<f32>,
+    pub seeds: u32,
+    pub looks: u32,
+    pub pivots: u32,
+}
+
+/// How much of the wall was reached.
+#[derive(Clone, Copy, Debug, PartialEq, Eq)]
+pub struct Coverage {
+    /// The points that a face touches.
+    pub covered: usize,
+    /// The cloud's points.
+    pub scanned: usize,
+}
+
+impl Patch {
+    /// How many of the scanned points the faces touch. With radii a seed takes three points and each further face
+    /// one, so that no count is needed.
+    pub fn coverage(&self) -> Coverage {
+        let covered = if self.radii.is_empty() { self.touched() } else { self.faces.len() + 2 * self.seeds as usize };
+        Coverage { covered, scanned: self.points }
+    }
+
+    fn touched(&self) -> usize {
+        let mut touched = vec![false; self.points];
+        self.faces.iter().flatten().for_each(|point| touched[*point as usize] = true);
+        touched.iter().filter(|t| **t).count()
+    }
+}
+
+/// Work slices for this many points; more than the domain has are refused before the work is looked at.
+fn work(points: usize) -> (Vec<u32>, Vec<f32>) {
+    let n = points.min(MAX_POINTS);
+    (vec![0; 24 * n + 64], vec![0.0; 4 * n + 64])
+}
+
+/// A radius that suits the cloud: 2.5 times this percentile of its points' least distances, or 0.1 if there are none.
+pub fn estimate_optimal_radius(points: &[[f32; 3]], percentile: f32) -> Result<f32, Error> {
+    let (mut words, mut floats) = work(points.len());
+    let r = sys::estimate_optimal_radius(points.as_flattened(), percentile, &mut words, &mut floats);
+    Error::check(r.answer, r.detail as usize)?;
+    Ok(r.radius)
+}
+
+/// Lays a patch over the points. The normals, one for each point, are checked and change no face.
+pub fn reconstruct_with_normals(
+    points: &[[f32; 3]],
+    normals: &[[f32; 3]],
+    config: &BallPivotingConfig,
+) -> Result<Patch, Error> {
+    let (mut words, mut floats) = work(points.len());
+    let mut faces = vec![[0; 3]; MAX_FACES];
+    let r = sys::reconstruct_with_normals(
+        points.as_flattened(),
+        normals.as_flattened(),
+        config.into(),
+        faces.as_flattened_mut(),
+        &mut words,
+        &mut floats,
+    );
+    Error::check(r.answer, r.detail as usize)?;
+    faces.truncate(r.faces as usize);
+    let radii = r.radii[..r.radii_count as usize].to_vec();
+    Ok(Patch { points: points.len(), faces, radii, seeds: r.seeds, looks: r.looks, pivots: r.pivots })
+}
+
+/// Lays a patch with the default settings but for the radius.
+pub fn ball_pivoting_from_normals(points: &[[f32; 3]], normals: &[[f32; 3]], radius: f32) -> Result<Patch, Error> {
+    reconstruct_with_normals(points, normals, &BallPivotingConfig { radius, ..Default::default() })
+}
+
+/// What a cloud file holds.
+#[derive(Clone, Debug, PartialEq)]
+pub struct Cloud {
+    pub radius: f32,
+    pub points: Vec<[f32; 3]>,
+    pub normals: Vec<[f32; 3]>,
+}
+
+/// Reads a cloud file: a line with the radius, then a line `x,y,z,nx,ny,nz` for each point, each ended by LF.
+pub fn read_cloud(bytes: &[u8]) -> Result<Cloud, Error> {
+    let lines = bytes.iter().filter(|b| **b == b'\n').count();
+    let mut points = vec![[0.0; 3]; lines];
+    let mut normals = points.clone();
+    let r = sys::read_cloud(bytes, points.as_flattened_mut(), normals.as_flattened_mut());
+    Error::check(r.answer, r.detail)?;
+    points.truncate(r.count);
+    normals.truncate(r.count);
+    Ok(Cloud { radius: r.radius, points, normals })
+}
