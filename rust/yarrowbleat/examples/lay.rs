@@ -1,8 +1,9 @@
 //! Reads a cloud file, lays a patch over it, and says how much of the wall was reached.
 
+use std::error::Error;
 use std::io::Read;
 
-fn main() -> Result<(), Box<dyn std::error::Error>> {
+fn lay() -> Result<(), Box<dyn Error>> {
     let mut bytes = Vec::new();
     match std::env::args().nth(1) {
         Some(path) => bytes = std::fs::read(path)?,
@@ -11,7 +12,14 @@ fn main() -> Result<(), Box<dyn std::error::Error>> {
     let cloud = yarrowbleat::read_cloud(&bytes)?;
     let patch = yarrowbleat::ball_pivoting_from_normals(&cloud.points, &cloud.normals, cloud.radius)?;
     let reached = patch.coverage();
-    println!("{} faces", patch.faces.len());
-    println!("{} of {} points reached", reached.covered, reached.scanned);
+    println!("faces: {}", patch.faces.len());
+    println!("reached: {} of {} points", reached.covered, reached.scanned);
     Ok(())
+}
+
+fn main() {
+    if let Err(error) = lay() {
+        eprintln!("refused: {error}");
+        std::process::exit(1);
+    }
 }

@@ -1,0 +1,237 @@
+/*
+ * Yarrowbleat for C: the proved port of ball pivoting, in target/staticlib/libexports.a.
+ *
+ * A slice is a pointer and the number of its entries (not bytes). A null pointer with length 0 is an empty slice.
+ * Slices of one call must not overlap; a bool is 0 or 1; nothing is allocated and nothing is kept between calls.
+ *
+ * Every call of the second half answers a number, 0 if it accepts, and a detail, 0 where none is named:
+ *
+ *    1  the points slice is empty
+ *    2  the points' length is not a multiple of 3, or the normals' length differs from it
+ *    3  there are more than 4,096 points
+ *    4  a coordinate is not within -10,000 to 10,000, or a normal's component is not finite; detail: the first such
+ *       point, from 0
+ *    5  a setting is outside its bounds; detail: the first such setting's number, see YbBallPivotingConfig
+ *    6  the percentile is not within 0 to 1
+ *    7  a work slice is too short
+ *    8  no triangle was found
+ *    9  the faces found don't fit the face slice
+ *   10  a line of the cloud file is malformed; detail: the first such line, from 1
+ *   11  all lines are well formed, but the points don't fit the slices
+ *
+ * The checks are made in this order; a not-a-number is within no bounds. At a refusal every other field is 0.
+ */
+#ifndef YARROWBLEAT_H
+#define YARROWBLEAT_H
+
+#include <stdbool.h>
+#include <stddef.h>
+#include <stdint.h>
+
+#ifdef __cplusplus
+#define YB_ASSERT static_assert
+extern "C" {
+#else
+#define YB_ASSERT _Static_assert
+#endif
+
+/* The most points of a cloud. */
+#define YB_MAX_POINTS 4096
+
+/* The least lengths of the work slices for n points. */
+#define YB_WORDS(n) (24 * (size_t)(n) + 64)
+#define YB_FLOATS(n) (4 * (size_t)(n) + 64)
+
+/* The length of a face slice that never gets a 9, whatever the cloud: 3 numbers a face, at most 10,000 faces. */
+#define YB_FACE_NUMBERS 30000
+
+/* The six measures of a triangle. */
+typedef struct {
+    float aspect_ratio;
+    float min_angle;
+    float max_angle;
+    float area;
+    float edge_ratio;
+    float quality_score;
+} YbTriangleQuality;
+
+/* The answer of the radius estimate. */
+typedef struct {
+    uint32_t answer;
+    uint32_t detail;
+    float radius;
+} YbEstimate;
+
+/* The settings, each with its number and bounds. Slots past a list's count are never read; a count may be 0. */
+typedef struct {
+    float radius;                  /* 1: 0.001 to 1,000 */
+    float additional_radii[8];     /* 2: each 0.001 to 1,000 */
+    uint32_t additional_count;     /* 2: at most 8 */
+    bool adaptive_radius;
+    float adaptive_percentiles[8]; /* 3: each 0 to 1 */
+    uint32_t percentile_count;     /* 3: at most 8 */
+    float quality_threshold;       /* 4: 0 to 1,000,000 */
+    float max_edge_factor;         /* 5: 0 to 1,000,000 */
+    float min_triangle_area;       /* 6: 0 to 1,000,000 */
+    bool use_spatial_index;
+    float spatial_cell_factor;     /* 7: 0.5 to 16 */
+} YbBallPivotingConfig;
+
+/* The answer of a reconstruction. */
+typedef struct {
+    uint32_t answer;
+    uint32_t detail;
+    uint32_t faces;       /* faces laid: the first 3 * faces numbers of the face slice */
+    uint32_t seeds;       /* of these, the ones that were laid as seeds */
+    uint32_t looks;       /* entries taken from the frontier */
+    uint32_t pivots;      /* looks at an edge that was not processed before */
+    uint32_t radii_count; /* radii tried; 0 on the plain path */
+    float radii[17];      /* rising; zeros past the count */
+} YbPatch;
+
+/* The answer of the cloud reader. */
+typedef struct {
+    uint32_t answer;
+    size_t detail;
+    float radius;
+    size_t count; /* points */
+} YbCloudRead;
+
+/* ---- Single numbers and triangles: every input is accepted. ---- */
+
+/* The nearest float to the square root; a not-a-number below zero. */
+float yb_sqrt(float x);
+
+/* The arc cosine as musl has it; a not-a-number outside -1 to 1. */
+float yb_acos(float v);
+
+/* The fraction dropped, held to 0 .. 2^32 - 1; of a not-a-number 0. */
+uint32_t yb_cut(float x);
+
+/* The same of the least whole number that is not below x. */
+uint32_t yb_ceil_cut(float x);
+
+/* The lesser and the greater; where one is a not-a-number, the other. */
+float yb_min(float a, float b);
+float yb_max(float a, float b);
+
+/* v held to lo .. hi; a not-a-number is passed on. */
+float yb_clamp(float v, float lo, float hi);
+
+/* The radius of the circle through three points. */
+float yb_compute_circumradius(float x1, float y1, float z1, float x2, float y2, float z2, float x3, float y3, float z3);
+
+/* The measures of a triangle. An area below 1e-10 gives score 0, edge ratio infinity and largest angle pi. */
+YbTriangleQuality yb_compute_triangle_quality(float x1, float y1, float z1, float x2, float y2, float z2, float x3,
+                                              float y3, float z3);
+
+/* True if a triangle with these measures is laid at this radius, under these three settings. */
+bool yb_is_triangle_acceptable(YbTriangleQuality quality, float radius, float min_triangle_area,
+                               float quality_threshold, float max_edge_factor);
+
+/* ---- Clouds ---- */
+
+/*
+ * A radius that suits the cloud: 2.5 times the percentile of its points' least distances, or 0.1 if there is none.
+ *
+ * points: three coordinates a point, points_len of them, 1 to 4,096 points.
+ * work_u32, work_f32: at least YB_WORDS(n) = 24n + 64 and YB_FLOATS(n) = 4n + 64 entries for n points.
+ *
+ * Answers 0, 1, 2 (first half), 3, 4 (coordinates), 6 or 7. At 0 both work slices end as zeros; at a refusal they are
+ * untouched and the radius is 0.
+ */
+YbEstimate yb_estimate_optimal_radius(const float *points, size_t points_len, float percentile, uint32_t *work_u32,
+                                      size_t work_u32_len, float *work_f32, size_t work_f32_len);
+
+/*
+ * Lays a patch of triangles over the cloud.
+ *
+ * points: three coordinates a point, 1 to 4,096 points. normals: as many numbers; they change no face.
+ * faces: gets three point numbers a face, from 0; YB_FACE_NUMBERS entries are always enough.
+ * words, floats: work slices of at least YB_WORDS(n) = 24n + 64 and YB_FLOATS(n) = 4n + 64 entries for n points.
+ *
+ * Answers 0 to 5 and 7 to 9. What it leaves:
+ *   0             faces at the front of the face slice, the rest of it as it was; both work slices zeros
+ *   1 to 5 and 7  all three slices as they were
+ *   8             the face slice as it was; both work slices zeros
+ *   9             all three slices zeros (9 means more faces than faces_len / 3)
+ */
+YbPatch yb_reconstruct_with_normals(const float *points, size_t points_len, const float *normals, size_t normals_len,
+                                    YbBallPivotingConfig settings, uint32_t *faces, size_t faces_len,
+                                    uint32_t *words, size_t words_len, float *floats, size_t floats_len);
+
+/*
+ * Reads a cloud file: a line with the radius, then a line x,y,z,nx,ny,nz for each point, each line ended by LF. A
+ * number is an optional minus, 1 to 5 digits, and optionally a point and 1 to 6 digits.
+ *
+ * points, normals: get three numbers a point; as many points as there are LFs in the file are always enough.
+ *
+ * Answers 0, 10 or 11. At 0 what lies past the last point stays as it was; at a refusal both slices do, and radius
+ * and count are 0. A file of one line has no points and is accepted.
+ */
+YbCloudRead yb_read_cloud(const uint8_t *bytes, size_t bytes_len, float *points, size_t points_len, float *normals,
+                          size_t normals_len);
+
+/* The default settings at a radius: those of ball_pivoting_from_normals. */
+static inline YbBallPivotingConfig yb_default_config(float radius) {
+    YbBallPivotingConfig config = {
+        radius, {0.05f, 0.15f, 0.2f}, 3, true, {0.25f, 0.5f, 0.75f, 0.9f}, 4, 0.1f, 3.0f, 1e-8f, true, 2.0f};
+    return config;
+}
+
+/* ---- The layout that the library was built with ---- */
+
+#define YB_SIZE(type, size) YB_ASSERT(sizeof(type) == (size), "the size of " #type)
+#define YB_AT(type, field, offset) YB_ASSERT(offsetof(type, field) == (offset), "the offset of " #field " in " #type)
+
+YB_SIZE(YbTriangleQuality, 24);
+YB_AT(YbTriangleQuality, aspect_ratio, 0);
+YB_AT(YbTriangleQuality, min_angle, 4);
+YB_AT(YbTriangleQuality, max_angle, 8);
+YB_AT(YbTriangleQuality, area, 12);
+YB_AT(YbTriangleQuality, edge_ratio, 16);
+YB_AT(YbTriangleQuality, quality_score, 20);
+
+YB_SIZE(YbEstimate, 12);
+YB_AT(YbEstimate, answer, 0);
+YB_AT(YbEstimate, detail, 4);
+YB_AT(YbEstimate, radius, 8);
+
+YB_SIZE(YbBallPivotingConfig, 100);
+YB_AT(YbBallPivotingConfig, radius, 0);
+YB_AT(YbBallPivotingConfig, additional_radii, 4);
+YB_AT(YbBallPivotingConfig, additional_count, 36);
+YB_AT(YbBallPivotingConfig, adaptive_radius, 40);
+YB_AT(YbBallPivotingConfig, adaptive_percentiles, 44);
+YB_AT(YbBallPivotingConfig, percentile_count, 76);
+YB_AT(YbBallPivotingConfig, quality_threshold, 80);
+YB_AT(YbBallPivotingConfig, max_edge_factor, 84);
+YB_AT(YbBallPivotingConfig, min_triangle_area, 88);
+YB_AT(YbBallPivotingConfig, use_spatial_index, 92);
+YB_AT(YbBallPivotingConfig, spatial_cell_factor, 96);
+
+YB_SIZE(YbPatch, 96);
+YB_AT(YbPatch, answer, 0);
+YB_AT(YbPatch, detail, 4);
+YB_AT(YbPatch, faces, 8);
+YB_AT(YbPatch, seeds, 12);
+YB_AT(YbPatch, looks, 16);
+YB_AT(YbPatch, pivots, 20);
+YB_AT(YbPatch, radii_count, 24);
+YB_AT(YbPatch, radii, 28);
+
+YB_SIZE(YbCloudRead, 32);
+YB_AT(YbCloudRead, answer, 0);
+YB_AT(YbCloudRead, detail, 8);
+YB_AT(YbCloudRead, radius, 16);
+YB_AT(YbCloudRead, count, 24);
+
+#undef YB_SIZE
+#undef YB_AT
+#undef YB_ASSERT
+
+#ifdef __cplusplus
+}
+#endif
+
+#endif
