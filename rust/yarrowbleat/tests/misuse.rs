@@ -1,0 +1,100 @@
+//! Misuse of the safe crate ends in an error with the scope's number and detail, and of its raw layer in a refusal.
+
+use yarrowbleat::*;
+
+const TRIANGLE: [[f32; 3]; 3] = [[0.0, 0.0, 0.0], [1.0, 0.0, 0.0], [0.0, 1.0, 0.0]];
+
+fn told<T: std::fmt::Debug>(result: Result<T, Error>) -> (u32, usize) {
+    let error = result.expect_err("a refusal");
+    assert_eq!(Error::check(error.number(), error.detail()), Err(error));
+    assert!(!error.to_string().is_empty());
+    (error.number(), error.detail())
+}
+
+fn with(change: impl Fn(&mut BallPivotingConfig)) -> Result<Patch, Error> {
+    let mut config = BallPivotingConfig { radius: 1.0, ..Default::default() };
+    change(&mut config);
+    reconstruct_with_normals(&TRIANGLE, &TRIANGLE, &config)
+}
+
+#[test]
+fn lengths() {
+    let lay = |p: &[[f32; 3]], n: &[[f32; 3]]| told(ball_pivoting_from_normals(p, n, 1.0));
+    assert_eq!(lay(&[], &[]), (1, 0));
+    assert_eq!(lay(&[], &TRIANGLE), (1, 0));
+    assert_eq!(lay(&TRIANGLE, &[]), (2, 0));
+    assert_eq!(lay(&TRIANGLE, &TRIANGLE[..2]), (2, 0));
+    let many = vec![[0.0; 3]; MAX_POINTS + 1];
+    assert_eq!(lay(&many, &many), (3, 0));
+    assert_eq!(lay(&TRIANGLE[..2], &TRIANGLE[..2]), (8, 0));
+    assert_eq!(told(estimate_optimal_radius(&[], 0.5)), (1, 0));
+    assert_eq!(told(estimate_optimal_radius(&many, 0.5)), (3, 0));
+}
+
+#[test]
+fn numbers() {
+    for bad in [f32::NAN, f32::INFINITY, f32::NEG_INFINITY] {
+        let mut wrong = TRIANGLE;
+        wrong[1][2] = bad;
+        assert_eq!(told(ball_pivoting_from_normals(&wrong, &TRIANGLE, 1.0)), (4, 1));
+        assert_eq!(told(ball_pivoting_from_normals(&TRIANGLE, &wrong, 1.0)), (4, 1));
+        assert_eq!(told(estimate_optimal_radius(&wrong, 0.5)), (4, 1));
+        assert_eq!(told(estimate_optimal_radius(&TRIANGLE, bad)), (6, 0));
+        assert_eq!(told(ball_pivoting_from_normals(&TRIANGLE, &TRIANGLE, bad)), (5, 1));
+    }
+}
+
+#[test]
+fn settings() {
+    for length in [9, 10, 1000] {
+        assert_eq!(told(with(|c| c.additional_radii = vec![1.0; length])), (5, 2));
+        assert_eq!(told(with(|c| c.adaptive_percentiles = vec![0.5; length])), (5, 3));
+    }
+    assert!(with(|c| (c.additional_radii, c.adaptive_percentiles) = (vec![1.0; 8], vec![0.5; 8])).is_ok());
+    assert!(with(|c| (c.additional_radii, c.adaptive_percentiles) = (vec![], vec![])).is_ok());
+    assert_eq!(told(with(|c| c.additional_radii[2] = f32::NAN)), (5, 2));
+    assert_eq!(told(with(|c| c.adaptive_percentiles[3] = 1.1)), (5, 3));
+    assert_eq!(told(with(|c| c.quality_threshold = -1.0)), (5, 4));
+    assert_eq!(told(with(|c| c.max_edge_factor = f32::NAN)), (5, 5));
+    assert_eq!(told(with(|c| c.min_triangle_area = f32::INFINITY)), (5, 6));
+    assert_eq!(told(with(|c| c.spatial_cell_factor = 0.4)), (5, 7));
+    let text = with(|c| c.spatial_cell_factor = 0.4).unwrap_err().to_string();
+    assert_eq!(text, "setting 7, spatial_cell_factor, is outside its bounds");
+}
+
+#[test]
+fn files() {
+    assert_eq!(told(read_cloud(b"")), (10, 1));
+    assert_eq!(told(read_cloud(b"1\n0,0,0,0,0,1\nnan,0,0,0,0,1\n")), (10, 3));
+    let cloud = read_cloud(b"0.5\n1,2,3,4,5,6\n").unwrap();
+    assert_eq!(cloud, Cloud { radius: 0.5, points: vec![[1.0, 2.0, 3.0]], normals: vec![[4.0, 5.0, 6.0]] });
+    assert_eq!(read_cloud(b"2\n").unwrap().points.len(), 0);
+}
+
+/// The raw layer over slices that are too short, empty ones among them.
+#[test]
+fn lent_slices() {
+    let config = sys::BallPivotingConfig::from(&BallPivotingConfig { radius: 1.0, ..Default::default() });
+    let lay = |faces: usize, words: usize, floats: usize| {
+        let (mut faces, mut words, mut floats) = (vec![7; faces], vec![7; words], vec![7.0; floats]);
+        let flat = TRIANGLE.as_flattened();
+        let r = sys::reconstruct_with_normals(flat, flat, config, &mut faces, &mut words, &mut floats);
+        (r.answer, r.detail, faces)
+    };
+    assert_eq!(lay(0, 0, 0), (7, 0, vec![]));
+    assert_eq!(lay(2, 136, 75), (7, 0, vec![7; 2]));
+    for faces in 0..3 {
+        assert_eq!(lay(faces, 136, 76), (9, 0, vec![0; faces]));
+    }
+    assert_eq!(lay(4, 136, 76), (0, 0, vec![0, 1, 2, 7]));
+}
+
+/// The scope's cases of the estimate, and the cloud of three points.
+#[test]
+fn accepted() {
+    assert_eq!(estimate_optimal_radius(&TRIANGLE[..1], 0.5), Ok(0.1));
+    assert_eq!(estimate_optimal_radius(&TRIANGLE[..2], 0.5), Ok(2.5));
+    let patch = ball_pivoting_from_normals(&TRIANGLE, &TRIANGLE, 1.0).unwrap();
+    assert_eq!((patch.faces.as_slice(), patch.seeds, patch.looks, patch.pivots), (&[[0, 1, 2]][..], 1, 3, 3));
+    assert_eq!(patch.coverage(), Coverage { covered: 3, scanned: 3 });
+}

@@ -1,0 +1,141 @@
+//! The C header and the Rust declarations have the structs and functions of the Rattle source, by its text.
+
+use yarrowbleat::sys::LAYOUTS;
+
+const HEADER: &str = include_str!("../../../c/yarrowbleat.h");
+const SYS: &str = include_str!("../src/sys.rs");
+const EXPORTS: &str = include_str!("../../../crates/exports/src/lib.rt");
+const STRUCTS: [(&str, &str); 5] = [
+    ("TriangleQuality", include_str!("../../../crates/triangle/src/lib.rt")),
+    ("Estimate", include_str!("../../../crates/estimate/src/lib.rt")),
+    ("BallPivotingConfig", include_str!("../../../crates/domain/src/lib.rt")),
+    ("Patch", include_str!("../../../crates/ball_pivoting/src/lib.rt")),
+    ("CloudRead", include_str!("../../../crates/cloud/src/lib.rt")),
+];
+
+/// What stands between two marks, from the first place where the one before it stands.
+fn between<'a>(text: &'a str, before: &str, after: &str) -> &'a str {
+    let start = text.find(before).unwrap_or_else(|| panic!("{before} is missing")) + before.len();
+    &text[start..start + text[start..].find(after).expect("an end")]
+}
+
+/// Without comments, and with any white space as one blank, none after an open bracket or before a closed one.
+fn plain(text: &str) -> String {
+    let lines = text.lines().map(|line| line.split("/*").next().unwrap());
+    let text = lines.flat_map(str::split_whitespace).collect::<Vec<_>>().join(" ");
+    text.replace("( ", "(").replace(", )", ")").replace(",)", ")")
+}
+
+/// The names and types of a list `a: A, b: B` of Rattle's.
+fn pairs(list: &str) -> Vec<(&str, &str)> {
+    list.split(',').filter_map(|entry| entry.trim().split_once(": ")).collect()
+}
+
+fn fields(source: &'static str, name: &str) -> Vec<(&'static str, &'static str)> {
+    let inside = between(source, &format!("#[repr(C)]\npub struct {name} {{"), "\n}");
+    inside.lines().filter_map(|l| l.trim().strip_prefix("pub ")?.strip_suffix(',')?.split_once(": ")).collect()
+}
+
+/// Size and alignment of a field's type in C's layout on 64 bits.
+fn room(kind: &str) -> (usize, usize) {
+    match kind {
+        "bool" => (1, 1),
+        "u32" | "f32" => (4, 4),
+        "usize" => (8, 8),
+        array => {
+            let count = array.strip_prefix("[f32; ").and_then(|r| r.strip_suffix(']')).expect("a known type");
+            (4 * count.parse::<usize>().unwrap(), 4)
+        }
+    }
+}
+
+/// The fields of the Rattle source lie where Rust and C are held to.
+#[test]
+fn layouts() {
+    assert_eq!(LAYOUTS.len(), STRUCTS.len());
+    let mut asserts = String::new();
+    for ((name, source), (rust_name, rust_size, rust_fields)) in STRUCTS.iter().zip(LAYOUTS) {
+        let (mut end, mut widest) = (0, 1);
+        let mut offsets = Vec::new();
+        for (field, kind) in fields(source, name) {
+            let (size, align) = room(kind);
+            let at = usize::next_multiple_of(end, align);
+            offsets.push((field, at));
+            (end, widest) = (at + size, widest.max(align));
+        }
+        let size = end.next_multiple_of(widest);
+        assert_eq!((*name, size, offsets.as_slice()), (*rust_name, *rust_size, *rust_fields));
+        asserts += &format!("YB_SIZE(Yb{name}, {size});\n");
+        offsets.iter().for_each(|(field, at)| asserts += &format!("YB_AT(Yb{name}, {field}, {at});\n"));
+    }
+    let stated = HEADER.lines().filter(|l| l.starts_with("YB_SIZE(") || l.starts_with("YB_AT("));
+    assert_eq!(stated.map(|l| format!("{l}\n")).collect::<String>(), asserts);
+}
+
+/// The types of the fields, and not their places alone, are those of the Rattle source.
+#[test]
+fn field_types() {
+    let header = plain(HEADER);
+    for (name, source) in STRUCTS {
+        let rust = plain(between(SYS, &format!("pub struct {name} {{"), "}"));
+        let c = between(&header, "typedef struct {", &format!("}} Yb{name};")).rsplit("typedef struct {").next();
+        let c_field = |(field, kind): &(&str, &str)| match kind.strip_prefix("[f32; ") {
+            Some(count) => format!("float {field}[{count};"),
+            None => format!("{} {field};", c_type(kind)),
+        };
+        let fields = fields(source, name);
+        assert_eq!(c.unwrap().trim(), fields.iter().map(c_field).collect::<Vec<_>>().join(" "));
+        let rust_field = |(field, kind): &(&str, &str)| format!("pub {field}: {kind},");
+        assert_eq!(rust.trim(), fields.iter().map(rust_field).collect::<Vec<_>>().join(" "));
+    }
+}
+
+fn c_type(kind: &str) -> String {
+    match kind {
+        "f32" => "float".into(),
+        "u32" => "uint32_t".into(),
+        "u8" => "uint8_t".into(),
+        "usize" => "size_t".into(),
+        "bool" => "bool".into(),
+        record => format!("Yb{record}"),
+    }
+}
+
+fn c_parameter((name, kind): &(&str, &str)) -> String {
+    let slice = |of: &str, before: &str| format!("{before}{} *{name}, size_t {name}_len", c_type(of));
+    match (kind.strip_prefix("&mut ["), kind.strip_prefix("&[")) {
+        (Some(of), _) => slice(of.trim_end_matches(']'), ""),
+        (_, Some(of)) => slice(of.trim_end_matches(']'), "const "),
+        _ => format!("{} {name}", c_type(kind)),
+    }
+}
+
+fn rust_parameter((name, kind): &(&str, &str)) -> String {
+    let slice = |of: &str, how: &str| format!("{name}: *{how} {}, {name}_len: usize", of.trim_end_matches(']'));
+    match (kind.strip_prefix("&mut ["), kind.strip_prefix("&[")) {
+        (Some(of), _) => slice(of, "mut"),
+        (_, Some(of)) => slice(of, "const"),
+        _ => format!("{name}: {kind}"),
+    }
+}
+
+/// Every exported function is declared in both, with the same parameters and result, and nothing else is.
+#[test]
+fn functions() {
+    let (header, sys) = (plain(HEADER), plain(SYS));
+    let mut count = 0;
+    for item in EXPORTS.split("pub extern \"C\" fn ").skip(1) {
+        let (name, rest) = item.split_once('(').unwrap();
+        let (list, rest) = rest.split_once(") -> ").unwrap();
+        let result = rest.split_whitespace().next().unwrap();
+        let parameters = pairs(list);
+        let join = |of: fn(&(&str, &str)) -> String| parameters.iter().map(of).collect::<Vec<_>>().join(", ");
+        let c = format!("{} {name}({});", c_type(result), join(c_parameter));
+        assert!(header.contains(&c), "the header lacks {c}");
+        let rust = format!("pub fn {name}({}) -> {result};", join(rust_parameter));
+        assert!(sys.contains(&rust), "sys.rs lacks {rust}");
+        count += 1;
+    }
+    assert_eq!(count, sys.matches("pub fn yb_").count());
+    assert_eq!(count, header.matches(" yb_").count() - header.matches("inline YbBallPivotingConfig yb_").count());
+}
