@@ -1,8 +1,9 @@
 /*
  * Yarrowbleat for C: the proved port of ball pivoting, in target/staticlib/libexports.a.
  *
- * A slice is a pointer and the number of its entries (not bytes). A null pointer with length 0 is an empty slice.
- * Slices of one call must not overlap; a bool is 0 or 1; nothing is allocated and nothing is kept between calls.
+ * A slice is a pointer and the number of its entries (not bytes); a null pointer with length 0 is an empty one. What
+ * can't be checked is the caller's: a pointer is aligned and good for its length, a slice that isn't const overlaps no
+ * other, a bool is 0 or 1. Nothing is allocated and nothing is kept between calls.
  *
  * Every call of the second half answers a number, 0 if it accepts, and a detail, 0 where none is named:
  *

@@ -58,8 +58,9 @@ static YbPatch lay(Call c) {
 /* A refusal by the checks up to 7: the number, the detail, nothing else, and no slice touched. */
 static bool refuses(Call c, uint32_t answer, uint32_t detail) {
     YbPatch r = lay(c);
-    bool told = r.answer == answer && r.detail == detail;
-    return told && all(&r.faces, sizeof r - offsetof(YbPatch, faces), 0) && all(faces, sizeof faces, OLD) && work_is(OLD);
+    const size_t rest = offsetof(YbPatch, faces);
+    bool told = r.answer == answer && r.detail == detail && all((const char *)&r + rest, sizeof r - rest, 0);
+    return told && all(faces, sizeof faces, OLD) && work_is(OLD);
 }
 
 static void lengths(void) {
