@@ -152,6 +152,18 @@ static void face_slices(void) {
     CHECK(r.answer == 8 && r.detail == 0 && r.faces == 0 && all(faces, sizeof faces, OLD) && work_is(0));
 }
 
+/* The two yes-or-no settings: each changes what becomes of the triangle. */
+static void choices(void) {
+    Call c = good();
+    c.settings.adaptive_radius = false;
+    YbPatch r = lay(c);
+    CHECK(r.answer == 0 && r.faces == 1 && r.seeds == 0 && r.radii_count == 0 && faces[0] == 2 && faces[1] == 0);
+    c = good(), c.settings.radius = 0.01f;
+    CHECK(lay(c).answer == 8);
+    c.settings.use_spatial_index = false;
+    CHECK(lay(c).answer == 0);
+}
+
 static YbEstimate guess(const float *points, size_t length, float percentile, size_t words_len, size_t floats_len) {
     fill();
     return yb_estimate_optimal_radius(points, length, percentile, words_len ? words : NULL, words_len,
@@ -211,6 +223,7 @@ int main(void) {
     numbers();
     settings();
     face_slices();
+    choices();
     estimates();
     files();
     printf("misuse: %d failures\n", failures);

@@ -1,4 +1,5 @@
-//! Misuse of the safe crate ends in an error with the scope's number and detail, and of its raw layer in a refusal.
+//! Misuse of the safe crate ends in an error with the scope's number and detail, and of its raw layer in a refusal;
+//! and a few clouds that are accepted.
 
 use yarrowbleat::*;
 
@@ -97,4 +98,15 @@ fn accepted() {
     let patch = ball_pivoting_from_normals(&TRIANGLE, &TRIANGLE, 1.0).unwrap();
     assert_eq!((patch.faces.as_slice(), patch.seeds, patch.looks, patch.pivots), (&[[0, 1, 2]][..], 1, 3, 3));
     assert_eq!(patch.coverage(), Coverage { covered: 3, scanned: 3 });
+}
+
+/// The plain path stops at 10,000 faces, which the face slice holds; it touches the first points only.
+#[test]
+fn most_faces() {
+    let points: Vec<[f32; 3]> = (0..100).map(|i| [(i % 10) as f32, (i / 10) as f32, (i * i % 7) as f32]).collect();
+    let config = BallPivotingConfig { radius: 100.0, adaptive_radius: false, ..Default::default() };
+    let patch = reconstruct_with_normals(&points, &points, &config).unwrap();
+    assert_eq!((patch.faces.len(), patch.radii.len(), patch.seeds), (10_000, 0, 0));
+    let last = *patch.faces.iter().flatten().max().unwrap() as usize;
+    assert_eq!(patch.coverage(), Coverage { covered: last + 1, scanned: 100 });
 }
