@@ -1,0 +1,3 @@
+-- Laws about the definitions of specs/, which the functions' proofs cite.
+pub mod Laid
+pub mod Told

@@ -1,0 +1,2 @@
+-- What the crate's contracts cite, leaves first.
+pub mod Text
