@@ -1,6 +1,6 @@
 // Lays a patch over the cloud file on standard input and prints its listing, or why there is none.
 //
-// What is printed is made by `patch_text::lay_text`; here is only the reading and the writing.
+// What is printed is made by `patch_text::program_text`; here is only the reading and the writing.
 
 // How many bytes of the input are there, whether that is all that will be read, and whether a read failed.
 pub struct Progress {
@@ -61,26 +61,11 @@ fn read_all(input: &mut [u8]) -> Progress {
     p
 }
 
-// Slices for 512 points and 5,000 faces, and a buffer that holds every listing of so many.
+// The buffer holds a listing of 5,000 faces.
 fn print_patch(input: &[u8]) {
-    let mut points = [0.0f32; 1536];
-    let mut normals = [0.0f32; 1536];
-    let mut faces = [0u32; 15000];
-    let mut words = [0u32; 12352];
-    let mut floats = [0.0f32; 2112];
     let mut out = [0u8; 220098];
-    let n = patch_text::lay_text(
-        input,
-        &mut points,
-        &mut normals,
-        &mut faces,
-        &mut words,
-        &mut floats,
-        &mut out,
-    );
-    if n <= out.len() {
-        io::write_all(libc::STDOUT_FILENO, &out[..n]);
-    }
+    let n = patch_text::program_text(input, &mut out);
+    io::write_all(libc::STDOUT_FILENO, &out[..n]);
 }
 
 // One byte more than a file may have, so that a longer one is noticed.

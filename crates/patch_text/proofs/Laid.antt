@@ -5,7 +5,7 @@ use mathlib.Core.Bool.{Bool, true, false, cond}
 use mathlib.Core.List.{List, [], _∷_, _++_}
 use native.Mathlib.Omega.{arith}
 use lib.Dec.{eqb, ltb, leb}
-use lib.ListN.{length, take, drop}
+use lib.ListN.{length, take, drop, length-append}
 use lib.Seq.{take-all, take-append-seam}
 use lib.Ieee.{Float}
 use borrow.Author.Tests.{eq-eqb, ne-eqb, le-leb, ltb-false, eqb-true, eqb-false}
@@ -106,3 +106,16 @@ prints-as {t} {t'} {out} {out'} {r} e w = subst (λ (u : List ℕ). Prints u out
 
 pub prints : {t t' out out' : List ℕ} {r : ℕ} → t ≡ t' → (r ≡ written t out) × (out' ≡ filled t out) → Prints t' out r out'
 prints e w = prints-as e (record { bytes = w .0; holds = w .1 })
+
+written-within : (t out : List ℕ) → written t out ≤ length (filled t out)
+unfolding written filled
+written-within t out = go (leb (length t) (length out))
+  where
+    go : (fits : Bool) → cond fits (length t) 0 ≤ length (cond fits (t ++ drop (length t) out) out)
+    go true = omega (arith, length-append t (drop (length t) out))
+    go false = omega arith
+
+-- what is printed is inside the buffer
+pub prints-within : {t out out' : List ℕ} {r : ℕ} → Prints t out r out' → r ≤ length out'
+prints-within {t} {out} {out'} w =
+    subst (λ (k : ℕ). k ≤ length out') (sym (w .bytes)) (subst (λ (l : List ℕ). written t out ≤ length l) (sym (w .holds)) (written-within t out))

@@ -4,7 +4,7 @@
 ghost use lib.ListN.{length};
 ghost use Prim.Native.Nat.{_/_};
 ghost use mathlib.Core.Path.{_≡_};
-ghost use Rattle.patch_text.specs.Text.{laidText, fileText, Prints};
+ghost use Rattle.patch_text.specs.Text.{laidText, fileText, printed, Prints};
 use domain::BallPivotingConfig;
 use listing::Counts;
 
@@ -72,6 +72,26 @@ pub fn lay_text(
         faces,
         words,
         floats,
+        out,
+    )
+}
+
+// The text of the program `lay`: slices for 512 points and 5,000 faces, and work for so many points.
+pub fn program_text(input: &[u8], out: &mut [u8]) -> usize
+    ensures { λ r. ⌜ Prints (printed (now (input .entry))) (now (out .entry)) r (now (out .exit)) ⌝ }
+{
+    let mut points = [0.0f32; 1536];
+    let mut normals = [0.0f32; 1536];
+    let mut faces = [0u32; 15000];
+    let mut words = [0u32; 12352];
+    let mut floats = [0.0f32; 2112];
+    lay_text(
+        input,
+        &mut points,
+        &mut normals,
+        &mut faces,
+        &mut words,
+        &mut floats,
         out,
     )
 }

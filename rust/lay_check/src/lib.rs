@@ -17,7 +17,8 @@ const BUDGET: u64 = 1_000_000_000;
 fn listing(points: usize, laid: &Laid) -> String {
     let t = laid.tally;
     let mut out = "points,faces,seeds,looks,pivots\n".to_string();
-    writeln!(out, "{points},{},{},{},{}\nface,a,b,c", laid.faces.len(), t.seeds, t.looks, t.pivots).expect("to a string");
+    writeln!(out, "{points},{},{},{},{}\nface,a,b,c", laid.faces.len(), t.seeds, t.looks, t.pivots)
+        .expect("to a string");
     for (i, [a, b, c]) in laid.faces.iter().enumerate() {
         writeln!(out, "{i},{a},{b},{c}").expect("to a string");
     }
@@ -53,7 +54,8 @@ pub fn bell(size: usize, seed: u64) -> String {
     let mut out = format!("{:.3}\n", cloud.spacing * 1.2);
     for p in cloud.points.chunks_exact(3) {
         let away = p[0].hypot(p[1]);
-        writeln!(out, "{:.6},{:.6},{:.6},{:.6},{:.6},0", p[0], p[1], p[2], p[0] / away, p[1] / away).expect("to a string");
+        writeln!(out, "{:.6},{:.6},{:.6},{:.6},{:.6},0", p[0], p[1], p[2], p[0] / away, p[1] / away)
+            .expect("to a string");
     }
     out
 }
