@@ -62,7 +62,7 @@ pub fn bell(random: &mut Random, size: usize) -> Cloud {
     Cloud { kind: "bell", points: flat(points), spacing }
 }
 
-fn plane(random: &mut Random, size: usize) -> Cloud {
+pub fn plane(random: &mut Random, size: usize) -> Cloud {
     let width = (size as f64).sqrt().ceil() as usize;
     let jitter = random.pick(&[0.0, 0.05, 0.3]);
     let mut points = Vec::new();
@@ -83,12 +83,12 @@ fn direction(random: &mut Random) -> [f64; 3] {
     }
 }
 
-fn sphere(random: &mut Random, size: usize) -> Cloud {
+pub fn sphere(random: &mut Random, size: usize) -> Cloud {
     let points = (0..size).map(|_| direction(random));
     Cloud { kind: "sphere", points: flat(points.collect::<Vec<_>>()), spacing: 3.5 / (size as f64).sqrt() }
 }
 
-fn volume(random: &mut Random, size: usize) -> Cloud {
+pub fn volume(random: &mut Random, size: usize) -> Cloud {
     let points = (0..size).map(|_| [0; 3].map(|_| random.unit()));
     Cloud { kind: "volume", points: flat(points.collect::<Vec<_>>()), spacing: 0.7 / cube_root(size as f64) }
 }
@@ -114,7 +114,7 @@ fn equal(random: &mut Random, size: usize) -> Cloud {
 }
 
 /// Clusters of different density.
-fn clusters(random: &mut Random, size: usize) -> Cloud {
+pub fn clusters(random: &mut Random, size: usize) -> Cloud {
     let count = random.whole(2, 5);
     let places: Vec<([f64; 3], f64)> =
         (0..count).map(|_| ([0; 3].map(|_| random.within(-3.0, 3.0)), random.pick(&[0.05, 0.2, 0.5, 1.5]))).collect();

@@ -1,0 +1,180 @@
+//! Whole calls over clouds of a fixed seed: a line a cloud, with the ratio that is to be reached.
+
+use expect::{Lent, BUDGET};
+use generate::clouds::{self, Cloud};
+use generate::{work_lengths, Case, Random};
+use oracle::Settings;
+use std::time::Instant;
+
+const UNLIMITED: u64 = u64::MAX;
+
+/// A cloud, its settings, and how many times faster than the Rust the port is to be.
+struct Race {
+    name: String,
+    points: Vec<f32>,
+    settings: Settings,
+    reach: f64,
+}
+
+/// Best times in milliseconds, the Rust's and the port's.
+#[derive(Clone, Copy)]
+struct Times {
+    rust: f64,
+    port: f64,
+}
+
+impl Times {
+    fn ratio(self) -> f64 {
+        self.rust / self.port
+    }
+}
+
+/// Both sides in turn, at least 5 times, and up to 100 times while that takes no more than about a second.
+fn race(mut rust: impl FnMut(), mut port: impl FnMut()) -> Times {
+    let mut best = Times { rust: f64::INFINITY, port: f64::INFINITY };
+    let begin = Instant::now();
+    for round in 0..100 {
+        if round >= 5 && begin.elapsed().as_secs_f64() > 1.0 {
+            break;
+        }
+        let start = Instant::now();
+        rust();
+        let middle = Instant::now();
+        port();
+        let took = [middle - start, middle.elapsed()].map(|t| t.as_secs_f64() * 1e3);
+        best = Times { rust: best.rust.min(took[0]), port: best.port.min(took[1]) };
+    }
+    best
+}
+
+/// Slices long enough for any cloud of this many points.
+fn lend(points: usize) -> Lent {
+    let (words, floats) = work_lengths(points);
+    Lent { faces: vec![0; 30_000], words: vec![0; words], floats: vec![0.0; floats] }
+}
+
+/// Times one reconstruction on both sides and tells how many faces there were.
+fn reconstruct(points: &[f32], normals: &[f32], settings: &Settings) -> (u32, Times) {
+    let mut lent = lend(points.len() / 3);
+    let found = port::reconstruct(points, normals, settings, &mut lent);
+    let times = race(
+        || _ = std::hint::black_box(oracle::reconstruct(points, normals, settings, UNLIMITED)),
+        || _ = std::hint::black_box(port::reconstruct(points, normals, settings, &mut lent)),
+    );
+    (found.faces, times)
+}
+
+/// A line of the table; true if the ratio is reached.
+fn line(name: &str, points: usize, faces: &str, times: Times, reach: f64) -> bool {
+    let short = if times.ratio() < reach { "  short" } else { "" };
+    let (rust, port, ratio) = (times.rust, times.port, times.ratio());
+    println!("{name:<40} {points:>6} {faces:>6} {rust:>10.3} {port:>10.3} {ratio:>8.1} {reach:>8}{short}");
+    short.is_empty()
+}
+
+fn at(spacing: f64, times: f64) -> Settings {
+    Settings::at_radius((spacing * times) as f32)
+}
+
+fn with(name: impl Into<String>, cloud: Cloud, reach: f64) -> Race {
+    Race { name: name.into(), settings: at(cloud.spacing, 2.5), points: cloud.points, reach }
+}
+
+/// 512 points on whole coordinates, at even steps.
+fn straight(along: [f64; 3]) -> Vec<f32> {
+    (0..512).flat_map(|i| along.map(|x| (x * f64::from(i)) as f32)).collect()
+}
+
+/// Settings under which no triangle is acceptable, in four ways.
+fn hopeless(random: &mut Random) -> Vec<Race> {
+    let near: Vec<f32> = (0..301 * 3).map(|_| random.within(0.0, 0.5) as f32).collect();
+    let plain = Settings::at_radius(1.0);
+    let race = |name: &str, points: &[f32], settings: Settings, reach: f64| Race {
+        name: format!("301 near points, {name}"),
+        points: points.to_vec(),
+        settings,
+        reach,
+    };
+    vec![
+        race("none by threshold", &near, Settings { quality_threshold: 100.0, ..plain }, 8.0),
+        race("none by least area", &near, Settings { min_triangle_area: 1_000.0, ..plain }, 100.0),
+        race("edge factor 0", &near, Settings { max_edge_factor: 0.0, ..plain }, 500.0),
+        race("all equal", &vec![0.25; 301 * 3], plain, 500.0),
+    ]
+}
+
+fn races(random: &mut Random) -> Vec<Race> {
+    let mut races = Vec::new();
+    for size in [512, 1_024, 2_048, 4_096] {
+        races.push(with("bell wall", clouds::bell(random, size), 10.0));
+    }
+    races.push(with("jittered plane", clouds::plane(random, 2_048), 10.0));
+    races.push(with("sphere", clouds::sphere(random, 2_048), 10.0));
+    races.push(with("random volume", clouds::volume(random, 2_048), 20.0));
+    for seed in 1..=3 {
+        races.push(with(format!("clusters, seed {seed}"), clouds::clusters(&mut Random::new(seed, 0), 2_048), 6.0));
+    }
+    let wide = Settings::at_radius(1_000.0);
+    races.push(Race { name: "line on an axis".into(), points: straight([1.0, 0.0, 0.0]), settings: wide, reach: 20.0 });
+    races.push(Race { name: "skew line".into(), points: straight([1.0, 2.0, 3.0]), settings: wide, reach: 4.0 });
+    let mut strict = with("bell wall, no index, threshold 1", clouds::bell(random, 1_000), 8.0);
+    strict.settings.use_spatial_index = false;
+    strict.settings.quality_threshold = 1.0;
+    races.push(strict);
+    races.extend(hopeless(random));
+    races
+}
+
+fn estimates(random: &mut Random) -> bool {
+    let mut reached = true;
+    for (size, reach) in [(512, 2.0), (2_048, 5.0), (4_096, 10.0)] {
+        let cloud = clouds::bell(random, size);
+        let mut lent = lend(cloud.points.len() / 3);
+        let times = race(
+            || _ = std::hint::black_box(oracle::estimate(&cloud.points, 0.5, UNLIMITED)),
+            || _ = std::hint::black_box(port::estimate(&cloud.points, 0.5, &mut lent.words, &mut lent.floats)),
+        );
+        reached &= line("estimate, bell wall", cloud.points.len() / 3, "", times, reach);
+    }
+    reached
+}
+
+/// Clouds of the comparison on which the Rust takes over 100 µs: none may be slower.
+fn comparison(count: u64) -> bool {
+    let (mut slow, mut slower, mut worst) = (0, 0, f64::INFINITY);
+    for number in 0..count {
+        let Case { points, normals, settings, words, floats, .. } = generate::case(1, number);
+        let start = Instant::now();
+        let found = expect::find(&points, &normals, &settings, [words, floats], BUDGET);
+        if !matches!(found, Ok(expect::Found::Laid(_) | expect::Found::NoTriangle)) || start.elapsed().as_micros() < 100
+        {
+            continue;
+        }
+        slow += 1;
+        let ratio = reconstruct(&points, &normals, &settings).1.ratio();
+        slower += i32::from(ratio < 1.0);
+        worst = worst.min(ratio);
+    }
+    println!("clouds of the comparison on which the Rust takes over 100 µs: {slow}, slower than the Rust: {slower}, least ratio {worst:.2}");
+    slower == 0
+}
+
+pub fn bench() -> bool {
+    let random = &mut Random::new(1, 0);
+    println!(
+        "{:<40} {:>6} {:>6} {:>10} {:>10} {:>8} {:>8}",
+        "cloud", "points", "faces", "Rust ms", "port ms", "ratio", "reach"
+    );
+    let mut reached = true;
+    let mut walls = Vec::new();
+    for Race { name, points, settings, reach } in races(random) {
+        let normals = vec![0.0; points.len()];
+        let (faces, times) = reconstruct(&points, &normals, &settings);
+        reached &= line(&name, points.len() / 3, &faces.to_string(), times, reach);
+        walls.push(times.port);
+    }
+    reached &= estimates(random);
+    let growth = walls[3] / walls[1];
+    println!("bell walls from 1,024 to 4,096 points: {growth:.1} times the time (to reach: below 5)");
+    comparison(1_000) && reached && growth < 5.0
+}
