@@ -1,4 +1,5 @@
 -- The laws that the proofs cite, leaves first.
+pub mod OrderLaws
 pub mod RootWhole
 pub mod RootPattern
 pub mod RootUnits

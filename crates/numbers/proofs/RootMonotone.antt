@@ -1,22 +1,23 @@
 -- The root keeps the order: for f32 with 0 ≤ x ≤ y, `root x` ≤ `root y` (`root-monotone`), -0 and +infinity included.
 -- Between numbers above zero it follows from `root-nearest`: with X ≤ Y in units and roots R and S, a smaller S would give
 -- (R + S)^2 < 4X, since R is nearer to √X, and 4Y < (R + S)^2, since S is nearer to √Y.
-use mathlib.Core.Logic.{_⊎_, inl, inr}
+use mathlib.Core.Logic.{inl, inr}
 use Prim.Native.Nat.{ℕ, zero, suc, _+_, _*_, _^_, _≤_, _<_}
 use native.Mathlib.Nat.{zero-lt-suc, mul-pos, mul-le-mul-right, le-of-mul-le-mul-right}
 use native.Mathlib.Omega.{arith}
 use native.Mathlib.Decide.{decLe}
-use mathlib.Core.Bool.{Bool, true, false, _||_}
+use mathlib.Core.Bool.{Bool, true, false}
 use lib.IntN.{ℤ, pos}
 use lib.Dec.{T, ltb, eqb, ltb→lt, lt→ltb, eqb→eq}
 use lib.Pow.{pow-pos}
-use lib.Ieee.{Float, nan, inf, fin, binary32, up, down, fits, lt, eq, le, ofBits}
+use lib.Ieee.{Float, nan, inf, fin, binary32, up, down, fits, lt, le, ofBits}
 use lib.Ieee.Fits.{and-l, up-pos, down-pos}
 use lib.Ieee.Exact.{HasValue}
 use lib.Ieee.Order.{le-of-values}
 use lib.Ieee.Positive.{positive, above, above-of-le, values-of-le, positive-of-value}
 use Rattle.numbers.specs.Rounded.{f32}
 use Rattle.numbers.specs.Root.{root}
+use Rattle.numbers.proofs.OrderLaws.{or-split, lt-le}
 use Rattle.numbers.proofs.RootNearest.{root-nearest}
 
 -- ---- between numbers above zero
@@ -43,18 +44,6 @@ between x y f g p q h =
     le-of-values (root x) (root y) (a .R) (2 ^ 149) (b .R) (2 ^ 149) (pow-pos 149) (pow-pos 149) (a .result) (b .result) (mul-le-mul-right (2 ^ 149) r)
 
 -- ---- at the ends
-
-or-l : (a b : Bool) → T a → T (a || b)
-or-l true b t = tt
-or-l false b t = absurd t
-
-or-split : (a b : Bool) → T (a || b) → T a ⊎ T b
-or-split true b t = inl tt
-or-split false b t = inr t
-
-lt-le : (x y : Float) → T (lt x y) → T (le x y)
-unfolding le
-lt-le x y t = or-l (lt x y) (eq x y) t
 
 -- any number is below +infinity
 value-le-inf : (v : Float) (s : Bool) (a c : ℕ) → HasValue v s a c → T (le v (inf false))
