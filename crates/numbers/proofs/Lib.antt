@@ -7,6 +7,8 @@ pub mod RootSpecial
 pub mod RootGrid
 pub mod RootNearest
 pub mod RootMonotone
+pub mod RoundedOrder
+pub mod SumOrder
 pub mod RootExamples
 pub mod Compare
 pub mod Cuts

@@ -74,11 +74,11 @@ cross→level true a true b h = let e : a ≡ b = omega arith in and-i (eqb a b)
 cross→level false a true b h = let e : a ≡ b = omega arith in let z : a ≡ 0 = omega arith in and-i (eqb a b) (eqb a 0) (eq→eqb e) (eq→eqb z)
 cross→level true a false b h = let e : a ≡ b = omega arith in let z : a ≡ 0 = omega arith in and-i (eqb a b) (eqb a 0) (eq→eqb e) (eq→eqb z)
 
-plus-mul : (s : Bool) (a k : ℕ) → cond s 0 (a * k) ≡ cond s 0 a * k
+pub plus-mul : (s : Bool) (a k : ℕ) → cond s 0 (a * k) ≡ cond s 0 a * k
 plus-mul true a k = sym (zero-mul k)
 plus-mul false a k = refl
 
-minus-mul : (s : Bool) (a k : ℕ) → cond s (a * k) 0 ≡ cond s a 0 * k
+pub minus-mul : (s : Bool) (a k : ℕ) → cond s (a * k) 0 ≡ cond s a 0 * k
 minus-mul true a k = refl
 minus-mul false a k = sym (zero-mul k)
 
