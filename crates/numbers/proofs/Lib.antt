@@ -9,6 +9,8 @@ pub mod RootNearest
 pub mod RootMonotone
 pub mod RoundedOrder
 pub mod SumOrder
+pub mod ProductOrder
+pub mod CutOrder
 pub mod RootExamples
 pub mod Compare
 pub mod Cuts

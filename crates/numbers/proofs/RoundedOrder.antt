@@ -1,7 +1,7 @@
 -- Rounding keeps the order of numbers of any sign (`rounds-le`), and an f32 is its own rounding (`rounds-own`). So an operation keeps the order where the exact one does.
 -- A number is (p - n) / c over the natural numbers, as a finite float is of its `plus`, `minus` and `den`. Assumes nothing.
 use mathlib.Core.Path.{_≡_, refl, sym, ap, _∙_, subst}
-use mathlib.Core.Logic.{inl, inr}
+use mathlib.Core.Logic.{_⊎_, inl, inr}
 use Prim.Native.Nat.{ℕ, zero, suc, _+_, _*_, _^_, _≤_, _<_}
 use native.Mathlib.Nat.{zero-lt-suc, zero-mul, eq-zero-or-pos, eq-of-mul-eq-mul-right}
 use native.Mathlib.Omega.{arith}
@@ -9,14 +9,14 @@ use mathlib.Core.Bool.{Bool, true, false, not, cond}
 use lib.IntN.{ℤ}
 use lib.Dec.{T, ltb}
 use lib.Pow.{pow-pos}
-use lib.Ieee.{Float, nan, inf, fin, Format, binary32, prec, emax, low, up, down, odd, units, round, neg, le, fits, ofBits}
+use lib.Ieee.{Float, nan, inf, fin, Format, binary32, prec, emax, low, up, down, odd, units, round, neg, le, fits, isNan, ofBits}
 use lib.Ieee.Fits.{round-is, round-fits, down-pos}
 use lib.Ieee.Exact.{round-exact}
 use lib.Ieee.Order.{round-mono, kept, drop}
 use lib.Ieee.Scale.{finite}
-use lib.Ieee.Positive.{den}
+use lib.Ieee.Positive.{num, den}
 use Rattle.numbers.specs.Rounded.{f32}
-use Rattle.numbers.proofs.OrderLaws.{plus, minus, side, le→side, side→le, le-trans, unsigned, unsigned-le, value-unique}
+use Rattle.numbers.proofs.OrderLaws.{plus, minus, side, le→side, side→le, le-left, le-trans, unsigned, unsigned-le, value-unique}
 use Rattle.numbers.proofs.RootGrid.{f32-whole, below-top}
 
 -- ---- the sign
@@ -87,7 +87,7 @@ zero-is : round binary32 false 0 1 ≡ f32 0
 unfolding round ofBits
 zero-is = refl
 
-minus-zero-le : T (le (neg (f32 0)) (f32 0)) × T (le (f32 0) (neg (f32 0)))
+pub minus-zero-le : T (le (neg (f32 0)) (f32 0)) × T (le (f32 0) (neg (f32 0)))
 unfolding le neg ofBits
 minus-zero-le = (tt, tt)
 
@@ -133,6 +133,20 @@ rounds-le {x} {y} {p} {n} {c} {q} {o} {d} C D (above a e r) (under b g t) h =
     none : (a d : ℕ) → 0 < d → a * d ≡ 0 → a ≡ 0
     none a d D h = eq-of-mul-eq-mul-right d D a 0 (h ∙ sym (zero-mul d))
 
+pub rounds-number : {x : Float} {p n c : ℕ} → 0 < c → Rounds x p n c → T (not (isNan x))
+rounds-number {x} C r = le-left x x (rounds-le C C r r (omega arith))
+
+pub round-number : (s : Bool) (a c : ℕ) → 0 < c → T (not (isNan (round binary32 s a c)))
+round-number true a c C = let z : a ≡ 0 + a = omega arith in rounds-number C (under a z refl)
+round-number false a c C = let z : a ≡ 0 + a = omega arith in rounds-number C (above a z refl)
+
+-- roundings of opposite numbers
+pub rounds-turned : {x y : Float} {p n c : ℕ} → Rounds x p n c → Rounds y n p c → (x ≡ y) ⊎ (x ≡ neg y)
+rounds-turned {x} {y} {p} {n} {c} (above a e r) (above b g t) = let z : a ≡ b = omega arith in inl (rw (r, t, z))
+rounds-turned {x} {y} {p} {n} {c} (under a e r) (under b g t) = let z : a ≡ b = omega arith in inl (rw (r, t, z))
+rounds-turned {x} {y} {p} {n} {c} (above a e r) (under b g t) = let z : a ≡ b = omega arith in inr (rw (r, t, z) (round-neg binary32 true b c))
+rounds-turned {x} {y} {p} {n} {c} (under a e r) (above b g t) = let z : a ≡ b = omega arith in inr (rw (r, t, z) (round-neg binary32 false b c))
+
 -- ---- an f32 is its own rounding
 
 round-own : (s : Bool) (m : ℕ) (e : ℤ) → T (fits binary32 (fin s m e)) → fin s m e ≡ round binary32 s (m * up e) (down e)
@@ -154,13 +168,18 @@ rounds-own (fin false m e) f k = let z : m * up e ≡ 0 + m * up e = omega arith
 
 -- ---- zero
 
-pub nonnegative-parts : (x : Float) → T (finite x) → T (le (f32 0) x) → minus x ≤ plus x
+pub nonnegative-minus : (x : Float) → T (finite x) → T (le (f32 0) x) → minus x ≡ 0
 unfolding ofBits
-nonnegative-parts x f h = omega (arith, le→side (f32 0) x tt f h)
+nonnegative-minus nan f h = absurd f
+nonnegative-minus (inf s) f h = absurd f
+nonnegative-minus (fin true m e) f h = omega (arith, le→side (f32 0) (fin true m e) tt tt h)
+nonnegative-minus (fin false m e) f h = refl
 
-pub nonpositive-parts : (x : Float) → T (finite x) → T (le x (f32 0)) → plus x ≤ minus x
-unfolding ofBits
-nonpositive-parts x f h = omega (arith, le→side x (f32 0) f tt h)
+pub nonnegative-plus : (x : Float) → T (finite x) → T (le (f32 0) x) → plus x ≡ num x
+nonnegative-plus nan f h = absurd f
+nonnegative-plus (inf s) f h = absurd f
+nonnegative-plus (fin true m e) f h = sym (nonnegative-minus (fin true m e) f h)
+nonnegative-plus (fin false m e) f h = refl
 
 pub rounds-nonnegative : {x : Float} {p n c : ℕ} → 0 < c → Rounds x p n c → n ≤ p → T (le (f32 0) x)
 rounds-nonnegative C r h = rounds-le (zero-lt-suc 0) C rounds-zero r (omega arith)

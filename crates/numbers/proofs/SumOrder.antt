@@ -13,7 +13,7 @@ use lib.Ieee.Scale.{finite}
 use lib.Ieee.Positive.{den, den-pos}
 use Rattle.numbers.specs.Rounded.{f32, _⊕_, _⊖_}
 use Rattle.numbers.proofs.OrderLaws.{plus, minus, plus-mul, minus-mul, side, le→side, of-finite, le-refl, le-right, le-top, finite-number, unsigned, unsigned-le}
-use Rattle.numbers.proofs.RoundedOrder.{Rounds, above, under, round-unsigned, neg-le, rounds-le, rounds-own, nonnegative-parts, rounds-nonnegative, rounds-nonpositive}
+use Rattle.numbers.proofs.RoundedOrder.{Rounds, above, under, round-unsigned, neg-le, rounds-le, rounds-own, nonnegative-minus, rounds-nonnegative, rounds-nonpositive}
 
 -- ---- a sum as a rounding
 
@@ -151,9 +151,7 @@ add-cases (fin s m e) (fin t n d) h k = inl (tt, tt)
 pub add-nonnegative : (u v : Float) → T (le (f32 0) u) → T (le (f32 0) v) → T (le (f32 0) (u ⊕ v))
 add-nonnegative u v h k = elim (add-cases u v h k) [
   | inl f ↦
-      let i = mul-le-mul-right (den v) (nonnegative-parts u (f .0) h) in
-      let j = mul-le-mul-right (den u) (nonnegative-parts v (f .1) k) in
-      rounds-nonnegative (mul-pos (den-pos u) (den-pos v)) (rounds-add u v (f .0) (f .1)) (omega arith)
+      rounds-nonnegative (mul-pos (den-pos u) (den-pos v)) (rounds-add u v (f .0) (f .1)) (rw (nonnegative-minus u (f .0) h, nonnegative-minus v (f .1) k) (omega arith))
   | inr e ↦ subst (λ (x : Float). T (le (f32 0) x)) (sym e) (unsigned-le (inf false) tt)
 ]
 
@@ -176,12 +174,12 @@ pub add-above-left : (u v : Float) → T (fits binary32 u) → T (le (f32 0) u) 
 add-above-left u v b h k = elim (add-cases u v h k) [
   | inl f ↦
       rounds-le (den-pos u) (mul-pos (den-pos u) (den-pos v)) (rounds-own u b (f .0)) (rounds-add u v (f .0) (f .1))
-      (go (plus u) (minus u) (den u) (plus v) (minus v) (den v) (nonnegative-parts v (f .1) k))
+      (go (plus u) (minus u) (den u) (plus v) (minus v) (den v) (nonnegative-minus v (f .1) k))
   | inr e ↦ subst (λ (x : Float). T (le u x)) (sym e) (le-top u (le-right (f32 0) u h))
 ]
   where
-    go : (p n d q o c : ℕ) → o ≤ q → p * (d * c) + (n * c + o * d) * d ≤ (p * c + q * d) * d + n * (d * c)
-    go p n d q o c h = let i = mul-le-mul-right (d * d) h in omega arith
+    go : (p n d q o c : ℕ) → o ≡ 0 → p * (d * c) + (n * c + o * d) * d ≤ (p * c + q * d) * d + n * (d * c)
+    go p n d q o c h = rw h (omega arith)
 
 pub add-above-right : (u v : Float) → T (fits binary32 v) → T (le (f32 0) u) → T (le (f32 0) v) → T (le v (u ⊕ v))
 add-above-right u v b h k = subst (λ (x : Float). T (le v x)) (add-commutative v u) (add-above-left v u b k h)

@@ -1,0 +1,141 @@
+-- An f32 product keeps the order in a factor where the other is not below 0 (`mul-monotone`), and a square keeps the order of magnitudes (`square-monotone`, `square-antitone`, `square-beyond`).
+-- Assumes nothing.
+use mathlib.Core.Path.{_≡_, refl, sym, ap, _∙_, subst}
+use mathlib.Core.Logic.{_⊎_, inl, inr}
+use Prim.Native.Nat.{ℕ, _+_, _*_, _≤_}
+use native.Mathlib.Nat.{add-mul, mul-comm, mul-pos, mul-le-mul, mul-le-mul-right, mul-mul-mul-comm, zero-mul, eq-of-mul-eq-mul-right}
+use native.Mathlib.Omega.{arith}
+use mathlib.Core.Bool.{Bool, true, false, not, cond}
+use lib.Dec.{T, eqb}
+use lib.Ieee.{Float, nan, inf, fin, binary32, unlike, up, down, round, neg, mul, le, ofBits, isNan}
+use lib.Ieee.Fits.{eq→eqb, up-pos, down-pos}
+use lib.Ieee.Order.{round-mono}
+use lib.Ieee.Scale.{finite}
+use lib.Ieee.Positive.{num, den, den-pos}
+use Rattle.numbers.specs.Rounded.{f32, _⊖_, _⊗_}
+use Rattle.numbers.proofs.OrderLaws.{plus, minus, side, le→side, of-finite, le-refl, le-trans, le-top, bottom-le, top-le, unsigned}
+use Rattle.numbers.proofs.RoundedOrder.{Rounds, above, under, round-unsigned, neg-le, rounds-le, round-number, rounds-turned, minus-zero-le, nonnegative-minus, nonnegative-plus}
+use Rattle.numbers.proofs.SumOrder.{rounds-sub, sub-monotone, sub-nonnegative, sub-nonpositive}
+
+-- ---- the product with a number that is not below 0
+
+rounds-scaled : (x c : Float) → T (finite x) → T (finite c) → T (le (f32 0) c) → Rounds (x ⊗ c) (plus x * plus c) (minus x * plus c) (den x * den c)
+unfolding mul
+rounds-scaled nan c f g h = absurd f
+rounds-scaled (inf s) c f g h = absurd f
+rounds-scaled (fin s m e) nan f g h = absurd g
+rounds-scaled (fin s m e) (inf t) f g h = absurd g
+rounds-scaled (fin true m e) (fin false n d) f g h = let z : m * up e * (n * up d) ≡ 0 * (n * up d) + m * up e * (n * up d) = omega arith in under (m * up e * (n * up d)) z refl
+rounds-scaled (fin false m e) (fin false n d) f g h = let z : m * up e * (n * up d) ≡ 0 * (n * up d) + m * up e * (n * up d) = omega arith in above (m * up e * (n * up d)) z refl
+rounds-scaled (fin true m e) (fin true n d) f g h =
+    let z : m * up e * (n * up d) ≡ m * up e * 0 = ap (λ (k : ℕ). m * up e * k) (nonnegative-minus (fin true n d) tt h) in
+    let w : 0 * 0 ≡ m * up e * 0 + m * up e * (n * up d) = omega arith in
+    above (m * up e * (n * up d)) w refl
+rounds-scaled (fin false m e) (fin true n d) f g h =
+    let z : m * up e * (n * up d) ≡ m * up e * 0 = ap (λ (k : ℕ). m * up e * k) (nonnegative-minus (fin true n d) tt h) in
+    let w : 0 * 0 ≡ m * up e * 0 + m * up e * (n * up d) = omega arith in
+    under (m * up e * (n * up d)) w refl
+
+pub mul-monotone-finite : (x y c : Float) → T (finite x) → T (finite y) → T (finite c) → T (le x y) → T (le (f32 0) c) → T (le (x ⊗ c) (y ⊗ c))
+mul-monotone-finite x y c f g k h z =
+    rounds-le (mul-pos (den-pos x) (den-pos c)) (mul-pos (den-pos y) (den-pos c)) (rounds-scaled x c f k z) (rounds-scaled y c g k z)
+    (go (plus x) (minus x) (den x) (plus y) (minus y) (den y) (plus c) (den c) (le→side x y f g h))
+  where
+    go : (p n d q o e k c : ℕ) → p * e + o * d ≤ q * d + n * e → p * k * (e * c) + o * k * (d * c) ≤ q * k * (d * c) + n * k * (e * c)
+    go p n d q o e k c h =
+        rw (mul-mul-mul-comm p k e c, mul-mul-mul-comm o k d c, mul-mul-mul-comm q k d c, mul-mul-mul-comm n k e c, ← add-mul (p * e), ← add-mul (q * d)) (mul-le-mul-right (k * c) h)
+
+-- an infinity stays, where the product is not a NaN
+inf-scaled : (s : Bool) (c : Float) → T (finite c) → T (le (f32 0) c) → T (not (isNan (inf s ⊗ c))) → inf s ⊗ c ≡ inf s
+unfolding mul isNan
+inf-scaled s nan f z k = absurd f
+inf-scaled s (inf t) f z k = absurd f
+inf-scaled s (fin false n d) f z k = go s (eqb n 0) k
+  where
+    go : (s b : Bool) → T (not (isNan (cond b nan (inf (unlike s false))))) → cond b nan (inf (unlike s false)) ≡ inf s
+    go s true k = absurd k
+    go true false k = refl
+    go false false k = refl
+inf-scaled s (fin true n d) f z k = go (eqb n 0) (eq→eqb none) k
+  where
+    none : n ≡ 0
+    none = eq-of-mul-eq-mul-right (up d) (up-pos d) n 0 (nonnegative-minus (fin true n d) tt z ∙ sym (zero-mul (up d)))
+
+    go : (b : Bool) → T b → T (not (isNan (cond b nan (inf (unlike s true))))) → cond b nan (inf (unlike s true)) ≡ inf s
+    go true t k = absurd k
+    go false t k = absurd t
+
+pub mul-monotone : (x y c : Float) → T (finite c) → T (le x y) → T (le (f32 0) c) → T (not (isNan (x ⊗ c))) → T (not (isNan (y ⊗ c))) → T (le (x ⊗ c) (y ⊗ c))
+mul-monotone nan y c f h z i j = absurd (unfold le in h)
+mul-monotone (inf true) y c f h z i j = rw (inf-scaled true c f z i) (bottom-le (y ⊗ c) j)
+mul-monotone (inf false) y c f h z i j = subst (λ (w : Float). T (le (inf false ⊗ c) (w ⊗ c))) (sym (top-le y h)) (le-refl (inf false ⊗ c) i)
+mul-monotone (fin s m e) nan c f h z i j = absurd (unfold le in h)
+mul-monotone (fin s m e) (inf true) c f h z i j = absurd (unfold le in h)
+mul-monotone (fin s m e) (inf false) c f h z i j = rw (inf-scaled false c f z j) (le-top (fin s m e ⊗ c) i)
+mul-monotone (fin s m e) (fin t n d) c f h z i j = mul-monotone-finite (fin s m e) (fin t n d) c tt tt f h z
+
+-- with finite factors there is no NaN
+pub mul-number : (x c : Float) → T (finite x) → T (finite c) → T (not (isNan (x ⊗ c)))
+mul-number = of-finite (λ x c. T (not (isNan (x ⊗ c)))) (λ s m e t n d. unfold mul in round-number (unlike s t) (m * up e * (n * up d)) (down e * down d) (mul-pos (down-pos e) (down-pos d)))
+
+-- ---- squares
+
+square-is : (x : Float) → T (finite x) → x ⊗ x ≡ round binary32 false (num x * num x) (den x * den x)
+unfolding mul
+square-is nan f = absurd f
+square-is (inf s) f = absurd f
+square-is (fin true m e) f = refl
+square-is (fin false m e) f = refl
+
+pub square-neg : (x : Float) → neg x ⊗ neg x ≡ x ⊗ x
+unfolding mul neg
+square-neg nan = refl
+square-neg (inf true) = refl
+square-neg (inf false) = refl
+square-neg (fin true m e) = refl
+square-neg (fin false m e) = refl
+
+pub square-unsigned : (x : Float) → T (not (isNan x)) → T (unsigned (x ⊗ x))
+unfolding mul isNan
+square-unsigned nan h = h
+square-unsigned (inf true) h = tt
+square-unsigned (inf false) h = tt
+square-unsigned (fin true m e) h = round-unsigned binary32 (m * up e * (m * up e)) (down e * down e)
+square-unsigned (fin false m e) h = round-unsigned binary32 (m * up e * (m * up e)) (down e * down e)
+
+finite-square : (x y : Float) → T (finite x) → T (finite y) → T (le (f32 0) x) → T (le x y) → T (le (x ⊗ x) (y ⊗ y))
+finite-square x y f g z h =
+    let w = le-trans (f32 0) x y z h in
+    let i = rw (nonnegative-plus x f z, nonnegative-plus y g w, nonnegative-minus x f z, nonnegative-minus y g w) at (le→side x y f g h) in
+    let c : num x * den y ≤ num y * den x = omega arith in
+    rw (square-is x f, square-is y g)
+    (round-mono binary32 (num x * num x) (den x * den x) (num y * num y) (den y * den y) (mul-pos (den-pos x) (den-pos x)) (mul-pos (den-pos y) (den-pos y))
+    (rw (mul-mul-mul-comm (num x) (num x) (den y) (den y), mul-mul-mul-comm (num y) (num y) (den x) (den x)) (mul-le-mul c c)))
+
+pub square-monotone : (x y : Float) → T (le (f32 0) x) → T (le x y) → T (le (x ⊗ x) (y ⊗ y))
+square-monotone nan y z h = absurd (unfold le in h)
+square-monotone (inf true) y z h = absurd (unfold le ofBits in z)
+square-monotone (inf false) y z h = subst (λ (w : Float). T (le (inf false ⊗ inf false) (w ⊗ w))) (sym (top-le y h)) (unfold le mul in tt)
+square-monotone (fin s m e) nan z h = absurd (unfold le in h)
+square-monotone (fin s m e) (inf true) z h = absurd (unfold le in h)
+square-monotone (fin s m e) (inf false) z h = unfold mul in le-top (fin s m e ⊗ fin s m e) (mul-number (fin s m e) (fin s m e) tt tt)
+square-monotone (fin s m e) (fin t n d) z h = finite-square (fin s m e) (fin t n d) tt tt z h
+
+pub square-antitone : (x y : Float) → T (le x (f32 0)) → T (le y x) → T (le (x ⊗ x) (y ⊗ y))
+square-antitone x y z h =
+    let w : T (le (f32 0) (neg x)) = le-trans (f32 0) (neg (f32 0)) (neg x) (minus-zero-le .1) (neg-le x (f32 0) z) in
+    rw (square-neg x, square-neg y) at (square-monotone (neg x) (neg y) w (neg-le y x h))
+
+pub square-swap : (x y : Float) → T (finite x) → T (finite y) → (x ⊖ y) ⊗ (x ⊖ y) ≡ (y ⊖ x) ⊗ (y ⊖ x)
+square-swap x y f g =
+    let r : Rounds (y ⊖ x) (side y x) (side x y) (den x * den y) = rw (mul-comm (den x) (den y)) (rounds-sub y x g f) in
+    elim (rounds-turned (rounds-sub x y f g) r) [
+      | inl e ↦ ap (λ (z : Float). z ⊗ z) e
+      | inr e ↦ ap (λ (z : Float). z ⊗ z) e ∙ square-neg (y ⊖ x)
+    ]
+
+-- farther from a on the same side, by a difference
+pub square-beyond : (a h p : Float) → T (finite a) → T (finite h) → T (finite p) → (T (le a h) × T (le h p)) ⊎ (T (le h a) × T (le p h))
+    → T (le ((h ⊖ a) ⊗ (h ⊖ a)) ((p ⊖ a) ⊗ (p ⊖ a)))
+square-beyond a h p f g k (inl o) = square-monotone (h ⊖ a) (p ⊖ a) (sub-nonnegative h a g f (o .0)) (sub-monotone h p a g k f (o .1))
+square-beyond a h p f g k (inr o) = square-antitone (h ⊖ a) (p ⊖ a) (sub-nonpositive h a g f (o .0)) (sub-monotone p h a k g f (o .1))
