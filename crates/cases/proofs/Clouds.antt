@@ -16,7 +16,7 @@ use Rattle.numbers.specs.Cut.{ceil}
 use Rattle.numbers.specs.Order.{minimum, maximum, clamp}
 use Rattle.numbers.specs.Root.{isqrt, nearestRoot, rootOfUnits, root}
 use Rattle.triangle.specs.Quality.{area, radiusOf, circumradius, angle, least, largest, aspectRatio, edgeRatio, score, measures, degenerate, quality, acceptable}
-use Rattle.triangle.specs.Vector.{difference, magnitude, cross, distance}
+use Rattle.triangle.specs.Vector.{difference, magnitudeSquared, magnitude, cross, squared, distance}
 use Rattle.points.specs.Points.{pointAt, upFrom}
 use Rattle.sorting.specs.Insertion.{insertBefore, place}
 use Rattle.sorting.specs.Sorted.{insertAll, percentileOf}
@@ -193,5 +193,5 @@ pub record CloudCases : Type 0 where
   pub plain : Gives plain-settings plain-points 28 (answer 0 8 0 0 0 ([])) (face 3 0 1 ∷ face 3 0 2 ∷ face 3 1 2 ∷ face 4 0 2 ∷ face 4 0 3 ∷ face 4 1 2 ∷ face 4 1 3 ∷ face 4 2 3 ∷ [])
 
 pub cloud-cases : CloudCases
-unfolding trailingZeros span climb size odd units round neg sum add sub mul div lt eq le ne ofInt toUnsigned isNan ofFields ofBits toBits R abs cleared acosMiddle acosLow acosHigh acosInside acos ceil minimum maximum clamp isqrt nearestRoot rootOfUnits root area radiusOf circumradius angle least largest aspectRatio edgeRatio score measures degenerate quality acceptable difference magnitude cross distance pointAt upFrom insertBefore place insertAll percentileOf inside leading firstOutside listInside firstRefusal firstBadPoint roomy reconstructRefusal firstFailing settingTests firstBadSetting defaults leastFrom boundsMin cellOn cellOf before precedes byCell orderOf within inRange rangeOf keep neighbors distancesTo total average nearOf nearest densitiesFrom spaced dedup candidates radiiAt adaptiveRadii any sift afterPop same push marked withFace cleared-patch seeded popped met pivoted judged look next run begun layOne layAll patch isSecond isThird thirdOf secondOf firstOf scoreOf bestOf numbers searching apart qualityAt isClose accepts middle around pivotable scoreAt completes floatsOf candidate candidates-plain sound valid facesOver facesAt facesOf plainFaces indexOf sceneOf radiiOf laidOf laid plainly foundAt found slots refused accepted delivered reconstructed swept facesAfter
+unfolding trailingZeros span climb size odd units round neg sum add sub mul div lt eq le ne ofInt toUnsigned isNan ofFields ofBits toBits R abs cleared acosMiddle acosLow acosHigh acosInside acos ceil minimum maximum clamp isqrt nearestRoot rootOfUnits root area radiusOf circumradius angle least largest aspectRatio edgeRatio score measures degenerate quality acceptable difference magnitudeSquared magnitude cross squared distance pointAt upFrom insertBefore place insertAll percentileOf inside leading firstOutside listInside firstRefusal firstBadPoint roomy reconstructRefusal firstFailing settingTests firstBadSetting defaults leastFrom boundsMin cellOn cellOf before precedes byCell orderOf within inRange rangeOf keep neighbors distancesTo total average nearOf nearest densitiesFrom spaced dedup candidates radiiAt adaptiveRadii any sift afterPop same push marked withFace cleared-patch seeded popped met pivoted judged look next run begun layOne layAll patch isSecond isThird thirdOf secondOf firstOf scoreOf bestOf numbers searching apart qualityAt isClose accepts middle around pivotable scoreAt completes floatsOf candidate candidates-plain sound valid facesOver facesAt facesOf plainFaces indexOf sceneOf radiiOf laidOf laid plainly foundAt found slots refused accepted delivered reconstructed swept facesAfter
 cloud-cases = record { listing = (refl, refl); two-points = (refl, refl); two-radii = (refl, refl); two-seeds = (refl, refl); pivots = (refl, refl); unindexed = (refl, refl); plain = (refl, refl) }

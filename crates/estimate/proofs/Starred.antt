@@ -5,7 +5,7 @@ use lib.Count.{trailingZeros}
 use lib.Ieee.{Float, ofBits, ofFields, ofInt, odd, size, span, climb, units, round, neg, sum, add, sub, mul, lt, eq, le, toUnsigned}
 use Rattle.numbers.specs.Rounded.{f32}
 use Rattle.numbers.specs.Root.{isqrt, nearestRoot, rootOfUnits, root}
-use Rattle.triangle.specs.Vector.{difference, magnitude, distance}
+use Rattle.triangle.specs.Vector.{difference, magnitudeSquared, magnitude, squared, distance}
 use Rattle.points.specs.Points.{pointAt}
 use Rattle.sorting.specs.Insertion.{insertBefore}
 use Rattle.sorting.specs.Sorted.{insertAll, percentileOf}
@@ -28,5 +28,5 @@ pub record EstimateCases : Type 0 where
   pub two-points : estimateOf pair (f32 0x3f000000) 112 72 ≡ estimate 0 0 (f32 0x40200000)
 
 pub estimate-cases : EstimateCases
-unfolding estimateOf optimalRadius scaled leastDistances leastDistance nearestFrom nearer percentileOf insertAll insertBefore estimateRefusal firstRefusal roomy percentileInside firstOutside leading inside pointAt distance magnitude difference root rootOfUnits nearestRoot isqrt toUnsigned ofInt le lt eq mul sub add neg sum round units odd size span climb ofBits ofFields trailingZeros
+unfolding estimateOf optimalRadius scaled leastDistances leastDistance nearestFrom nearer percentileOf insertAll insertBefore estimateRefusal firstRefusal roomy percentileInside firstOutside leading inside pointAt squared distance magnitudeSquared magnitude difference root rootOfUnits nearestRoot isqrt toUnsigned ofInt le lt eq mul sub add neg sum round units odd size span climb ofBits ofFields trailingZeros
 estimate-cases = record { one-point-anywhere = λ x y z percentile. refl; one-point = refl; two-points = refl }

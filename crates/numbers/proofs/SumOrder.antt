@@ -8,12 +8,12 @@ use native.Mathlib.Omega.{arith}
 use mathlib.Core.Bool.{Bool, true, false, not, _&&_, cond}
 use lib.IntN.{ℤ}
 use lib.Dec.{T, ltb, ltb→lt, nltb→le}
-use lib.Ieee.{Float, nan, inf, fin, binary32, up, down, round, neg, sum, add, sub, le, fits, ofBits}
+use lib.Ieee.{Float, nan, inf, fin, binary32, up, down, round, neg, sum, add, sub, le, fits, ofBits, isNan}
 use lib.Ieee.Scale.{finite}
 use lib.Ieee.Positive.{den, den-pos}
 use Rattle.numbers.specs.Rounded.{f32, _⊕_, _⊖_}
 use Rattle.numbers.proofs.OrderLaws.{plus, minus, plus-mul, minus-mul, side, le→side, of-finite, le-refl, le-right, le-top, finite-number, unsigned, unsigned-le}
-use Rattle.numbers.proofs.RoundedOrder.{Rounds, above, under, round-unsigned, neg-le, rounds-le, rounds-own, nonnegative-minus, rounds-nonnegative, rounds-nonpositive}
+use Rattle.numbers.proofs.RoundedOrder.{Rounds, above, under, round-unsigned, neg-le, rounds-le, rounds-own, rounds-number, nonnegative-minus, rounds-nonnegative, rounds-nonpositive}
 
 -- ---- a sum as a rounding
 
@@ -183,3 +183,19 @@ add-above-left u v b h k = elim (add-cases u v h k) [
 
 pub add-above-right : (u v : Float) → T (fits binary32 v) → T (le (f32 0) u) → T (le (f32 0) v) → T (le v (u ⊕ v))
 add-above-right u v b h k = subst (λ (x : Float). T (le v x)) (add-commutative v u) (add-above-left v u b k h)
+
+-- ---- where there is no NaN
+
+pub sub-number : (x y : Float) → T (finite x) → T (finite y) → T (not (isNan (x ⊖ y)))
+sub-number x y f g = rounds-number (mul-pos (den-pos x) (den-pos y)) (rounds-sub x y f g)
+
+-- a sum that is not a NaN is of two that are not
+pub add-number : (u v : Float) → T (not (isNan (u ⊕ v))) → T (not (isNan u)) × T (not (isNan v))
+unfolding add isNan
+add-number nan v h = absurd h
+add-number (inf s) nan h = absurd h
+add-number (fin s m e) nan h = absurd h
+add-number (inf s) (inf t) h = (tt, tt)
+add-number (inf s) (fin t n d) h = (tt, tt)
+add-number (fin s m e) (inf t) h = (tt, tt)
+add-number (fin s m e) (fin t n d) h = (tt, tt)

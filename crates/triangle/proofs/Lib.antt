@@ -1,2 +1,3 @@
--- What the definitions give at outside values.
+-- Laws of the definitions, and what they give at outside values.
+pub mod Distances
 pub mod Examples

@@ -11,14 +11,22 @@ point x y z = record { x = x; y = y; z = z }
 unfoldable pub difference : Point3f → Point3f → Point3f
 difference p q = point (p .x ⊖ q .x) (p .y ⊖ q .y) (p .z ⊖ q .z)
 
--- the scope's length: the root of (x·x + y·y) + z·z
+-- the scope's length, squared: (x·x + y·y) + z·z
+unfoldable pub magnitudeSquared : Point3f → Float
+magnitudeSquared v = (v .x ⊗ v .x ⊕ v .y ⊗ v .y) ⊕ v .z ⊗ v .z
+
+-- the scope's length
 unfoldable pub magnitude : Point3f → Float
-magnitude v = root ((v .x ⊗ v .x ⊕ v .y ⊗ v .y) ⊕ v .z ⊗ v .z)
+magnitude v = root (magnitudeSquared v)
 
 -- the scope's cross product: y·z' - z·y', and the others in turn
 unfoldable pub cross : Point3f → Point3f → Point3f
 cross v w = point (v .y ⊗ w .z ⊖ v .z ⊗ w .y) (v .z ⊗ w .x ⊖ v .x ⊗ w .z) (v .x ⊗ w .y ⊖ v .y ⊗ w .x)
 
+-- the length of p - q, squared
+unfoldable pub squared : Point3f → Point3f → Float
+squared p q = magnitudeSquared (difference p q)
+
 -- the length of p - q
 unfoldable pub distance : Point3f → Point3f → Float
-distance p q = magnitude (difference p q)
+distance p q = root (squared p q)

@@ -2,7 +2,7 @@
 mod measure;
 
 ghost use mathlib.Core.Path.{_≡_};
-ghost use Rattle.triangle.specs.Vector.{point, difference, magnitude, cross, distance};
+ghost use Rattle.triangle.specs.Vector.{point, difference, magnitudeSquared, magnitude, cross, squared, distance};
 ghost use Rattle.triangle.specs.Quality.{area, circumradius, quality, acceptable};
 
 // A point, or the vector between two.
@@ -42,10 +42,16 @@ pub fn difference(p: Point3f, q: Point3f) -> Point3f
     }
 }
 
+fn magnitude_squared(v: Point3f) -> f32
+    ensures { λ r. ⌜ r ≡ magnitudeSquared v ⌝ }
+{
+    (v.x * v.x + v.y * v.y) + v.z * v.z
+}
+
 pub fn magnitude(v: Point3f) -> f32
     ensures { λ r. ⌜ r ≡ magnitude v ⌝ }
 {
-    numbers::sqrt((v.x * v.x + v.y * v.y) + v.z * v.z)
+    numbers::sqrt(magnitude_squared(v))
 }
 
 pub fn cross(v: Point3f, w: Point3f) -> Point3f
@@ -58,11 +64,18 @@ pub fn cross(v: Point3f, w: Point3f) -> Point3f
     }
 }
 
+// The length of p - q, squared.
+pub fn distance_squared(p: Point3f, q: Point3f) -> f32
+    ensures { λ r. ⌜ r ≡ squared p q ⌝ }
+{
+    magnitude_squared(difference(p, q))
+}
+
 // The length of p - q.
 pub fn distance(p: Point3f, q: Point3f) -> f32
     ensures { λ r. ⌜ r ≡ distance p q ⌝ }
 {
-    magnitude(difference(p, q))
+    numbers::sqrt(distance_squared(p, q))
 }
 
 fn area_of(p1: Point3f, p2: Point3f, p3: Point3f) -> f32

@@ -4,6 +4,9 @@ use borrow.Author.Needs.{needs}
 use Rattle.triangle.proofs.magnitude.Statement.{statement}
 use Rattle.triangle.proofs.magnitude.Tie as tie
 
+magnitude-squared-requires : tie.Need-magnitude-squared-requires
+magnitude-squared-requires c κs = search needs
+
 sqrt-requires : tie.Need-sqrt-requires
 sqrt-requires c κs = search needs
 
@@ -12,4 +15,4 @@ unfolding magnitude
 returns c = cc
 
 pub magnitude-spec : {M : Type 1} → statement M
-magnitude-spec = tie.close (tie.spec sqrt-requires returns)
+magnitude-spec = tie.close (tie.spec magnitude-squared-requires sqrt-requires returns)

@@ -1,0 +1,128 @@
+-- The squared distance of points, as f32 have it, is at least the square of the difference on each axis (`squared-x`, `squared-y`, `squared-z`), is the same both ways,
+-- and orders the distances (`distance-monotone`, `distance-beyond`). Assumes nothing.
+use mathlib.Core.Path.{_≡_, refl, ap}
+use mathlib.Core.Bool.{not}
+use lib.Dec.{T}
+use lib.Ieee.{Float, nan, inf, fin, binary32, mul, lt, le, fits, isNan}
+use lib.Ieee.Fits.{add-fits, mul-fits}
+use lib.Ieee.Scale.{finite}
+use Rattle.numbers.specs.Rounded.{f32, _⊕_, _⊖_, _⊗_}
+use Rattle.numbers.specs.Root.{root}
+use Rattle.numbers.proofs.OrderLaws.{le-left, le-trans, lt-le-trans, unsigned, unsigned-le}
+use Rattle.numbers.proofs.RootMonotone.{root-monotone}
+use Rattle.numbers.proofs.SumOrder.{add-unsigned, add-above-left, add-above-right, add-number, sub-number}
+use Rattle.numbers.proofs.ProductOrder.{square-unsigned, square-swap}
+use Rattle.triangle.specs.Vector.{difference, magnitudeSquared, squared, distance}
+use Rattle.triangle.specs.declared.Point3f.{Point3f}
+
+pub record FinitePoint (p : Point3f) : Type 0 where
+  pub finite-x : T (finite (p .x))
+  pub finite-y : T (finite (p .y))
+  pub finite-z : T (finite (p .z))
+
+-- the square of a difference
+abbrev pub square : Float → Float → Float
+square x y = (x ⊖ y) ⊗ (x ⊖ y)
+
+pub squared-is : (p q : Point3f) → squared p q ≡ (square (p .x) (q .x) ⊕ square (p .y) (q .y)) ⊕ square (p .z) (q .z)
+unfolding squared magnitudeSquared difference
+squared-is p q = refl
+
+-- ---- a sum of three
+
+module _ (a b c : Float) (f : T (unsigned a)) (g : T (unsigned b)) (h : T (unsigned c)) where
+  two-unsigned : T (unsigned (a ⊕ b))
+  two-unsigned = add-unsigned a b f g
+
+  three-unsigned : T (unsigned ((a ⊕ b) ⊕ c))
+  three-unsigned = add-unsigned (a ⊕ b) c two-unsigned h
+
+  third-above : T (le (a ⊕ b) ((a ⊕ b) ⊕ c))
+  third-above = add-above-left (a ⊕ b) c (add-fits binary32 a b) (unsigned-le (a ⊕ b) two-unsigned) (unsigned-le c h)
+
+  above-first : T (fits binary32 a) → T (le a ((a ⊕ b) ⊕ c))
+  above-first k = le-trans a (a ⊕ b) ((a ⊕ b) ⊕ c) (add-above-left a b k (unsigned-le a f) (unsigned-le b g)) third-above
+
+  above-second : T (fits binary32 b) → T (le b ((a ⊕ b) ⊕ c))
+  above-second k = le-trans b (a ⊕ b) ((a ⊕ b) ⊕ c) (add-above-right a b k (unsigned-le a f) (unsigned-le b g)) third-above
+
+  above-third : T (fits binary32 c) → T (le c ((a ⊕ b) ⊕ c))
+  above-third k = add-above-right (a ⊕ b) c k (unsigned-le (a ⊕ b) two-unsigned) (unsigned-le c h)
+
+-- ---- the squared distance
+
+square-fits : (x y : Float) → T (fits binary32 (square x y))
+square-fits x y = mul-fits binary32 (x ⊖ y) (x ⊖ y)
+
+finite-unsigned : (x y : Float) → T (finite x) → T (finite y) → T (unsigned (square x y))
+finite-unsigned x y f g = square-unsigned (x ⊖ y) (sub-number x y f g)
+
+pub squared-fits : (p q : Point3f) → T (fits binary32 (squared p q))
+squared-fits p q = rw (squared-is p q) (add-fits binary32 (square (p .x) (q .x) ⊕ square (p .y) (q .y)) (square (p .z) (q .z)))
+
+module _ (p q : Point3f) (f : FinitePoint p) (g : FinitePoint q) where
+  on-x : T (unsigned (square (p .x) (q .x)))
+  on-x = finite-unsigned (p .x) (q .x) (f .finite-x) (g .finite-x)
+
+  on-y : T (unsigned (square (p .y) (q .y)))
+  on-y = finite-unsigned (p .y) (q .y) (f .finite-y) (g .finite-y)
+
+  on-z : T (unsigned (square (p .z) (q .z)))
+  on-z = finite-unsigned (p .z) (q .z) (f .finite-z) (g .finite-z)
+
+  pub squared-unsigned : T (unsigned (squared p q))
+  squared-unsigned = rw (squared-is p q) (three-unsigned _ _ _ on-x on-y on-z)
+
+  pub squared-x : T (le (square (p .x) (q .x)) (squared p q))
+  squared-x = rw (squared-is p q) (above-first _ _ _ on-x on-y on-z (square-fits (p .x) (q .x)))
+
+  pub squared-y : T (le (square (p .y) (q .y)) (squared p q))
+  squared-y = rw (squared-is p q) (above-second _ _ _ on-x on-y on-z (square-fits (p .y) (q .y)))
+
+  pub squared-z : T (le (square (p .z) (q .z)) (squared p q))
+  squared-z = rw (squared-is p q) (above-third _ _ _ on-x on-y on-z (square-fits (p .z) (q .z)))
+
+  pub squared-swap : squared p q ≡ squared q p
+  squared-swap =
+      rw (
+        squared-is p q,
+        squared-is q p,
+        square-swap (p .x) (q .x) (f .finite-x) (g .finite-x),
+        square-swap (p .y) (q .y) (f .finite-y) (g .finite-y),
+        square-swap (p .z) (q .z) (f .finite-z) (g .finite-z),
+      )
+
+-- whatever the points, it is not below 0 unless it is a NaN
+number-unsigned : (x y : Float) → T (not (isNan (square x y))) → T (unsigned (square x y))
+number-unsigned x y h = square-unsigned (x ⊖ y) (go (x ⊖ y) h)
+  where
+    go : (d : Float) → T (not (isNan (d ⊗ d))) → T (not (isNan d))
+    go nan k = unfold isNan mul in k
+    go (inf s) k = unfold isNan in tt
+    go (fin s m e) k = unfold isNan in tt
+
+pub squared-nonnegative : (p q : Point3f) → T (not (isNan (squared p q))) → T (le (f32 0) (squared p q))
+squared-nonnegative p q h =
+    let n = add-number (square (p .x) (q .x) ⊕ square (p .y) (q .y)) (square (p .z) (q .z)) (rw (squared-is p q) at h) in
+    let m = add-number (square (p .x) (q .x)) (square (p .y) (q .y)) (n .0) in
+    rw (squared-is p q)
+    (unsigned-le _ (three-unsigned _ _ _ (number-unsigned (p .x) (q .x) (m .0)) (number-unsigned (p .y) (q .y) (m .1)) (number-unsigned (p .z) (q .z) (n .1))))
+
+-- ---- the distance
+
+pub distance-is : (p q : Point3f) → distance p q ≡ root (squared p q)
+unfolding distance
+distance-is p q = refl
+
+pub distance-swap : (p q : Point3f) → FinitePoint p → FinitePoint q → distance p q ≡ distance q p
+unfolding distance
+distance-swap p q f g = ap root (squared-swap p q f g)
+
+pub distance-monotone : (p q p' q' : Point3f) → T (le (squared p q) (squared p' q')) → T (le (distance p q) (distance p' q'))
+unfolding distance
+distance-monotone p q p' q' h =
+    root-monotone (squared p q) (squared p' q') (squared-fits p q) (squared-fits p' q') (squared-nonnegative p q (le-left (squared p q) (squared p' q') h)) h
+
+pub distance-beyond : (r t : Float) (p q : Point3f) → T (fits binary32 t) → T (le (f32 0) t) → T (lt r (root t)) → T (le t (squared p q)) → T (lt r (distance p q))
+unfolding distance
+distance-beyond r t p q f z h k = lt-le-trans r (root t) (root (squared p q)) h (root-monotone t (squared p q) f (squared-fits p q) z k)
