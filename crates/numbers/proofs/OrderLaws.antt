@@ -20,25 +20,27 @@ use Rattle.numbers.specs.Rounded.{f32}
 
 -- ---- tests
 
-pub or-l : (a b : Bool) → T a → T (a || b)
+or-l : (a b : Bool) → T a → T (a || b)
 or-l true b t = tt
 or-l false b t = absurd t
 
-pub or-r : (a b : Bool) → T b → T (a || b)
+or-r : (a b : Bool) → T b → T (a || b)
 or-r true b t = tt
 or-r false b t = t
 
-pub or-split : (a b : Bool) → T (a || b) → T a ⊎ T b
+or-split : (a b : Bool) → T (a || b) → T a ⊎ T b
 or-split true b t = inl tt
 or-split false b t = inr t
 
 -- ---- a finite float's parts
 
+-- its size over `den` if it has no minus sign, and 0 otherwise
 abbrev pub plus : Float → ℕ
 plus nan = 0
 plus (inf s) = 0
 plus (fin s m e) = cond s 0 (m * up e)
 
+-- its size over `den` if it has a minus sign, and 0 otherwise
 abbrev pub minus : Float → ℕ
 minus nan = 0
 minus (inf s) = 0
@@ -248,8 +250,9 @@ lt-le-trans x y z p q = elim (le-or-lt z x (le-right y z q) (le-left x y (lt-le 
 pub le-lt-trans : (x y z : Float) → T (le x y) → T (lt y z) → T (lt x z)
 le-lt-trans x y z p q = elim (le-or-lt z x (le-right y z (lt-le y z q)) (le-left x y p)) [ inl k ↦ absurd (le-not-lt z y (le-trans z x y k p) q) | inr k ↦ k ]
 
--- ---- without a minus sign: +0, all above, and +infinity
+-- ---- +0 and up
 
+-- not a NaN, and without a minus sign: +0, all above it, and +infinity
 abbrev pub unsigned : Float → Bool
 unsigned nan = false
 unsigned (inf s) = not s

@@ -1,23 +1,22 @@
 -- The root keeps the order: for f32 with 0 ≤ x ≤ y, `root x` ≤ `root y` (`root-monotone`), -0 and +infinity included.
 -- Between numbers above zero it follows from `root-nearest`: with X ≤ Y in units and roots R and S, a smaller S would give
 -- (R + S)^2 < 4X, since R is nearer to √X, and 4Y < (R + S)^2, since S is nearer to √Y.
-use mathlib.Core.Logic.{inl, inr}
+use mathlib.Core.Path.{sym, subst}
 use Prim.Native.Nat.{ℕ, zero, suc, _+_, _*_, _^_, _≤_, _<_}
 use native.Mathlib.Nat.{zero-lt-suc, mul-pos, mul-le-mul-right, le-of-mul-le-mul-right}
 use native.Mathlib.Omega.{arith}
 use native.Mathlib.Decide.{decLe}
 use mathlib.Core.Bool.{Bool, true, false}
 use lib.IntN.{ℤ, pos}
-use lib.Dec.{T, ltb, eqb, ltb→lt, lt→ltb, eqb→eq}
+use lib.Dec.{T, ltb→lt, lt→ltb}
 use lib.Pow.{pow-pos}
-use lib.Ieee.{Float, nan, inf, fin, binary32, up, down, fits, lt, le, ofBits}
-use lib.Ieee.Fits.{and-l, up-pos, down-pos}
-use lib.Ieee.Exact.{HasValue}
+use lib.Ieee.{Float, nan, inf, fin, binary32, fits, lt, le, ofBits}
+use lib.Ieee.Fits.{up-pos, down-pos}
 use lib.Ieee.Order.{le-of-values}
-use lib.Ieee.Positive.{positive, above, above-of-le, values-of-le, positive-of-value}
+use lib.Ieee.Positive.{positive, above, above-of-le, values-of-le, positive-of-value, positive-finite}
 use Rattle.numbers.specs.Rounded.{f32}
 use Rattle.numbers.specs.Root.{root}
-use Rattle.numbers.proofs.OrderLaws.{or-split, lt-le}
+use Rattle.numbers.proofs.OrderLaws.{side, le→side, side→lt, lt-le, le-top, top-le, finite-number}
 use Rattle.numbers.proofs.RootNearest.{root-nearest}
 
 -- ---- between numbers above zero
@@ -45,49 +44,30 @@ between x y f g p q h =
 
 -- ---- at the ends
 
--- any number is below +infinity
-value-le-inf : (v : Float) (s : Bool) (a c : ℕ) → HasValue v s a c → T (le v (inf false))
-unfolding le
-value-le-inf nan s a c h = absurd h
-value-le-inf (inf t) s a c h = absurd h
-value-le-inf (fin t m e) s a c h = tt
-
 inf-top : (y : Float) → T (le (inf false) y) → T (le (root (inf false)) (root y))
 unfolding le root
-inf-top nan h = absurd h
-inf-top (inf true) h = absurd h
-inf-top (inf false) h = tt
-inf-top (fin t n d) h = absurd h
+inf-top y h = subst (λ (w : Float). T (le (root (inf false)) (root w))) (sym (top-le y h)) tt
 
 -- a zero is below any number above zero, and not below one under it
 zero-lt-positive : (s : Bool) (e : ℤ) (v : Float) → T (positive v) → T (lt (fin s 0 e) v)
-unfolding lt
 zero-lt-positive s e nan p = absurd p
 zero-lt-positive s e (inf t) p = absurd p
 zero-lt-positive s e (fin true n d) p = absurd p
-zero-lt-positive true e (fin false n d) p =
-    let b : 0 < n * up d * down e = mul-pos (mul-pos (ltb→lt 0 n p) (up-pos d)) (down-pos e) in
-    lt→ltb 0 (0 * up e * down d + n * up d * down e) (omega arith)
-zero-lt-positive false e (fin false n d) p =
-    let b : 0 < n * up d * down e = mul-pos (mul-pos (ltb→lt 0 n p) (up-pos d)) (down-pos e) in
-    lt→ltb (0 * up e * down d) (n * up d * down e) (omega arith)
+zero-lt-positive s e (fin false n d) p = side→lt (fin s 0 e) (fin false n d) tt tt (go s)
+  where
+    go : (s : Bool) → side (fin s 0 e) (fin false n d) < side (fin false n d) (fin s 0 e)
+    go true = omega (arith, mul-pos (mul-pos (ltb→lt 0 n p) (up-pos d)) (down-pos e))
+    go false = omega (arith, mul-pos (mul-pos (ltb→lt 0 n p) (up-pos d)) (down-pos e))
 
 not-under : (s : Bool) (e : ℤ) (n : ℕ) (d : ℤ) → T (le (fin s 0 e) (fin true (suc n) d)) → ⊥
-unfolding le
-not-under s e n d = go s
+not-under s e n d h = go s (le→side (fin s 0 e) (fin true (suc n) d) tt tt h)
   where
-    less : 0 * up e * down d < suc n * up d * down e
-    less = let p : 0 < suc n * up d * down e = mul-pos (mul-pos (zero-lt-suc n) (up-pos d)) (down-pos e) in omega arith
+    go : (s : Bool) → side (fin s 0 e) (fin true (suc n) d) ≤ side (fin true (suc n) d) (fin s 0 e) → ⊥
+    go true k = omega (arith, mul-pos (mul-pos (zero-lt-suc n) (up-pos d)) (down-pos e))
+    go false k = omega (arith, mul-pos (mul-pos (zero-lt-suc n) (up-pos d)) (down-pos e))
 
-    same : T (eqb (0 * up e * down d) (suc n * up d * down e)) → ⊥
-    same t = let p = eqb→eq (0 * up e * down d) (suc n * up d * down e) t in let l = less in omega arith
-
-    go : (s : Bool) → T (le (fin s 0 e) (fin true (suc n) d)) → ⊥
-    go true h = elim (or-split (ltb (suc n * up d * down e) (0 * up e * down d)) _ h) [
-      | inl t ↦ let p = ltb→lt (suc n * up d * down e) (0 * up e * down d) t in let l = less in omega arith
-      | inr t ↦ same (and-l (eqb (0 * up e * down d) (suc n * up d * down e)) _ t)
-    ]
-    go false h = same (and-l (eqb (0 * up e * down d) (suc n * up d * down e)) _ h)
+root-positive : (x : Float) → T (fits binary32 x) → T (positive x) → T (positive (root x))
+root-positive x f p = let a = root-nearest x f p in positive-of-value (root x) (a .R) (2 ^ 149) (a .result) (a .above-zero)
 
 zero-le-root : (s : Bool) (e : ℤ) (y : Float) → T (fits binary32 y) → T (le (fin s 0 e) y) → T (le (root (fin s 0 e)) (root y))
 unfolding le root
@@ -97,13 +77,12 @@ zero-le-root s e (inf false) g h = tt
 zero-le-root s e (fin t zero d) g h = h
 zero-le-root s e (fin true (suc n) d) g h = absurd (not-under s e n d h)
 zero-le-root s e (fin false (suc n) d) g h =
-    let b = root-nearest (fin false (suc n) d) g (lt→ltb 0 (suc n) (zero-lt-suc n)) in
-    lt-le (fin s 0 e) (root (fin false (suc n) d)) (zero-lt-positive s e (root (fin false (suc n) d)) (positive-of-value (root (fin false (suc n) d)) (b .R) (2 ^ 149) (b .result) (b .above-zero)))
+    lt-le (fin s 0 e) (root (fin false (suc n) d)) (zero-lt-positive s e (root (fin false (suc n) d)) (root-positive (fin false (suc n) d) g (lt→ltb 0 (suc n) (zero-lt-suc n))))
 
 positive-le-root : (x y : Float) → T (fits binary32 x) → T (fits binary32 y) → T (positive x) → T (above y) → T (le x y) → T (le (root x) (root y))
 positive-le-root x nan f g p q h = absurd q
 positive-le-root x (inf true) f g p q h = absurd q
-positive-le-root x (inf false) f g p q h = let a = root-nearest x f p in unfold root in value-le-inf (root x) false (a .R) (2 ^ 149) (a .result)
+positive-le-root x (inf false) f g p q h = unfold root in le-top (root x) (finite-number (root x) (positive-finite (root x) (root-positive x f p)))
 positive-le-root x (fin true n d) f g p q h = absurd q
 positive-le-root x (fin false n d) f g p q h = between x (fin false n d) f g p q h
 

@@ -77,8 +77,9 @@ neg-le (fin s m e) (fin t n d) h = side→le (fin (not t) n d) (fin (not s) m e)
     go false true h = omega arith
     go false false h = omega arith
 
--- ---- a float that is (p - n) / c rounded; a zero may have either sign
+-- ---- what is rounded
 
+-- x is (p - n) / c rounded to an f32; a zero may have either sign
 pub data Rounds : Float → ℕ → ℕ → ℕ → Type 0 where
   above : {x : Float} {p n c : ℕ} (a : ℕ) → p ≡ n + a → x ≡ round binary32 false a c → Rounds x p n c
   under : {x : Float} {p n c : ℕ} (a : ℕ) → n ≡ p + a → x ≡ round binary32 true a c → Rounds x p n c
@@ -91,7 +92,7 @@ pub minus-zero-le : T (le (neg (f32 0)) (f32 0)) × T (le (f32 0) (neg (f32 0)))
 unfolding le neg ofBits
 minus-zero-le = (tt, tt)
 
-pub rounds-zero : Rounds (f32 0) 0 0 1
+rounds-zero : Rounds (f32 0) 0 0 1
 rounds-zero = above 0 refl (sym zero-is)
 
 -- ---- the order, by the signs of the two

@@ -15,6 +15,7 @@ use Rattle.numbers.proofs.ProductOrder.{square-unsigned, square-swap}
 use Rattle.triangle.specs.Vector.{difference, magnitudeSquared, squared, distance}
 use Rattle.triangle.specs.declared.Point3f.{Point3f}
 
+-- a point with finite coordinates
 pub record FinitePoint (p : Point3f) : Type 0 where
   pub finite-x : T (finite (p .x))
   pub finite-y : T (finite (p .y))
