@@ -1,4 +1,4 @@
 pub mod Sifting
-pub mod Scanning
 pub mod Slices
+pub mod Flags
 pub mod Work

@@ -1,13 +1,12 @@
--- A change between two places of a slice leaves every part outside unchanged; one more entry behind a list in a slice; a tail that was lent and came back. Assumes nothing.
+-- A change between two places of a slice leaves every part outside unchanged; one more word behind a list in a slice; a tail that was lent and came back. Assumes nothing.
 use Prim.Native.Nat.{ℕ, zero, suc, _+_, _-_, _≤_, _<_}
 use mathlib.Core.Path.{_≡_, refl, sym, ap, _∙_}
-use mathlib.Core.List.{List, [], _∷_, _++_, map, map-append, append-nil}
+use mathlib.Core.List.{List, [], _∷_, _++_, append-nil}
 use native.Mathlib.Nat.{le-of-eq}
 use native.Mathlib.Omega.{arith}
 use lib.ListN.{length, take, drop, set, length-set, length-drop, length-append, drop-of-length-le}
 use lib.Seq.{take-all, take-take, take-at, drop-at, drop-drop, length-take-le, take-set-le, drop-set-lt, drop-set-add, take-suc-set}
 use borrow.Rule.Slice.PartMut.{putMid}
-use Rattle.patch.specs.View.{decode}
 use Rattle.frontier.specs.Work.{OnlyIn}
 
 -- ---- parts outside
@@ -33,16 +32,23 @@ only-none lo hi w = record { before = refl; after = refl; length-same = refl }
 pub only-set : (lo hi : ℕ) (w : List ℕ) (i v : ℕ) → lo ≤ i → i < hi → OnlyIn lo hi w (set w i v)
 only-set lo hi w i v h g = record { before = take-set-le lo w i v h; after = drop-set-lt hi w i v g; length-same = length-set w i v }
 
+-- what lies between farther places
+pub only-wider : {lo hi : ℕ} {w u : List ℕ} (lo′ hi′ : ℕ) → lo′ ≤ lo → hi ≤ hi′ → OnlyIn lo hi w u → OnlyIn lo′ hi′ w u
+only-wider {lo} {hi} {w} {u} lo′ hi′ h g o = record {
+  before = sym (take-take lo′ lo u h) ∙ ap (λ (l : List ℕ). take lo′ l) (o .before) ∙ take-take lo′ lo w h;
+  after = sym (further hi hi′ u g) ∙ ap (λ (l : List ℕ). drop (hi′ - hi) l) (o .after) ∙ further hi hi′ w g;
+  length-same = o .length-same;
+}
+
 pub only-both : {lo hi : ℕ} {w u v : List ℕ} → OnlyIn lo hi w u → OnlyIn lo hi u v → OnlyIn lo hi w v
 only-both o p = record { before = p .before ∙ o .before; after = p .after ∙ o .after; length-same = p .length-same ∙ o .length-same }
 
--- ---- one more entry behind the k entries from `at` on
-pub entry-stored : (w : List ℕ) (at k c : ℕ) → at + k < length w → map decode (take (k + 1) (drop at (set w (at + k) c))) ≡ map decode (take k (drop at w)) ++ (decode c ∷ [])
-entry-stored w at k c h =
+-- ---- one more word behind the k words from `at` on
+pub word-stored : (w : List ℕ) (at k c : ℕ) → at + k < length w → take (k + 1) (drop at (set w (at + k) c)) ≡ take k (drop at w) ++ (c ∷ [])
+word-stored w at k c h =
     let l : k < length (drop at w) = omega (arith, length-drop at w) in
     let e : k + 1 ≡ suc k = omega arith in
-    ap (λ (j : ℕ). map decode (take j (drop at (set w (at + k) c)))) e
-    ∙ ap (λ (xs : List ℕ). map decode (take (suc k) xs)) (drop-set-add at w k c) ∙ ap (map decode) (take-suc-set (drop at w) k c l) ∙ map-append decode (take k (drop at w)) (c ∷ [])
+    ap (λ (j : ℕ). take j (drop at (set w (at + k) c))) e ∙ ap (λ (xs : List ℕ). take (suc k) xs) (drop-set-add at w k c) ∙ take-suc-set (drop at w) k c l
 
 -- ---- the tail from `at` on, come back as ys
 module _ (at : ℕ) (w : List ℕ) (long : at ≤ length w) where

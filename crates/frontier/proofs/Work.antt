@@ -2,24 +2,23 @@
 use Prim.Native.Nat.{ℕ, zero, suc, _+_, _-_, _*_, _≤_, _<_}
 use mathlib.Core.Path.{_≡_, refl, sym, ap, ap₂, _∙_}
 use mathlib.Core.Bool.{Bool, true, false}
-use mathlib.Core.List.{List, [], _∷_, _++_, map}
+use mathlib.Core.List.{List, [], _∷_, _++_, map, map-append, append-assoc}
 use mathlib.Core.Option.{some}
-use native.Mathlib.Nat.{le-refl}
 use native.Mathlib.Omega.{arith}
-use lib.ListN.{length, getD, take, drop, set, replicate, length-set, length-map, length-drop, length-append, List·getD-map}
-use lib.Seq.{getD-take, drop-set-add, take-set-lt, take-suc-set, length-take-le}
+use lib.ListN.{length, getD, take, drop, set, replicate, length-set, length-drop, length-append}
+use lib.Seq.{getD-take, drop-set-add, take-set-lt, take-suc-set}
 use borrow.Rule.Slice.PartMut.{putMid}
-use Rattle.patch.specs.Count.{bit, count, any}
-use Rattle.patch.specs.Lay.{Edge, edge, same, Face, face, edgesOf, State, push, marked, withFace, cleared, popped, met, seeded, pivoted}
+use Rattle.patch.specs.Count.{bit, count}
+use Rattle.patch.specs.Lay.{Edge, edge, Face, face, edgesOf, State, push, marked, withFace, cleared, popped, met, seeded, pivoted}
 use Rattle.patch.specs.Frontier.{noEdge, afterPop}
-use Rattle.patch.specs.View.{decode}
 use Rattle.patch.proofs.Counts.{count-append, count-all}
 use Rattle.patch.proofs.Pops.{heapOf-keeps}
 use Rattle.patch.proofs.Laying.{Room as Fits}
-use Rattle.patch.proofs.View.{decode-encode, decode-afterPop, written-none, written-more, written-full, length-written}
+use Rattle.patch.proofs.View.{map-afterPop, written-none, written-more, written-full, length-written}
 use Rattle.frontier.specs.declared.Counts.{Counts}
-use Rattle.frontier.specs.Work.{usedIn, frontierIn, processedIn, processedEnd, Holds, Takes, TakesAside, Begins, Clears, Pops, Sized, Ready, OnlyIn, Taken, Pushed, Marked, Wrote, Added}
-use Rattle.frontier.proofs.Slices.{before-same, after-same, only-none, only-set, only-both, entry-stored, tail-is, back, only-tail}
+use Rattle.frontier.specs.Work.{usedIn, entriesIn, flag, entryOf, wordsOf, Holds, Takes, Begins, Clears, Pops, Open, NoneProcessed, Misses, Sized, Ready, OnlyIn, Taken, Pushed, Marked, Wrote}
+use Rattle.frontier.proofs.Slices.{before-same, after-same, only-none, only-set, only-wider, only-both, word-stored, tail-is, back, only-tail}
+use Rattle.frontier.proofs.Flags.{entries-kept, Fresh, fresh-pushed, fresh-words, seed-fresh, pivot-fresh}
 
 -- ---- the parts
 module _ (n count : ℕ) (w ys : List ℕ) (r : ℕ) (sized : Sized n w) (some-wait : 0 < count) (few : count ≤ 3 * n) where
@@ -28,39 +27,27 @@ module _ (n count : ℕ) (w ys : List ℕ) (r : ℕ) (sized : Sized n w) (some-w
   taken top rest same long =
       let inside : 6 * n ≤ length w = omega arith in
       let t = tail-is (6 * n) w inside in
-      let entries : List ℕ = take count (drop (6 * n) w) in
       record {
-        first = ap decode (top ∙ ap (λ (l : List ℕ). getD l 0 0) t ∙ sym (getD-take count (drop (6 * n) w) 0 0 some-wait)) ∙ sym (List·getD-map decode entries 0 0);
-        rest = ap (λ (l : List ℕ). map decode (take (count - 1) l)) (back (6 * n) w inside ys) ∙ ap (map decode) (rest ∙ ap (λ (l : List ℕ). afterPop 0 (take count l)) t) ∙ decode-afterPop entries;
+        first = top ∙ ap (λ (l : List ℕ). getD l 0 0) t ∙ sym (getD-take count (drop (6 * n) w) 0 0 some-wait);
+        rest = ap (λ (l : List ℕ). take (count - 1) l) (back (6 * n) w inside ys) ∙ rest ∙ ap (λ (l : List ℕ). afterPop 0 (take count l)) t;
         only = only-tail (6 * n) w inside count (9 * n) ys (omega arith) (long ∙ ap length t ∙ length-drop (6 * n) w) (same ∙ ap (λ (l : List ℕ). drop count l) t);
       }
 
-module _ (n count done a b : ℕ) (w : List ℕ) (t : Bool) (found : t ≡ any (same (edge a b)) (processedIn n done w)) where
-  pub pushed-not : t ≡ true → Pushed n count done (edge a b ∷ []) w w count
-  unfolding push
-  pushed-not q = record { entries = rw (sym found ∙ q); most = omega arith; only = only-none (6 * n) (9 * n) w }
+pub pushed-one : (n count entry : ℕ) (w : List ℕ) → Sized n w → count + 1 ≤ 3 * n → Pushed n count (entry ∷ []) w (set w (6 * n + count) entry)
+pushed-one n count entry w sized few = record {
+  entries = word-stored w (6 * n) count entry (omega (arith, sized .long));
+  only = only-set (6 * n) (9 * n) w (6 * n + count) entry (omega arith) (omega arith);
+}
 
-  pub pushed-new : t ≡ false → Sized n w → count + 1 ≤ 3 * n → b < 4096 → Pushed n count done (edge a b ∷ []) w (set w (6 * n + count) (a * 4096 + b)) (count + 1)
-  unfolding push
-  pushed-new q sized few small =
-      let stored : frontierIn n (count + 1) (set w (6 * n + count) (a * 4096 + b)) ≡ frontierIn n count w ++ (edge a b ∷ []) =
-      entry-stored w (6 * n) count (a * 4096 + b) (omega arith) ∙ ap (λ (e : Edge). frontierIn n count w ++ (e ∷ [])) (decode-encode a b small) in
-      record {
-        entries = rw (sym found ∙ q) stored;
-        most = omega arith;
-        only = only-set (6 * n) (9 * n) w (6 * n + count) (a * 4096 + b) (omega arith) (omega arith);
-      }
-
-pub pushed-three : (n count done a b c one two three : ℕ) (w w1 w2 w3 : List ℕ) → Pushed n count done (edge a b ∷ []) w w1 one → Pushed n one done (edge b c ∷ []) w1 w2 two → Pushed n two done (edge c a ∷ []) w2 w3 three
-    → Pushed n count done (edgesOf (face a b c)) w w3 three
-unfolding push
-pushed-three n count done a b c one two three w w1 w2 w3 p q r =
-    let same1 : processedIn n done w1 ≡ processedIn n done w = ap (map decode) (after-same (p .only) (9 * n) done (le-refl (9 * n))) in
-    let same2 : processedIn n done w2 ≡ processedIn n done w = ap (map decode) (after-same (q .only) (9 * n) done (le-refl (9 * n))) ∙ same1 in
+pub pushed-three : (n count x y z : ℕ) (w w1 w2 w3 : List ℕ) → Pushed n count (x ∷ []) w w1 → Pushed n (count + 1) (y ∷ []) w1 w2 → Pushed n (count + 2) (z ∷ []) w2 w3 → Pushed n count (x ∷ y ∷ z ∷ []) w w3
+pushed-three n count x y z w w1 w2 w3 p q r =
+    let two : count + 2 ≡ count + 1 + 1 = omega arith in
+    let three : count + 3 ≡ count + 2 + 1 = omega arith in
+    let old : List ℕ = entriesIn n count w in
     record {
-      entries = r .entries ∙ ap (λ (ps : List Edge). push ps (frontierIn n two w2) (edge c a ∷ [])) same2
-          ∙ ap (λ (f : List Edge). push (processedIn n done w) f (edge c a ∷ [])) (q .entries ∙ ap (λ (ps : List Edge). push ps (frontierIn n one w1) (edge b c ∷ [])) same1 ∙ ap (λ (f : List Edge). push (processedIn n done w) f (edge b c ∷ [])) (p .entries));
-      most = omega (arith, p .most, q .most, r .most);
+      entries = ap (λ (m : ℕ). entriesIn n m w3) three ∙ r .entries
+          ∙ ap (λ (l : List ℕ). l ++ (z ∷ [])) (ap (λ (m : ℕ). entriesIn n m w2) two ∙ q .entries ∙ ap (λ (l : List ℕ). l ++ (y ∷ [])) (p .entries))
+          ∙ append-assoc (old ++ (x ∷ [])) (y ∷ []) (z ∷ []) ∙ append-assoc old (x ∷ []) (y ∷ z ∷ []);
       only = only-both (only-both (p .only) (q .only)) (r .only);
     }
 
@@ -76,12 +63,6 @@ unfolding marked
 marked-three n a b k w w1 w2 w3 p q r = record {
   flags = r .flags ∙ ap (λ (l : List ℕ). set l k 1) (q .flags ∙ ap (λ (l : List ℕ). set l b 1) (p .flags));
   only = only-both (only-both (p .only) (q .only)) (r .only);
-}
-
-pub added : (n count entry : ℕ) (w : List ℕ) → Sized n w → count < 2 * n → Added n count entry w (set w (9 * n + count) entry)
-added n count entry w sized h = record {
-  edges = entry-stored w (9 * n) count entry (omega arith);
-  only = only-set (9 * n) (processedEnd n) w (9 * n + count) entry (omega arith) (omega arith);
 }
 
 module _ (count a b k : ℕ) (slice : List ℕ) where
@@ -124,32 +105,28 @@ clearing-end n w₀ w i c h =
     (ap (λ (j : ℕ). take j (drop (5 * n) w)) (sym e) ∙ c .zeros ∙ ap (λ (j : ℕ). replicate j 0) e, c .only)
 
 -- ---- the steps
-pub begin-holds : (n : ℕ) (u : List ℕ) → usedIn n u ≡ replicate n 0 → Begins n (record { faces = 0; seeds = 0; frontier = 0; processed = 0; looks = 0; pivots = 0 }) u
+pub begin-holds : (n : ℕ) (u : List ℕ) → usedIn n u ≡ replicate n 0 → Begins n (record { faces = 0; seeds = 0; frontier = 0; looks = 0; pivots = 0 }) u
 begin-holds n u h lent = record {
   faces-count = refl;
   seeds-count = refl;
   frontier-count = refl;
-  processed-count = refl;
   looks = refl;
   pivots = refl;
   used = h;
   frontier = refl;
-  processed = refl;
   faces = sym (written-none lent);
 }
 
-pub clear-takes : (c : Counts) → Clears c (record { faces = c .faces; seeds = c .seeds; frontier = 0; processed = 0; looks = c .looks; pivots = c .pivots })
+pub clear-takes : (c : Counts) → Clears c (record { faces = c .faces; seeds = c .seeds; frontier = 0; looks = c .looks; pivots = c .pivots })
 unfolding cleared
 clear-takes c n w slice lent s h = record {
   faces-count = h .faces-count;
   seeds-count = h .seeds-count;
   frontier-count = refl;
-  processed-count = refl;
   looks = h .looks;
   pivots = h .pivots;
   used = h .used;
   frontier = refl;
-  processed = refl;
   faces = h .faces;
 }
 
@@ -157,72 +134,71 @@ length-afterPop : (x : Edge) (xs : List Edge) → length (afterPop noEdge (x ∷
 length-afterPop x xs = let k = heapOf-keeps x xs (λ e. true) in omega (arith, count-all xs, count-all (afterPop noEdge (x ∷ xs)))
 
 pub pop-takes : (n : ℕ) (c : Counts) (w u : List ℕ) (entry : ℕ) → Taken n (c .frontier) w u entry
-    → Pops n c w entry (record { faces = c .faces; seeds = c .seeds; frontier = c .frontier - 1; processed = c .processed; looks = c .looks + 1; pivots = c .pivots }) u
+    → Pops n c w entry (record { faces = c .faces; seeds = c .seeds; frontier = c .frontier - 1; looks = c .looks + 1; pivots = c .pivots }) u
 unfolding popped
-pop-takes n c w u entry t lent slice s x xs h wait = (
-  t .first ∙ ap (λ (l : List Edge). getD l 0 noEdge) (h .frontier ∙ wait),
-  record {
-    faces-count = h .faces-count;
-    seeds-count = h .seeds-count;
-    frontier-count = omega (arith, h .frontier-count, ap length wait, length-afterPop x xs);
-    processed-count = h .processed-count;
-    looks = omega (arith, h .looks);
-    pivots = h .pivots;
-    used = before-same (t .only) (5 * n) n (omega arith) ∙ h .used;
-    frontier = t .rest ∙ ap (afterPop noEdge) (h .frontier ∙ wait);
-    processed = ap (map decode) (after-same (t .only) (9 * n) (c .processed) (le-refl (9 * n))) ∙ h .processed;
-    faces = h .faces;
-  },
-)
+pop-takes n c w u entry t lent slice s x xs h wait =
+    let words : entriesIn n (c .frontier) w ≡ map (entryOf (s .processed)) (x ∷ xs) = h .frontier ∙ ap (λ (l : List Edge). map (entryOf (s .processed)) l) wait in (
+      t .first ∙ ap (λ (l : List ℕ). getD l 0 0) words,
+      record {
+        faces-count = h .faces-count;
+        seeds-count = h .seeds-count;
+        frontier-count = omega (arith, h .frontier-count, ap length wait, length-afterPop x xs);
+        looks = omega (arith, h .looks);
+        pivots = h .pivots;
+        used = before-same (t .only) (5 * n) n (omega arith) ∙ h .used;
+        frontier = t .rest ∙ ap (λ (l : List ℕ). afterPop 0 l) words ∙ sym (map-afterPop (entryOf (s .processed)) noEdge 0 (x ∷ xs));
+        faces = h .faces;
+      },
+    )
 
-pub processed-takes : (n : ℕ) (c : Counts) (w u : List ℕ) (entry : ℕ) → Ready n c w → Added n (c .processed) entry w u
-    → TakesAside n (pivoted (decode entry)) c w (record { faces = c .faces; seeds = c .seeds; frontier = c .frontier; processed = c .processed + 1; looks = c .looks; pivots = c .pivots + 1 }) u
+pub miss-takes : (c : Counts) → Misses c (record { faces = c .faces; seeds = c .seeds; frontier = c .frontier; looks = c .looks; pivots = c .pivots + 1 })
 unfolding pivoted
-processed-takes n c w u entry ready a slice lent s h = record {
+miss-takes c n w slice lent e s a h = record {
   faces-count = h .faces-count;
   seeds-count = h .seeds-count;
   frontier-count = h .frontier-count;
-  processed-count = omega (arith, h .processed-count, length-append (s .processed) (decode entry ∷ []));
   looks = h .looks;
   pivots = omega (arith, h .pivots);
-  used = before-same (a .only) (5 * n) n (omega arith) ∙ h .used;
-  frontier = ap (map decode) (before-same (a .only) (6 * n) (c .frontier) (omega (arith, ready .frontier))) ∙ h .frontier;
-  processed = a .edges ∙ ap (λ (l : List Edge). l ++ (decode entry ∷ [])) (h .processed);
+  used = h .used;
+  frontier = h .frontier ∙ sym (entries-kept (s .processed) e (s .frontier) (a .none-waits));
   faces = h .faces;
 }
 
-length-frontierIn : (n k : ℕ) (w : List ℕ) → 6 * n + k ≤ length w → length (frontierIn n k w) ≡ k
-length-frontierIn n k w h = length-map (take k (drop (6 * n) w)) decode ∙ length-take-le k (drop (6 * n) w) (omega (arith, length-drop (6 * n) w))
-
--- a face is laid, as a seed or not: written, its free points ks marked, its edges pushed
-module _ (n : ℕ) (c : Counts) (w w1 w2 slice back : List ℕ) (seed : Bool) (ks : List ℕ) (f : Face) (seeds r : ℕ) (ready : Ready n c w) (wrote : Wrote (c .faces) f slice back) (m : Marked n ks w w1) (p : Pushed n (c .frontier) (c .processed) (edgesOf f) w1 w2 r) (more : seeds ≡ c .seeds + bit seed) where
-  pub face-takes : Takes n (withFace seed ks f) c w slice (record { faces = c .faces + 1; seeds = seeds; frontier = r; processed = c .processed; looks = c .looks; pivots = c .pivots }) w2 back
-  unfolding withFace
-  face-takes lent s h =
-      let done : processedIn n (c .processed) w1 ≡ s .processed = ap (map decode) (after-same (m .only) (9 * n) (c .processed) (omega arith)) ∙ h .processed in
-      let waiting : frontierIn n (c .frontier) w1 ≡ s .frontier = ap (map decode) (after-same (m .only) (6 * n) (c .frontier) (le-refl (6 * n))) ∙ h .frontier in
-      let entries : frontierIn n r w2 ≡ push (s .processed) (s .frontier) (edgesOf f) = p .entries ∙ ap₂ (λ (ps fs : List Edge). push ps fs (edgesOf f)) done waiting in
+-- a face is laid, as a seed or not: written, its free points ks marked, its edges pushed; `processed` are the processed edges then
+module _ (n : ℕ) (c : Counts) (w w1 w2 slice back : List ℕ) (seed : Bool) (ks : List ℕ) (f : Face) (mark seeds pivots : ℕ) (wrote : Wrote (c .faces) f slice back) (m : Marked n ks w w1) (p : Pushed n (c .frontier) (wordsOf mark f) w1 w2) (more : seeds ≡ c .seeds + bit seed) where
+  face-holds : (lent : List ℕ) (s : State) (processed : List Edge) (pivots′ : ℕ) → pivots ≡ pivots′ → Fresh s processed mark f → Holds n lent s c w slice
+      → Holds n lent (record { faces = s .faces ++ (f ∷ []); seedFlags = s .seedFlags ++ (seed ∷ []); used = marked (s .used) ks; frontier = push (s .processed) (s .frontier) (edgesOf f); processed = processed; looks = s .looks; pivots = pivots′ })
+      (record { faces = c .faces + 1; seeds = seeds; frontier = c .frontier + 3; looks = c .looks; pivots = pivots }) w2 back
+  face-holds lent s processed pivots′ same-pivots fresh h =
+      let all = fresh-pushed fresh in
+      let waiting : entriesIn n (c .frontier) w1 ≡ map (entryOf (s .processed)) (s .frontier) = after-same (m .only) (6 * n) (c .frontier) (omega arith) ∙ h .frontier in
       record {
         faces-count = omega (arith, h .faces-count, length-append (s .faces) (f ∷ []));
         seeds-count = omega (arith, h .seeds-count, count-append (λ (b : Bool). b) (s .seedFlags) (seed ∷ []));
-        frontier-count = sym (length-frontierIn n r w2 (omega (arith, p .most, p .only .length-same, m .only .length-same, ready .sized .long, ready .frontier))) ∙ ap length entries;
-        processed-count = h .processed-count;
+        frontier-count = omega (arith, h .frontier-count, ap length all, length-append (s .frontier) (edgesOf f));
         looks = h .looks;
-        pivots = h .pivots;
+        pivots = same-pivots;
         used = before-same (p .only) (5 * n) n (omega arith) ∙ m .flags ∙ ap (λ (l : List ℕ). marked l ks) (h .used);
-        frontier = entries;
-        processed = ap (map decode) (after-same (p .only) (9 * n) (c .processed) (le-refl (9 * n))) ∙ done;
+        frontier = p .entries ∙ ap (λ (l : List ℕ). l ++ wordsOf mark f) waiting ∙ sym (ap (λ (l : List Edge). map (entryOf processed) l) all ∙ fresh-words fresh);
         faces = wrote lent (s .faces) (sym (h .faces-count)) (h .faces);
       }
 
-module _ (n : ℕ) (c : Counts) (w w1 w2 slice back : List ℕ) (a b k r : ℕ) (ready : Ready n c w) (wrote : Wrote (c .faces) (face a b k) slice back) (p : Pushed n (c .frontier) (c .processed) (edgesOf (face a b k)) w1 w2 r) where
-  pub pivot-takes : Marked n (k ∷ []) w w1 → Takes n (met (edge a b) (some k)) c w slice (record { faces = c .faces + 1; seeds = c .seeds; frontier = r; processed = c .processed; looks = c .looks; pivots = c .pivots }) w2 back
-  unfolding met
-  pivot-takes m = face-takes n c w w1 w2 slice back false (k ∷ []) (face a b k) (c .seeds) r ready wrote m p (omega arith)
+-- only the used points' flags and the entries change
+pub face-only : (n count : ℕ) (ks words w w1 w2 : List ℕ) → Marked n ks w w1 → Pushed n count words w1 w2 → OnlyIn (5 * n) (9 * n) w w2
+face-only n count ks words w w1 w2 m p = only-both (only-wider (5 * n) (9 * n) (omega arith) (omega arith) (m .only)) (only-wider (5 * n) (9 * n) (omega arith) (omega arith) (p .only))
 
-  pub seed-takes : Marked n (a ∷ b ∷ k ∷ []) w w1 → Takes n (seeded (a, b, k)) c w slice (record { faces = c .faces + 1; seeds = c .seeds + 1; frontier = r; processed = c .processed; looks = c .looks; pivots = c .pivots }) w2 back
-  unfolding seeded
-  seed-takes m = face-takes n c w w1 w2 slice back true (a ∷ b ∷ k ∷ []) (face a b k) (c .seeds + 1) r ready wrote m p refl
+module _ (n : ℕ) (c : Counts) (w w1 w2 slice back : List ℕ) (a b k : ℕ) (wrote : Wrote (c .faces) (face a b k) slice back) where
+  pub pivot-takes : Marked n (k ∷ []) w w1 → Pushed n (c .frontier) (wordsOf flag (face a b k)) w1 w2
+      → Takes n (Open (edge a b) k) (λ s. pivoted (edge a b) (met (edge a b) (some k) s)) c w slice (record { faces = c .faces + 1; seeds = c .seeds; frontier = c .frontier + 3; looks = c .looks; pivots = c .pivots + 1 }) w2 back
+  unfolding pivoted met withFace
+  pivot-takes m p lent s o h =
+      face-holds n c w w1 w2 slice back false (k ∷ []) (face a b k) flag (c .seeds) (c .pivots + 1) wrote m p (omega arith) lent s (s .processed ++ (edge a b ∷ [])) (suc (s .pivots)) (omega (arith, h .pivots)) (pivot-fresh (edge a b) k s o) h
+
+  pub seed-takes : Marked n (a ∷ b ∷ k ∷ []) w w1 → Pushed n (c .frontier) (wordsOf 0 (face a b k)) w1 w2
+      → Takes n NoneProcessed (seeded (a, b, k)) c w slice (record { faces = c .faces + 1; seeds = c .seeds + 1; frontier = c .frontier + 3; looks = c .looks; pivots = c .pivots }) w2 back
+  unfolding seeded withFace
+  seed-takes m p lent s none h =
+      face-holds n c w w1 w2 slice back true (a ∷ b ∷ k ∷ []) (face a b k) 0 (c .seeds + 1) (c .pivots) wrote m p refl lent s (s .processed) (s .pivots) (h .pivots) (seed-fresh s (face a b k) none) h
 
 -- ---- what the code asks, of a state between two looks
 pub ready : (n : ℕ) (lent : List ℕ) (s : State) (c : Counts) (w slice : List ℕ) → Sized n w → Holds n lent s c w slice → Fits n s → Ready n c w
@@ -231,7 +207,6 @@ ready n lent s c w slice sized h fits = record {
   faces = omega (arith, h .faces-count, fits .faces);
   seeds = omega (arith, h .seeds-count, fits .faces);
   frontier = omega (arith, h .frontier-count, fits .frontier);
-  processed = omega (arith, h .processed-count, fits .processed);
   looks = omega (arith, h .looks, fits .looks);
   pivots = omega (arith, h .pivots, fits .pivots);
 }

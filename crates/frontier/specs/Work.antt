@@ -1,48 +1,46 @@
 -- What the lent slices and the counts hold of a state of the laying, and what each part of a step asks and changes. Definitions only.
 use Prim.Native.Nat.{ℕ, _+_, _-_, _*_, _≤_, _<_}
 use mathlib.Core.Path.{_≡_}
+use mathlib.Core.Logic.{_≢_}
+use mathlib.Core.Bool.{Bool, false}
 use mathlib.Core.List.{List, [], _∷_, _++_, map}
 use lib.ListN.{length, getD, take, drop}
-use Rattle.regions.specs.Regions.{usedAt, frontierAt, processedAt}
-use Rattle.patch.specs.Lay.{Edge, Face, State, seedsOf, push, marked, popped, cleared, blank}
-use Rattle.patch.specs.Frontier.{noEdge, afterPop, heapOf}
-use Rattle.patch.specs.View.{decode, written}
+use Rattle.regions.specs.Regions.{usedAt, frontierAt, frontierEnd}
+use Rattle.patch.specs.Count.{bit, any}
+use Rattle.patch.specs.Lay.{Edge, edge, same, Face, State, seedsOf, marked, popped, cleared, pivoted, blank}
+use Rattle.patch.specs.Frontier.{afterPop, heapOf}
+use Rattle.patch.specs.View.{encode, written}
 use Rattle.frontier.specs.declared.Counts.{Counts}
 
 -- ---- the lists in the work slice w, for n points
 abbrev pub usedIn : ℕ → List ℕ → List ℕ
 usedIn n w = take n (drop (usedAt n) w)
 
-abbrev pub frontierIn : ℕ → ℕ → List ℕ → List Edge
-frontierIn n count w = map decode (take count (drop (frontierAt n) w))
+abbrev pub entriesIn : ℕ → ℕ → List ℕ → List ℕ
+entriesIn n count w = take count (drop (frontierAt n) w)
 
-abbrev pub processedIn : ℕ → ℕ → List ℕ → List Edge
-processedIn n count w = map decode (take count (drop (processedAt n) w))
+-- what the word of an entry has above its edge, if the edge is processed: an edge's number is less, its points being below 4096
+abbrev pub flag : ℕ
+flag = 16777216
 
--- where the processed edges end
-abbrev pub processedEnd : ℕ → ℕ
-processedEnd n = processedAt n + 2 * n
+-- the word of an entry
+abbrev pub entryOf : List Edge → Edge → ℕ
+entryOf processed e = encode e + bit (any (same e) processed) * flag
 
 -- a state s, held by counts, work slice and face slice; `lent` is the face slice as it was lent
 pub record Holds (n : ℕ) (lent : List ℕ) (s : State) (c : Counts) (w slice : List ℕ) : Type 0 where
   pub faces-count : c .faces ≡ length (s .faces)
   pub seeds-count : c .seeds ≡ seedsOf s
   pub frontier-count : c .frontier ≡ length (s .frontier)
-  pub processed-count : c .processed ≡ length (s .processed)
   pub looks : c .looks ≡ s .looks
   pub pivots : c .pivots ≡ s .pivots
   pub used : usedIn n w ≡ s .used
-  pub frontier : frontierIn n (c .frontier) w ≡ s .frontier
-  pub processed : processedIn n (c .processed) w ≡ s .processed
+  pub frontier : entriesIn n (c .frontier) w ≡ map (entryOf (s .processed)) (s .frontier)
   pub faces : slice ≡ written (s .faces) lent
 
--- a function that turns c, w and slice into r, u and back takes the step
-abbrev pub Takes : ℕ → (State → State) → Counts → List ℕ → List ℕ → Counts → List ℕ → List ℕ → Type 0
-Takes n step c w slice r u back = (lent : List ℕ) (s : State) → Holds n lent s c w slice → Holds n lent (step s) r u back
-
--- so does one that leaves the face slice alone
-abbrev pub TakesAside : ℕ → (State → State) → Counts → List ℕ → Counts → List ℕ → Type 0
-TakesAside n step c w r u = (slice : List ℕ) → Takes n step c w slice r u slice
+-- a function that turns c, w and slice into r, u and back takes the step, from each held state of which `asked` holds
+abbrev pub Takes : ℕ → (State → Type 0) → (State → State) → Counts → List ℕ → List ℕ → Counts → List ℕ → List ℕ → Type 0
+Takes n asked step c w slice r u back = (lent : List ℕ) (s : State) → asked s → Holds n lent s c w slice → Holds n lent (step s) r u back
 
 -- the laying begins, with any face slice
 abbrev pub Begins : ℕ → Counts → List ℕ → Type 0
@@ -50,14 +48,41 @@ Begins n r u = (lent : List ℕ) → Holds n lent (blank n) r u lent
 
 -- the step that begins a radius changes the counts alone
 abbrev pub Clears : Counts → Counts → Type 0
-Clears c r = (n : ℕ) (w : List ℕ) → TakesAside n cleared c w r w
+Clears c r = (n : ℕ) (w slice lent : List ℕ) (s : State) → Holds n lent s c w slice → Holds n lent (cleared s) r w slice
 
 -- an entry comes out as the order of popping says
 abbrev pub Pops : ℕ → Counts → List ℕ → ℕ → Counts → List ℕ → Type 0
 Pops n c w entry r u = (lent slice : List ℕ) (s : State) (x : Edge) (xs : List Edge) → Holds n lent s c w slice → s .frontier ≡ x ∷ xs
-    → (decode entry ≡ heapOf x xs .0) × Holds n lent (popped (heapOf x xs .1) s) r u slice
+    → (entry ≡ entryOf (s .processed) (heapOf x xs .0)) × Holds n lent (popped (heapOf x xs .1) s) r u slice
 
--- ---- what is asked
+-- r tells of an entry's word whether its edge is processed
+abbrev pub Tells : ℕ → Bool → Type 0
+Tells entry r = (processed : List Edge) (e : Edge) → e .v1 < 4096 → e .v2 < 4096 → entry ≡ entryOf processed e → r ≡ any (same e) processed
+
+-- ---- what is asked of a state, so that the flags stay right
+
+-- the edge e is not processed, and no entry of it waits
+pub record Alone (e : Edge) (s : State) : Type 0 where
+  pub unprocessed : any (same e) (s .processed) ≡ false
+  pub none-waits : any (same e) (s .frontier) ≡ false
+
+-- nor are the edges processed that join it to the point k
+pub record Open (e : Edge) (k : ℕ) (s : State) : Type 0 where
+  pub alone : Alone e s
+  pub not-first : k ≢ e .v1
+  pub not-second : k ≢ e .v2
+  pub second : any (same (edge (e .v2) k)) (s .processed) ≡ false
+  pub third : any (same (edge k (e .v1))) (s .processed) ≡ false
+
+-- at the beginning of a radius
+abbrev pub NoneProcessed : State → Type 0
+NoneProcessed s = s .processed ≡ []
+
+-- the step that ends a pivot which met no point changes the counts alone
+abbrev pub Misses : Counts → Counts → Type 0
+Misses c r = (n : ℕ) (w slice lent : List ℕ) (e : Edge) (s : State) → Alone e s → Holds n lent s c w slice → Holds n lent (pivoted e s) r w slice
+
+-- ---- what is asked of the counts and the slices
 pub record Sized (n : ℕ) (w : List ℕ) : Type 0 where
   pub some : 0 < n
   pub few : n ≤ 4096
@@ -68,7 +93,6 @@ pub record Ready (n : ℕ) (c : Counts) (w : List ℕ) : Type 0 where
   pub faces : c .faces ≤ n
   pub seeds : c .seeds ≤ n
   pub frontier : c .frontier ≤ 3 * n
-  pub processed : c .processed ≤ 2 * n
   pub looks : c .looks ≤ 3 * n
   pub pivots : c .pivots ≤ 2 * n
 
@@ -89,14 +113,17 @@ pub record OnlyIn (lo hi : ℕ) (w u : List ℕ) : Type 0 where
   pub length-same : length u ≡ length w
 
 pub record Taken (n count : ℕ) (w u : List ℕ) (entry : ℕ) : Type 0 where
-  pub first : decode entry ≡ getD (frontierIn n count w) 0 noEdge
-  pub rest : frontierIn n (count - 1) u ≡ afterPop noEdge (frontierIn n count w)
-  pub only : OnlyIn (frontierAt n) (processedAt n) w u
+  pub first : entry ≡ getD (entriesIn n count w) 0 0
+  pub rest : entriesIn n (count - 1) u ≡ afterPop 0 (entriesIn n count w)
+  pub only : OnlyIn (frontierAt n) (frontierEnd n) w u
 
-pub record Pushed (n count done : ℕ) (es : List Edge) (w u : List ℕ) (r : ℕ) : Type 0 where
-  pub entries : frontierIn n r u ≡ push (processedIn n done w) (frontierIn n count w) es
-  pub most : r ≤ count + length es
-  pub only : OnlyIn (frontierAt n) (processedAt n) w u
+pub record Pushed (n count : ℕ) (words w u : List ℕ) : Type 0 where
+  pub entries : entriesIn n (count + length words) u ≡ entriesIn n count w ++ words
+  pub only : OnlyIn (frontierAt n) (frontierEnd n) w u
+
+-- the words of a face's edges, in the order in which they are pushed, `mark` being above the first
+abbrev pub wordsOf : ℕ → Face → List ℕ
+wordsOf mark f = (encode (edge (f .a) (f .b)) + mark) ∷ (encode (edge (f .b) (f .c)) + 0) ∷ (encode (edge (f .c) (f .a)) + 0) ∷ []
 
 pub record Marked (n : ℕ) (ks w u : List ℕ) : Type 0 where
   pub flags : usedIn n u ≡ marked (usedIn n w) ks
@@ -105,7 +132,3 @@ pub record Marked (n : ℕ) (ks w u : List ℕ) : Type 0 where
 -- the face f goes behind `count` faces
 abbrev pub Wrote : ℕ → Face → List ℕ → List ℕ → Type 0
 Wrote count f slice back = (lent : List ℕ) (fs : List Face) → length fs ≡ count → slice ≡ written fs lent → back ≡ written (fs ++ (f ∷ [])) lent
-
-pub record Added (n count entry : ℕ) (w u : List ℕ) : Type 0 where
-  pub edges : processedIn n (count + 1) u ≡ processedIn n count w ++ (decode entry ∷ [])
-  pub only : OnlyIn (processedAt n) (processedEnd n) w u

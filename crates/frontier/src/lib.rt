@@ -1,24 +1,21 @@
-// The frontier, the processed edges and the used points in the lent work slice, and the faces in the lent face slice: the parts of a step of the laying.
+// The frontier and the used points in the lent work slice, and the faces in the lent face slice: the parts of a step of the laying.
 mod heap;
-mod scan;
 
 ghost use mathlib.Core.Path.{_≡_};
 ghost use mathlib.Core.Option.{some};
 ghost use mathlib.Core.List.{[], _∷_};
-ghost use lib.ListN.{replicate, take};
+ghost use lib.ListN.{replicate};
 ghost use Prim.Native.Nat.{_+_, _*_, _≤_, _<_};
-ghost use Rattle.regions.specs.Regions.{usedAt, frontierAt};
-ghost use Rattle.patch.specs.Count.{any};
-ghost use Rattle.patch.specs.Lay.{same, edge, face, edgesOf, met, seeded, pivoted};
-ghost use Rattle.patch.specs.View.{decode};
-ghost use Rattle.frontier.specs.Work.{usedIn, processedIn, Takes, TakesAside, Begins, Clears, Pops, Sized, Ready, Room, OnlyIn, Taken, Pushed, Marked, Wrote, Added};
+ghost use Rattle.regions.specs.Regions.{usedAt, frontierAt, frontierEnd};
+ghost use Rattle.patch.specs.Lay.{edge, face, met, seeded, pivoted};
+ghost use Rattle.patch.specs.View.{encode};
+ghost use Rattle.frontier.specs.Work.{usedIn, flag, wordsOf, Takes, Begins, Clears, Pops, Tells, Open, NoneProcessed, Misses, Sized, Ready, Room, OnlyIn, Taken, Pushed, Marked, Wrote};
 
-// How many faces, seeds, looks and pivots there were, how many entries wait and how many edges are processed.
+// How many faces, seeds, looks and pivots there were, and how many entries wait.
 pub struct Counts {
     pub faces: usize,
     pub seeds: u32,
     pub frontier: usize,
-    pub processed: usize,
     pub looks: u32,
     pub pivots: u32,
 }
@@ -53,7 +50,6 @@ pub fn begin(w: &mut [u32], n: usize) -> Counts
         faces: 0,
         seeds: 0,
         frontier: 0,
-        processed: 0,
         looks: 0,
         pivots: 0,
     }
@@ -65,7 +61,6 @@ pub fn clear(c: Counts) -> Counts
 {
     let mut r = c;
     r.frontier = 0;
-    r.processed = 0;
     r
 }
 
@@ -82,7 +77,7 @@ fn pop_frontier(w: &mut [u32], n: usize, count: usize) -> u32
 pub fn pop(w: &mut [u32], n: usize, c: Counts) -> Popped
     requires { ⌜ Ready n c (now w) × (0 < c .frontier) ⌝ }
     ensures { λ r. ⌜ Pops n c (now (w .entry)) (r .entry) (r .counts) (now (w .exit)) ⌝ }
-    ensures { λ _. ⌜ take (usedAt n) (now (w .exit)) ≡ take (usedAt n) (now (w .entry)) ⌝ }
+    ensures { λ _. ⌜ OnlyIn (usedAt n) (frontierEnd n) (now (w .entry)) (now (w .exit)) ⌝ }
 {
     let count = c.frontier;
     let entry = pop_frontier(w, n, count);
@@ -95,43 +90,38 @@ pub fn pop(w: &mut [u32], n: usize, c: Counts) -> Popped
     }
 }
 
-// Whether the edge a, b is among the `count` processed ones, direction aside.
-pub fn is_processed(w: &[u32], n: usize, count: usize, a: u32, b: u32) -> bool
-    requires { ⌜ Sized n (now w) × (count ≤ 2 * n) ⌝ }
-    ensures { λ r. ⌜ r ≡ any (same (edge a b)) (processedIn n count (now (w .entry))) ⌝ }
+// Whether the edge of an entry is processed.
+pub fn is_processed(entry: u32) -> bool
+    ensures { λ r. ⌜ Tells entry r ⌝ }
 {
-    scan::has_edge(w, 9 * n, count, a, b)
+    16777216 <= entry
 }
 
-// The edge a, b goes to the end of the `count` entries that wait, unless it is among the `done` processed ones. Answers how many wait then.
-fn push_edge(w: &mut [u32], n: usize, count: usize, done: usize, a: u32, b: u32) -> usize
-    requires { ⌜ Sized n (now w) × (count + 1 ≤ 3 * n) × (done ≤ 2 * n) × (a < 4096) × (b < 4096) ⌝ }
-    ensures { λ r. ⌜ Pushed n count done (edge a b ∷ []) (now (w .entry)) (now (w .exit)) r ⌝ }
+// The edge a, b goes to the end of the `count` entries that wait, with `mark` above it.
+fn push_edge(w: &mut [u32], n: usize, count: usize, mark: u32, a: u32, b: u32)
+    requires { ⌜ Sized n (now w) × (count + 1 ≤ 3 * n) × (mark ≤ flag) × (a < 4096) × (b < 4096) ⌝ }
+    ensures { λ _. ⌜ Pushed n count ((encode (edge a b) + mark) ∷ []) (now (w .entry)) (now (w .exit)) ⌝ }
 {
-    if is_processed(w, n, done, a, b) {
-        return count;
-    }
     let i = 6 * n + count;
-    w[i] = a * 4096 + b;
-    count + 1
+    w[i] = a * 4096 + b + mark;
 }
 
-// The three edges of the face a, b, k.
+// The three edges of the face a, b, k; `mark` tells whether the first is processed.
 pub fn add_triangle_edges_to_frontier(
     w: &mut [u32],
     n: usize,
     count: usize,
-    done: usize,
+    mark: u32,
     a: u32,
     b: u32,
     k: u32,
-) -> usize
-    requires { ⌜ Sized n (now w) × (count + 3 ≤ 3 * n) × (done ≤ 2 * n) × (a < 4096) × (b < 4096) × (k < 4096) ⌝ }
-    ensures { λ r. ⌜ Pushed n count done (edgesOf (face a b k)) (now (w .entry)) (now (w .exit)) r ⌝ }
+)
+    requires { ⌜ Sized n (now w) × (count + 3 ≤ 3 * n) × (mark ≤ flag) × (a < 4096) × (b < 4096) × (k < 4096) ⌝ }
+    ensures { λ _. ⌜ Pushed n count (wordsOf mark (face a b k)) (now (w .entry)) (now (w .exit)) ⌝ }
 {
-    let one = push_edge(w, n, count, done, a, b);
-    let two = push_edge(w, n, one, done, b, k);
-    push_edge(w, n, two, done, k, a)
+    push_edge(w, n, count, mark, a, b);
+    push_edge(w, n, count + 1, 0, b, k);
+    push_edge(w, n, count + 2, 0, k, a);
 }
 
 // Point k is used from now on.
@@ -153,25 +143,12 @@ fn mark_seed(w: &mut [u32], n: usize, a: u32, b: u32, c: u32)
     mark_used(w, n, c);
 }
 
-// The entry goes to the end of the `count` processed edges.
-fn add_processed(w: &mut [u32], n: usize, count: usize, entry: u32)
-    requires { ⌜ Sized n (now w) × (count < 2 * n) ⌝ }
-    ensures { λ _. ⌜ Added n count entry (now (w .entry)) (now (w .exit)) ⌝ }
+// A pivot is over that met no point.
+pub fn miss(c: Counts) -> Counts
+    requires { ⌜ c .pivots ≤ 8192 ⌝ }
+    ensures { λ r. ⌜ Misses c r ⌝ }
 {
-    let i = 9 * n + count;
-    w[i] = entry;
-}
-
-// A pivot is over: its edge is processed from now on.
-pub fn mark_processed(w: &mut [u32], n: usize, c: Counts, entry: u32) -> Counts
-    requires { ⌜ Ready n c (now w) × (c .processed < 2 * n) ⌝ }
-    ensures { λ r. ⌜ TakesAside n (pivoted (decode entry)) c (now (w .entry)) r (now (w .exit)) ⌝ }
-    ensures { λ _. ⌜ take (usedAt n) (now (w .exit)) ≡ take (usedAt n) (now (w .entry)) ⌝ }
-{
-    let count = c.processed;
-    add_processed(w, n, count, entry);
     let mut r = c;
-    r.processed = count + 1;
     r.pivots = c.pivots + 1;
     r
 }
@@ -189,7 +166,7 @@ pub fn put_face(faces: &mut [u32], count: usize, a: u32, b: u32, k: u32)
     }
 }
 
-// The ball met the point k over the edge a, b: the face is laid.
+// The ball met the point k over the edge a, b: the face is laid, and from now on its first edge is processed.
 pub fn lay_pivot(
     faces: &mut [u32],
     w: &mut [u32],
@@ -200,16 +177,18 @@ pub fn lay_pivot(
     k: u32,
 ) -> Counts
     requires { ⌜ Room n c (now w) a b k ⌝ }
-    ensures { λ r. ⌜ Takes n (met (edge a b) (some k)) c (now (w .entry)) (now (faces .entry)) r (now (w .exit)) (now (faces .exit)) ⌝ }
-    ensures { λ _. ⌜ take (usedAt n) (now (w .exit)) ≡ take (usedAt n) (now (w .entry)) ⌝ }
+    ensures { λ r. ⌜ Takes n (Open (edge a b) k) (λ s. pivoted (edge a b) (met (edge a b) (some k) s)) c (now (w .entry)) (now (faces .entry)) r (now (w .exit)) (now (faces .exit)) ⌝ }
+    ensures { λ _. ⌜ OnlyIn (usedAt n) (frontierEnd n) (now (w .entry)) (now (w .exit)) ⌝ }
 {
     let count = c.faces;
+    let waiting = c.frontier;
     put_face(faces, count, a, b, k);
     mark_used(w, n, k);
-    let waiting = add_triangle_edges_to_frontier(w, n, c.frontier, c.processed, a, b, k);
+    add_triangle_edges_to_frontier(w, n, waiting, 16777216, a, b, k);
     let mut r = c;
     r.faces = count + 1;
-    r.frontier = waiting;
+    r.frontier = waiting + 3;
+    r.pivots = c.pivots + 1;
     r
 }
 
@@ -224,16 +203,17 @@ pub fn lay_seed(
     k: u32,
 ) -> Counts
     requires { ⌜ Room n c (now w) i j k ⌝ }
-    ensures { λ r. ⌜ Takes n (seeded (i, j, k)) c (now (w .entry)) (now (faces .entry)) r (now (w .exit)) (now (faces .exit)) ⌝ }
-    ensures { λ _. ⌜ take (usedAt n) (now (w .exit)) ≡ take (usedAt n) (now (w .entry)) ⌝ }
+    ensures { λ r. ⌜ Takes n NoneProcessed (seeded (i, j, k)) c (now (w .entry)) (now (faces .entry)) r (now (w .exit)) (now (faces .exit)) ⌝ }
+    ensures { λ _. ⌜ OnlyIn (usedAt n) (frontierEnd n) (now (w .entry)) (now (w .exit)) ⌝ }
 {
     let count = c.faces;
+    let waiting = c.frontier;
     put_face(faces, count, i, j, k);
     mark_seed(w, n, i, j, k);
-    let waiting = add_triangle_edges_to_frontier(w, n, c.frontier, c.processed, i, j, k);
+    add_triangle_edges_to_frontier(w, n, waiting, 0, i, j, k);
     let mut r = c;
     r.faces = count + 1;
     r.seeds = c.seeds + 1;
-    r.frontier = waiting;
+    r.frontier = waiting + 3;
     r
 }

@@ -1,15 +1,13 @@
 -- What survives a change of the work slice, and what is read off the answers of the searches. Assumes nothing.
 use Prim.Native.Nat.{ℕ, _*_, _≤_, _<_}
-use mathlib.Core.Path.{_≡_, refl, sym, ap, _∙_}
-use mathlib.Core.List.{List, [], _∷_, map}
+use mathlib.Core.Path.{_≡_, refl, ap, _∙_}
+use mathlib.Core.List.{List, [], _∷_}
 use mathlib.Core.Option.{Option, none, some}
 use native.Mathlib.Omega.{arith}
 use lib.ListN.{length, take}
-use lib.Seq.{take-take}
 use lib.Ieee.{Float}
 use Rattle.grid.proofs.Near.{indexed-kept}
 use Rattle.patch.specs.Lay.{Edge, State}
-use Rattle.patch.specs.View.{decode}
 use Rattle.decisions.specs.declared.Scene.{Scene}
 use Rattle.search.specs.declared.Seed.{Seed}
 use Rattle.search.specs.declared.Seed.the-variants.{Triangle, Nothing}
@@ -18,14 +16,8 @@ use Rattle.search.specs.declared.Pivot.the-variants.{To, Nowhere}
 use Rattle.search.specs.Ready.{Kept, seedFound, pivotFound}
 use Rattle.frontier.specs.declared.Counts.{Counts}
 use Rattle.frontier.specs.Work.{Holds, Sized, OnlyIn}
-use Rattle.frontier.proofs.Slices.{after-same}
+use Rattle.frontier.proofs.Slices.{after-same, only-wider}
 use Rattle.laying.specs.Laying.{Ground}
-
--- the words of the index lie before those of the used points
-pub index-same : (n : ℕ) (w u : List ℕ) → take (5 * n) u ≡ take (5 * n) w → take (4 * n) u ≡ take (4 * n) w
-index-same n w u e =
-    let h : 4 * n ≤ 5 * n = omega arith in
-    sym (take-take (4 * n) (5 * n) u h) ∙ ap (λ (l : List ℕ). take (4 * n) l) e ∙ take-take (4 * n) (5 * n) w h
 
 pub ground-kept : {s : Scene} {pts : List Float} {w : List ℕ} (u : List ℕ) → Ground s pts w → length u ≡ length w → take (4 * s .n) u ≡ take (4 * s .n) w → Ground s pts u
 ground-kept u g l e = record {
@@ -34,25 +26,35 @@ ground-kept u g l e = record {
   indexed = indexed-kept u (g .indexed) l e;
 }
 
+pub ground-only : {s : Scene} {pts : List Float} {w : List ℕ} (u : List ℕ) → Ground s pts w → OnlyIn (4 * s .n) (9 * s .n) w u → Ground s pts u
+ground-only u g o = ground-kept u g (o .length-same) (o .before)
+
 pub sized : {s : Scene} {pts : List Float} {w : List ℕ} → Ground s pts w → Sized (s .n) w
 sized g = record { some = g .some; few = g .held .few; long = g .held .work-long }
 
--- a search leaves the state that is held
-pub holds-kept : {s : Scene} {lent : List ℕ} {t : State} {c : Counts} {w slice : List ℕ} (u : List ℕ) → Kept s w u → length u ≡ length w → Holds (s .n) lent t c w slice → Holds (s .n) lent t c u slice
-holds-kept {s} {lent} {t} {c} {w} {slice} u k l h =
-    let only : OnlyIn (4 * s .n) (5 * s .n) w u = record { before = k .before; after = k .after; length-same = l } in
-    record {
-      faces-count = h .faces-count;
-      seeds-count = h .seeds-count;
-      frontier-count = h .frontier-count;
-      processed-count = h .processed-count;
-      looks = h .looks;
-      pivots = h .pivots;
-      used = ap (λ (x : List ℕ). take (s .n) x) (k .after) ∙ h .used;
-      frontier = ap (map decode) (after-same only (6 * s .n) (c .frontier) (omega arith)) ∙ h .frontier;
-      processed = ap (map decode) (after-same only (9 * s .n) (c .processed) (omega arith)) ∙ h .processed;
-      faces = h .faces;
-    }
+-- what the parts of a step change
+pub step-only : (n : ℕ) {w u : List ℕ} → OnlyIn (5 * n) (9 * n) w u → OnlyIn (4 * n) (9 * n) w u
+step-only n o = only-wider (4 * n) (9 * n) (omega arith) (omega arith) o
+
+-- a search changes nothing but the list of neighbours, and so leaves the state that is held
+module _ {s : Scene} {w : List ℕ} (u : List ℕ) (k : Kept s w u) (l : length u ≡ length w) where
+  neighbors-only : OnlyIn (4 * s .n) (5 * s .n) w u
+  neighbors-only = record { before = k .before; after = k .after; length-same = l }
+
+  pub search-only : OnlyIn (4 * s .n) (9 * s .n) w u
+  search-only = only-wider (4 * s .n) (9 * s .n) (omega arith) (omega arith) neighbors-only
+
+  pub holds-kept : {lent : List ℕ} {t : State} {c : Counts} {slice : List ℕ} → Holds (s .n) lent t c w slice → Holds (s .n) lent t c u slice
+  holds-kept {lent} {t} {c} {slice} h = record {
+    faces-count = h .faces-count;
+    seeds-count = h .seeds-count;
+    frontier-count = h .frontier-count;
+    looks = h .looks;
+    pivots = h .pivots;
+    used = ap (λ (x : List ℕ). take (s .n) x) (k .after) ∙ h .used;
+    frontier = after-same neighbors-only (6 * s .n) (c .frontier) (omega arith) ∙ h .frontier;
+    faces = h .faces;
+  }
 
 -- a list that is not empty
 pub record Waiting (l : List Edge) : Type 0 where

@@ -9,18 +9,20 @@ use lib.Seq.{take-suc}
 use lib.Ieee.{Float}
 use Rattle.patch.specs.Lay.{State, Rules, Pop, cleared, seeded, run, begun, layOne, layAll, patch, blank, FreeSeed}
 use Rattle.patch.specs.Frontier.{heapOf}
+use Rattle.patch.proofs.Inv.{Inv}
 use Rattle.patch.proofs.Looks.{clear-inv, seed-inv}
-use Rattle.patch.proofs.Laying.{room, layAll-rest, blank-rest}
+use Rattle.patch.proofs.Laying.{Rest, room, layAll-rest, blank-rest}
 use Rattle.patch.proofs.Pops.{heapOf-keeps}
 use Rattle.decisions.specs.declared.Scene.{Scene}
 use Rattle.search.specs.declared.Seed.{Seed}
 use Rattle.search.specs.declared.Seed.the-variants.{Triangle, Nothing}
 use Rattle.search.specs.Ready.{Kept, usedIn, seedFound}
 use Rattle.frontier.specs.declared.Counts.{Counts}
-use Rattle.frontier.specs.Work.{Holds, Takes, Clears, Begins, Room}
+use Rattle.frontier.specs.Work.{Holds, Takes, Begins, Clears, NoneProcessed, Room, OnlyIn}
+use Rattle.frontier.proofs.Slices.{only-wider, only-both}
 use Rattle.frontier.proofs.Work.{ready}
 use Rattle.laying.specs.Laying.{Ground, rulesOf, Lays, Standing, Resting}
-use Rattle.laying.proofs.Kept.{index-same, ground-kept, sized, holds-kept, seedIn, seedIn-found}
+use Rattle.laying.proofs.Kept.{ground-only, sized, step-only, search-only, holds-kept, seedIn, seedIn-found}
 use Rattle.laying.proofs.Pivots.{fair}
 
 -- ---- one radius
@@ -38,19 +40,26 @@ module _ {s : Scene} {pts : List Float} (r : Float) {c : Counts} {w slice : List
       ap (λ (used : List ℕ). rulesOf s pts .seedOf r used) (sym (h .used))
       ∙ sym (seedIn-found (rulesOf s pts .seedOf r (usedIn s w))) ∙ ap seedIn (sym is ∙ f) ∙ seedIn-found o
 
-  pub no-seed : found ≡ Nothing → Lays (s .n) (layOne (rulesOf s pts) heapOf (s .n) r) c w slice blank-counts u slice
+  pub no-seed : found ≡ Nothing → Lays (s .n) (Rest (s .n)) (layOne (rulesOf s pts) heapOf (s .n) r) c w slice blank-counts u slice
   unfolding layOne begun
   no-seed f = record {
-    takes = λ lent t h. subst (λ (o : Option (ℕ × ℕ × ℕ)). Holds (s .n) lent (begun (rulesOf s pts) heapOf r (s .n) o (cleared t)) blank-counts u slice) (sym (seed-is lent t none h f)) (begun-holds lent t h);
-    index = kept .before;
+    takes = λ lent t rest h. subst (λ (o : Option (ℕ × ℕ × ℕ)). Holds (s .n) lent (begun (rulesOf s pts) heapOf r (s .n) o (cleared t)) blank-counts u slice) (sym (seed-is lent t none h f)) (begun-holds lent t h);
+    only = search-only u kept long;
   }
 
   module _ {i j k : ℕ} (f : found ≡ Triangle i j k) where
+    free-found : (lent : List ℕ) (t : State) → Holds (s .n) lent t c w slice → FreeSeed (s .n) (t .used) (i, j, k)
+    free-found lent t h = fair s pts .seeds r (t .used) (i, j, k) (seed-is lent t (some (i, j, k)) h f)
+
     pub free-seed : FreeSeed (s .n) (state .used) (i, j, k)
-    free-seed = fair s pts .seeds r (state .used) (i, j, k) (seed-is (st .lent) state (some (i, j, k)) (st .holds) f)
+    free-seed = free-found (st .lent) state (st .holds)
+
+    none-processed : (t : State) → NoneProcessed (cleared t)
+    unfolding cleared
+    none-processed t = refl
 
     ground : Ground s pts u
-    ground = ground-kept u (st .ground) long (kept .before)
+    ground = ground-only u (st .ground) (search-only u kept long)
 
     no-entry : length (cleared state .frontier) ≡ 0
     unfolding cleared
@@ -68,23 +77,26 @@ module _ {s : Scene} {pts : List Float} (r : Float) {c : Counts} {w slice : List
         }
 
     -- the seed was laid
-    module _ {after : Counts} {v back : List ℕ} (takes : Takes (s .n) (seeded (i, j, k)) blank-counts u slice after v back) (same-words : take (5 * s .n) v ≡ take (5 * s .n) u) where
-      pub seed-standing : length v ≡ length u → Standing s pts after v back
-      seed-standing longer = record {
-        ground = ground-kept v ground longer (index-same (s .n) u v same-words);
+    module _ {after : Counts} {v back : List ℕ} (takes : Takes (s .n) NoneProcessed (seeded (i, j, k)) blank-counts u slice after v back) (only : OnlyIn (5 * s .n) (9 * s .n) u v) where
+      seed-holds : (lent : List ℕ) (t : State) → Holds (s .n) lent t c w slice → Holds (s .n) lent (seeded (i, j, k) (cleared t)) after v back
+      seed-holds lent t h = takes lent (cleared t) (none-processed t) (begun-holds lent t h)
+
+      pub seed-standing : Standing s pts after v back
+      seed-standing = record {
+        ground = ground-only v ground (step-only (s .n) only);
         lent = st .lent;
         state = seeded (i, j, k) (cleared state);
         inv = seed-inv (s .n) state (st .rest .inv) (st .rest .idle) (i, j, k) free-seed;
-        holds = takes (st .lent) (cleared state) (begun-holds (st .lent) state (st .holds));
+        holds = seed-holds (st .lent) state (st .holds);
       }
 
-      pub seed-laid : {end : Counts} {z front : List ℕ} → Lays (s .n) (run (rulesOf s pts) heapOf r (3 * s .n)) after v back end z front → Lays (s .n) (layOne (rulesOf s pts) heapOf (s .n) r) c w slice end z front
+      pub seed-laid : {end : Counts} {z front : List ℕ} → Lays (s .n) (Inv (s .n)) (run (rulesOf s pts) heapOf r (3 * s .n)) after v back end z front → Lays (s .n) (Rest (s .n)) (layOne (rulesOf s pts) heapOf (s .n) r) c w slice end z front
       unfolding layOne begun
       seed-laid {end} {z} {front} lays = record {
-        takes = λ lent t h.
+        takes = λ lent t rest h.
             subst (λ (o : Option (ℕ × ℕ × ℕ)). Holds (s .n) lent (begun (rulesOf s pts) heapOf r (s .n) o (cleared t)) end z front) (sym (seed-is lent t (some (i, j, k)) h f))
-            (lays .takes lent (seeded (i, j, k) (cleared t)) (takes lent (cleared t) (begun-holds lent t h)));
-        index = lays .index ∙ index-same (s .n) u v same-words ∙ kept .before;
+            (lays .takes lent (seeded (i, j, k) (cleared t)) (seed-inv (s .n) t (rest .inv) (rest .idle) (i, j, k) (free-found lent t h)) (seed-holds lent t h));
+        only = only-both (search-only u kept long) (only-both (step-only (s .n) only) (lays .only));
       }
 
 -- ---- all radii
@@ -102,38 +114,41 @@ pub record Covering (s : Scene) (pts radii : List Float) (count : ℕ) (lent w�
   pub face-words : length slice ≡ length lent
 
 module _ {s : Scene} {pts radii : List Float} {count : ℕ} {lent w₀ : List ℕ} where
-  pub cover-start : {w : List ℕ} {c : Counts} → Ground s pts w → Begins (s .n) c w₀ → take (5 * s .n) w₀ ≡ take (5 * s .n) w → length w₀ ≡ length w → Covering s pts radii count lent w₀ 0 c w₀ lent
+  pub cover-start : {w : List ℕ} {c : Counts} → Ground s pts w → Begins (s .n) c w₀ → OnlyIn (5 * s .n) (6 * s .n) w w₀ → Covering s pts radii count lent w₀ 0 c w₀ lent
   unfolding layAll
-  cover-start {w} {c} g begins same-words long = record {
+  cover-start {w} {c} g begins only = record {
     inside = omega arith;
-    ground = ground-kept w₀ g long (index-same (s .n) w w₀ same-words);
+    ground = ground-only w₀ g (only-wider (4 * s .n) (9 * s .n) (omega arith) (omega arith) only);
     holds = begins lent;
     words = refl;
     face-words = refl;
   }
 
   module _ {i : ℕ} {c : Counts} {w slice : List ℕ} (so-far : Covering s pts radii count lent w₀ i c w slice) where
+    at-rest : Rest (s .n) (layAll (rulesOf s pts) heapOf (s .n) (take i radii) (blank (s .n)))
+    at-rest = layAll-rest (s .n) (rulesOf s pts) heapOf (fair s pts) heapOf-keeps (take i radii) (blank (s .n)) (blank-rest (s .n))
+
     pub resting : Resting s pts c w slice
     resting = record {
       ground = so-far .ground;
       lent = lent;
       state = layAll (rulesOf s pts) heapOf (s .n) (take i radii) (blank (s .n));
-      rest = layAll-rest (s .n) (rulesOf s pts) heapOf (fair s pts) heapOf-keeps (take i radii) (blank (s .n)) (blank-rest (s .n));
+      rest = at-rest;
       holds = so-far .holds;
     }
 
-    pub cover-step : (d : Float) {after : Counts} {v back : List ℕ} → i < count → i < length radii → Lays (s .n) (layOne (rulesOf s pts) heapOf (s .n) (getD radii i d)) c w slice after v back → length v ≡ length w → length back ≡ length slice
+    pub cover-step : (d : Float) {after : Counts} {v back : List ℕ} → i < count → i < length radii → Lays (s .n) (Rest (s .n)) (layOne (rulesOf s pts) heapOf (s .n) (getD radii i d)) c w slice after v back → length back ≡ length slice
         → Covering s pts radii count lent w₀ (i + 1) after v back
-    cover-step d {after} {v} {back} h g lays long face-long =
+    cover-step d {after} {v} {back} h g lays face-long =
         let e : i + 1 ≡ suc i = omega arith in
         let one-more : take (i + 1) radii ≡ take i radii ++ (getD radii i d ∷ []) = ap (λ (m : ℕ). take m radii) e ∙ take-suc radii i d g in
         let step : layAll (rulesOf s pts) heapOf (s .n) (take (i + 1) radii) (blank (s .n)) ≡ layOne (rulesOf s pts) heapOf (s .n) (getD radii i d) (layAll (rulesOf s pts) heapOf (s .n) (take i radii) (blank (s .n))) =
         ap (λ (rs : List Float). layAll (rulesOf s pts) heapOf (s .n) rs (blank (s .n))) one-more ∙ layAll-more (rulesOf s pts) heapOf (s .n) (take i radii) (getD radii i d) (blank (s .n)) in
         record {
           inside = omega arith;
-          ground = ground-kept v (so-far .ground) long (lays .index);
-          holds = subst (λ (t : State). Holds (s .n) lent t after v back) (sym step) (lays .takes lent (layAll (rulesOf s pts) heapOf (s .n) (take i radii) (blank (s .n))) (so-far .holds));
-          words = long ∙ so-far .words;
+          ground = ground-only v (so-far .ground) (lays .only);
+          holds = subst (λ (t : State). Holds (s .n) lent t after v back) (sym step) (lays .takes lent (layAll (rulesOf s pts) heapOf (s .n) (take i radii) (blank (s .n))) at-rest (so-far .holds));
+          words = lays .only .length-same ∙ so-far .words;
           face-words = face-long ∙ so-far .face-words;
         }
 

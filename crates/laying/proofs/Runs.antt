@@ -1,19 +1,21 @@
 -- The looks of one radius, until no entry waits. Assumes nothing.
 use Prim.Native.Nat.{ℕ, zero, suc, _+_, _-_, _*_, _≤_, _<_}
 use mathlib.Core.Path.{_≡_, refl, sym, ap, _∙_, subst}
-use mathlib.Core.List.{List, []}
+use mathlib.Core.List.{List, [], _∷_}
 use native.Mathlib.Omega.{arith}
 use lib.ListN.{length}
 use lib.Ieee.{Float}
-use Rattle.patch.specs.Lay.{State, look, next, run}
+use Rattle.patch.specs.Lay.{Edge, State, next, run}
 use Rattle.patch.specs.Frontier.{heapOf}
+use Rattle.patch.proofs.Inv.{Inv}
 use Rattle.patch.proofs.Laying.{room, run-idle}
 use Rattle.patch.proofs.Pops.{heapOf-keeps}
 use Rattle.decisions.specs.declared.Scene.{Scene}
 use Rattle.frontier.specs.declared.Counts.{Counts}
 use Rattle.frontier.specs.Work.{Holds}
+use Rattle.frontier.proofs.Slices.{only-none, only-both}
 use Rattle.laying.specs.Laying.{rulesOf, looked, Lays, Standing}
-use Rattle.laying.proofs.Kept.{ground-kept, waiting, none-waits}
+use Rattle.laying.proofs.Kept.{ground-only, waiting, none-waits}
 use Rattle.laying.proofs.Pivots.{fair, looked-looked}
 
 -- ---- the definition's run, from its end
@@ -35,6 +37,21 @@ module _ (s : Scene) (pts : List Float) (r : Float) where
   run-stop : (k m : ℕ) (t : State) → k ≤ m → ran k t .frontier ≡ [] → ran m t ≡ ran k t
   run-stop k m t h idle = run-on k (m - k) m t (omega arith) ∙ run-idle (s .n) (rulesOf s pts) heapOf (fair s pts) heapOf-keeps r (m - k) (ran k t) idle
 
+-- ---- the looks keep the invariant
+module _ (s : Scene) (pts : List Float) (r : Float) where
+  looked-inv : (t : State) → Inv (s .n) t → Inv (s .n) (looked s pts r t)
+  unfolding next
+  looked-inv t inv = go (t .frontier) refl
+    where
+      go : (l : List Edge) → t .frontier ≡ l → Inv (s .n) (looked s pts r t)
+      go [] q = subst (λ (l : List Edge). Inv (s .n) (next (rulesOf s pts) heapOf r l t)) (sym q) inv
+      go (x ∷ xs) q = looked-looked s pts r x xs t q inv .inv
+
+  run-inv : (m : ℕ) (t : State) → Inv (s .n) t → Inv (s .n) (ran s pts r m t)
+  unfolding run
+  run-inv zero t inv = inv
+  run-inv (suc m) t inv = run-inv m (looked s pts r t) (looked-inv t inv)
+
 -- ---- a look leads from one state between two looks to the next
 pub record Stepped (s : Scene) (pts : List Float) (c : Counts) (r : Counts) (u back : List ℕ) : Type 0 where
   pub standing : Standing s pts r u back
@@ -42,15 +59,15 @@ pub record Stepped (s : Scene) (pts : List Float) (c : Counts) (r : Counts) (u b
   pub few : c .looks < 3 * s .n
 
 module _ {s : Scene} {pts : List Float} (r : Float) {c : Counts} {w slice : List ℕ} (st : Standing s pts c w slice) (some-wait : 0 < c .frontier) where
-  pub stepped : {after : Counts} {u back : List ℕ} → Lays (s .n) (looked s pts r) c w slice after u back → length u ≡ length w → Stepped s pts c after u back
-  stepped {after} {u} {back} lays long =
+  pub stepped : {after : Counts} {u back : List ℕ} → Lays (s .n) (Inv (s .n)) (looked s pts r) c w slice after u back → Stepped s pts c after u back
+  stepped {after} {u} {back} lays =
       let t = st .state in
       let h = st .holds in
       let x = waiting (t .frontier) (omega (arith, h .frontier-count)) in
       let m = looked-looked s pts r (x .first) (x .others) t (x .is) (st .inv) in
-      let g = lays .takes (st .lent) t h in
+      let g = lays .takes (st .lent) t (st .inv) h in
       record {
-        standing = record { ground = ground-kept u (st .ground) long (lays .index); lent = st .lent; state = looked s pts r t; inv = m .inv; holds = g };
+        standing = record { ground = ground-only u (st .ground) (lays .only); lent = st .lent; state = looked s pts r t; inv = m .inv; holds = g };
         one-look = omega (arith, h .looks, g .looks, m .falls, m .inv .looked, st .inv .looked);
         few = omega (arith, h .looks, h .frontier-count, st .inv .looked, room (s .n) t (st .inv) .faces);
       }
@@ -59,8 +76,7 @@ module _ {s : Scene} {pts : List Float} (r : Float) {c : Counts} {w slice : List
 pub record Running (s : Scene) (pts : List Float) (r : Float) (c₀ : Counts) (w₀ slice₀ : List ℕ) (c : Counts) (w slice : List ℕ) : Type 0 where
   pub standing : Standing s pts c w slice
   pub later : c₀ .looks ≤ c .looks
-  pub lays : Lays (s .n) (run (rulesOf s pts) heapOf r (c .looks - c₀ .looks)) c₀ w₀ slice₀ c w slice
-  pub words : length w ≡ length w₀
+  pub lays : Lays (s .n) (Inv (s .n)) (run (rulesOf s pts) heapOf r (c .looks - c₀ .looks)) c₀ w₀ slice₀ c w slice
   pub face-words : length slice ≡ length slice₀
 
 module _ {s : Scene} {pts : List Float} {r : Float} {c₀ : Counts} {w₀ slice₀ : List ℕ} where
@@ -71,40 +87,38 @@ module _ {s : Scene} {pts : List Float} {r : Float} {c₀ : Counts} {w₀ slice�
       record {
         standing = st;
         later = omega arith;
-        lays = record { takes = λ lent t h. subst (λ (k : ℕ). Holds (s .n) lent (ran s pts r k t) c₀ w₀ slice₀) e h; index = refl };
-        words = refl;
+        lays = record { takes = λ lent t inv h. subst (λ (k : ℕ). Holds (s .n) lent (ran s pts r k t) c₀ w₀ slice₀) e h; only = only-none (4 * s .n) (9 * s .n) w₀ };
         face-words = refl;
       }
 
   module _ {c : Counts} {w slice : List ℕ} (run : Running s pts r c₀ w₀ slice₀ c w slice) where
-    pub run-step : {after : Counts} {u back : List ℕ} → 0 < c .frontier → Lays (s .n) (looked s pts r) c w slice after u back → length u ≡ length w → length back ≡ length slice → Running s pts r c₀ w₀ slice₀ after u back
-    run-step {after} {u} {back} some-wait lays long face-long =
-        let t = stepped r (run .standing) some-wait lays long in
+    pub run-step : {after : Counts} {u back : List ℕ} → 0 < c .frontier → Lays (s .n) (Inv (s .n)) (looked s pts r) c w slice after u back → length back ≡ length slice → Running s pts r c₀ w₀ slice₀ after u back
+    run-step {after} {u} {back} some-wait lays face-long =
+        let t = stepped r (run .standing) some-wait lays in
         let k : ℕ = c .looks - c₀ .looks in
         let e : suc k ≡ after .looks - c₀ .looks = omega (arith, t .one-look, run .later) in
         record {
           standing = t .standing;
           later = omega (arith, t .one-look, run .later);
           lays = record {
-            takes = λ lent z h. subst (λ (j : ℕ). Holds (s .n) lent (ran s pts r j z) after u back) e
-                (subst (λ (y : State). Holds (s .n) lent y after u back) (sym (run-more s pts r k z)) (lays .takes lent (ran s pts r k z) (run .lays .takes lent z h)));
-            index = lays .index ∙ run .lays .index;
+            takes = λ lent z inv h. subst (λ (j : ℕ). Holds (s .n) lent (ran s pts r j z) after u back) e
+                (subst (λ (y : State). Holds (s .n) lent y after u back) (sym (run-more s pts r k z)) (lays .takes lent (ran s pts r k z) (run-inv s pts r k z inv) (run .lays .takes lent z inv h)));
+            only = only-both (run .lays .only) (lays .only);
           };
-          words = long ∙ run .words;
           face-words = face-long ∙ run .face-words;
         }
 
-    pub run-less : {after : Counts} {u back : List ℕ} → 0 < c .frontier → Lays (s .n) (looked s pts r) c w slice after u back → length u ≡ length w → 3 * s .n - after .looks < 3 * s .n - c .looks
-    run-less {after} {u} {back} some-wait lays long = let t = stepped r (run .standing) some-wait lays long in omega (arith, t .one-look, t .few)
+    pub run-less : {after : Counts} {u back : List ℕ} → 0 < c .frontier → Lays (s .n) (Inv (s .n)) (looked s pts r) c w slice after u back → 3 * s .n - after .looks < 3 * s .n - c .looks
+    run-less {after} {u} {back} some-wait lays = let t = stepped r (run .standing) some-wait lays in omega (arith, t .one-look, t .few)
 
-    pub run-end : c .frontier ≤ 0 → Lays (s .n) (ran s pts r (3 * s .n)) c₀ w₀ slice₀ c w slice
+    pub run-end : c .frontier ≤ 0 → Lays (s .n) (Inv (s .n)) (ran s pts r (3 * s .n)) c₀ w₀ slice₀ c w slice
     run-end none =
         let st = run .standing in
         let k : ℕ = c .looks - c₀ .looks in
         let few : k ≤ 3 * s .n = omega (arith, st .holds .looks, room (s .n) (st .state) (st .inv) .looks) in
         record {
-          takes = λ lent t h.
-              let g = run .lays .takes lent t h in
+          takes = λ lent t inv h.
+              let g = run .lays .takes lent t inv h in
               subst (λ (y : State). Holds (s .n) lent y c w slice) (sym (run-stop s pts r k (3 * s .n) t few (none-waits (ran s pts r k t .frontier) (omega (arith, g .frontier-count))))) g;
-          index = run .lays .index;
+          only = run .lays .only;
         }

@@ -3,12 +3,11 @@ use Prim.Native.Nat.{ℕ, _<_}
 use mathlib.Core.Path.{_≡_}
 use mathlib.Core.Bool.{false}
 use mathlib.Core.List.{List, _∷_}
-use lib.ListN.{take}
 use lib.Ieee.{Float}
-use Rattle.regions.specs.Regions.{neighborsAt}
+use Rattle.regions.specs.Regions.{neighborsAt, frontierEnd}
 use Rattle.grid.specs.Index.{Indexed}
 use Rattle.patch.specs.Count.{any}
-use Rattle.patch.specs.Lay.{Edge, same, State, Rules, popped, met, next}
+use Rattle.patch.specs.Lay.{Edge, same, State, Rules, popped, met, pivoted, next}
 use Rattle.patch.specs.Frontier.{heapOf}
 use Rattle.patch.specs.Search.{searching}
 use Rattle.patch.proofs.Inv.{Inv}
@@ -17,7 +16,7 @@ use Rattle.decisions.specs.declared.Scene.{Scene}
 use Rattle.decisions.specs.Decisions.{floatsOf}
 use Rattle.search.specs.Ready.{Held}
 use Rattle.frontier.specs.declared.Counts.{Counts}
-use Rattle.frontier.specs.Work.{Holds, Takes}
+use Rattle.frontier.specs.Work.{Holds, Takes, OnlyIn}
 
 -- there are points, the slices are long enough for them, and they are indexed
 pub record Ground (s : Scene) (pts : List Float) (w : List ℕ) : Type 0 where
@@ -31,18 +30,27 @@ rulesOf s pts = searching (floatsOf s pts) (s .n)
 
 -- ---- steps of the definition
 
--- a pivot over e: the face with the point that the ball meets is laid, if it meets one
-abbrev pub ballMet : Scene → List Float → Float → Edge → State → State
-ballMet s pts r e t = met e (rulesOf s pts .pivotOf r (t .used) e) t
+-- a pivot over e: the face with the point that the ball meets is laid, if it meets one, and then e is processed
+abbrev pub pivotOver : Scene → List Float → Float → Edge → State → State
+pivotOver s pts r e t = pivoted e (met e (rulesOf s pts .pivotOf r (t .used) e) t)
 
 -- a look, if an entry waits
 abbrev pub looked : Scene → List Float → Float → State → State
 looked s pts r t = next (rulesOf s pts) heapOf r (t .frontier) t
 
--- a function that turns c, w and slice into r, u and back takes the step, and leaves the index alone
-pub record Lays (n : ℕ) (step : State → State) (c : Counts) (w slice : List ℕ) (r : Counts) (u back : List ℕ) : Type 0 where
-  pub takes : Takes n step c w slice r u back
-  pub index : take (neighborsAt n) u ≡ take (neighborsAt n) w
+-- a function that turns c, w and slice into r, u and back takes the step, from each held state of which `asked` holds, and leaves the index alone
+pub record Lays (n : ℕ) (asked : State → Type 0) (step : State → State) (c : Counts) (w slice : List ℕ) (r : Counts) (u back : List ℕ) : Type 0 where
+  pub takes : Takes n asked step c w slice r u back
+  pub only : OnlyIn (neighborsAt n) (frontierEnd n) w u
+
+-- within a look: e was popped, and is not processed
+pub record Opened (n : ℕ) (e : Edge) (t : State) : Type 0 where
+  pub before : State
+  pub inv : Inv n before
+  pub others : List Edge
+  pub wait : before .frontier ≡ e ∷ others
+  pub fresh : any (same e) (before .processed) ≡ false
+  pub left : t ≡ popped (heapOf e others .1) before
 
 -- ---- what is asked: the counts and the slices hold some state of a laying
 
@@ -62,15 +70,10 @@ pub record Resting (s : Scene) (pts : List Float) (c : Counts) (w slice : List �
   pub rest : Rest (s .n) state
   pub holds : Holds (s .n) lent state c w slice
 
--- within a look: the edge e was popped, and is not processed
+-- within a look, before the pivot over e
 pub record Pivoting (s : Scene) (pts : List Float) (c : Counts) (w slice : List ℕ) (e : Edge) : Type 0 where
   pub ground : Ground s pts w
   pub lent : List ℕ
   pub state : State
-  pub inv : Inv (s .n) state
-  pub first : Edge
-  pub others : List Edge
-  pub wait : state .frontier ≡ first ∷ others
-  pub top : e ≡ heapOf first others .0
-  pub fresh : any (same e) (state .processed) ≡ false
-  pub holds : Holds (s .n) lent (popped (heapOf first others .1) state) c w slice
+  pub opened : Opened (s .n) e state
+  pub holds : Holds (s .n) lent state c w slice

@@ -7,10 +7,12 @@ ghost use Prim.Native.Nat.{_*_, _≤_, _<_};
 ghost use lib.ListN.{take};
 ghost use Rattle.patch.specs.Lay.{edge, run, layOne, patch};
 ghost use Rattle.patch.specs.Frontier.{heapOf};
+ghost use Rattle.patch.proofs.Inv.{Inv};
+ghost use Rattle.patch.proofs.Laying.{Rest};
 ghost use Rattle.frontier.specs.Work.{Holds};
-ghost use Rattle.laying.specs.Laying.{Ground, rulesOf, ballMet, looked, Lays, Pivoting, Standing, Resting};
+ghost use Rattle.laying.specs.Laying.{Ground, rulesOf, pivotOver, looked, Lays, Opened, Pivoting, Standing, Resting};
 
-// The ball is pivoted over the edge a, b; if it meets a point, their face is laid.
+// The ball is pivoted over the edge a, b; if it meets a point, their face is laid. Then the edge is processed.
 fn pivot_over(
     s: Scene,
     points: &[f32],
@@ -22,12 +24,12 @@ fn pivot_over(
     b: u32,
 ) -> Counts
     requires { ⌜ Pivoting s (now points) c (now w) (now faces) (edge a b) ⌝ }
-    ensures { λ r. ⌜ Lays (s .n) (ballMet s (now (points .entry)) radius (edge a b)) c (now (w .entry)) (now (faces .entry)) r (now (w .exit)) (now (faces .exit)) ⌝ }
+    ensures { λ r. ⌜ Lays (s .n) (Opened (s .n) (edge a b)) (pivotOver s (now (points .entry)) radius (edge a b)) c (now (w .entry)) (now (faces .entry)) r (now (w .exit)) (now (faces .exit)) ⌝ }
 {
     let found = search::try_ball_pivot(s, points, w, radius, a as usize, b as usize);
     match found {
         Pivot::To(k) => frontier::lay_pivot(faces, w, s.n, c, a, b, k as u32),
-        Pivot::Nowhere => c,
+        Pivot::Nowhere => frontier::miss(c),
     }
 }
 
@@ -41,17 +43,16 @@ fn look(
     c: Counts,
 ) -> Counts
     requires { ⌜ Standing s (now points) c (now w) (now faces) × (0 < c .frontier) ⌝ }
-    ensures { λ r. ⌜ Lays (s .n) (looked s (now (points .entry)) radius) c (now (w .entry)) (now (faces .entry)) r (now (w .exit)) (now (faces .exit)) ⌝ }
+    ensures { λ r. ⌜ Lays (s .n) (Inv (s .n)) (looked s (now (points .entry)) radius) c (now (w .entry)) (now (faces .entry)) r (now (w .exit)) (now (faces .exit)) ⌝ }
 {
     let top = frontier::pop(w, s.n, c);
     let left = top.counts;
-    let a = top.entry / 4096;
-    let b = top.entry % 4096;
-    if frontier::is_processed(w, s.n, left.processed, a, b) {
+    if frontier::is_processed(top.entry) {
         return left;
     }
-    let laid = pivot_over(s, points, faces, w, radius, left, a, b);
-    frontier::mark_processed(w, s.n, laid, top.entry)
+    let a = top.entry / 4096;
+    let b = top.entry % 4096;
+    pivot_over(s, points, faces, w, radius, left, a, b)
 }
 
 // Looks until no entry waits.
@@ -64,7 +65,7 @@ fn run(
     start: Counts,
 ) -> Counts
     requires { ⌜ Standing s (now points) start (now w) (now faces) ⌝ }
-    ensures { λ r. ⌜ Lays (s .n) (run (rulesOf s (now (points .entry))) heapOf radius (3 * s .n)) start (now (w .entry)) (now (faces .entry)) r (now (w .exit)) (now (faces .exit)) ⌝ }
+    ensures { λ r. ⌜ Lays (s .n) (Inv (s .n)) (run (rulesOf s (now (points .entry))) heapOf radius (3 * s .n)) start (now (w .entry)) (now (faces .entry)) r (now (w .exit)) (now (faces .exit)) ⌝ }
 {
     let mut c = start;
     while 0 < c.frontier {
@@ -83,7 +84,7 @@ fn lay_one(
     before: Counts,
 ) -> Counts
     requires { ⌜ Resting s (now points) before (now w) (now faces) ⌝ }
-    ensures { λ r. ⌜ Lays (s .n) (layOne (rulesOf s (now (points .entry))) heapOf (s .n) radius) before (now (w .entry)) (now (faces .entry)) r (now (w .exit)) (now (faces .exit)) ⌝ }
+    ensures { λ r. ⌜ Lays (s .n) (Rest (s .n)) (layOne (rulesOf s (now (points .entry))) heapOf (s .n) radius) before (now (w .entry)) (now (faces .entry)) r (now (w .exit)) (now (faces .exit)) ⌝ }
 {
     let c = frontier::clear(before);
     let seed = search::find_seed_triangle(s, points, w, radius);

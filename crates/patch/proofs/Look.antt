@@ -11,10 +11,10 @@ use borrow.Author.Tests.{eqb-true}
 use lib.ListN.{length, length-append}
 use Rattle.patch.specs.Count.{bit, count, any}
 use Rattle.patch.specs.Lay.{Edge, same, State, seedsOf, Rules, Pop, popped, met, pivoted, judged, look, next, run, Free}
-use Rattle.patch.proofs.Counts.{either, count-all, pigeons}
+use Rattle.patch.proofs.Counts.{either, any-false, false-any, count-all, pigeons}
 use Rattle.patch.proofs.Edges.{same-refl}
 use Rattle.patch.proofs.Inv.{Inv}
-use Rattle.patch.proofs.Looks.{miss-looked}
+use Rattle.patch.proofs.Looks.{clear-v1, clear-v2, miss-looked}
 use Rattle.patch.proofs.Laying.{Room, room, entry-below}
 
 module _ {R : Type 0} (rules : Rules R) (order : Pop) (r : R) where
@@ -34,16 +34,14 @@ pub met-none : (e : Edge) (s : State) → met e none s ≡ s
 unfolding met
 met-none e s = refl
 
--- before an edge is marked as processed there is room for it
-pub pivoted-room : (n : ℕ) (e : Edge) (t : State) → Room n (pivoted e t) → Room n t × (length (t .processed) + 1 ≤ 2 * n)
-unfolding pivoted
-pivoted-room n e t r =
-    let l = length-append (t .processed) (e ∷ []) in (
-      record { faces = r .faces; used = r .used; frontier = r .frontier; processed = omega (arith, r .processed); looks = r .looks; pivots = omega (arith, r .pivots) },
-      omega (arith, r .processed),
-    )
-
 module _ (n : ℕ) (s : State) (inv : Inv n s) where
+  -- an edge that a free point belongs to is not processed
+  pub free-v1 : (g : Edge) → Free n (s .used) (g .v1) → any (same g) (s .processed) ≡ false
+  free-v1 g h = false-any (same g) (s .processed) (omega (arith, clear-v1 n s inv g h, inv .edgewise g))
+
+  pub free-v2 : (g : Edge) → Free n (s .used) (g .v2) → any (same g) (s .processed) ≡ false
+  free-v2 g h = false-any (same g) (s .processed) (omega (arith, clear-v2 n s inv g h, inv .edgewise g))
+
   -- where an unused point is left, a face more and its entries fit
   module _ (k : ℕ) (free : Free n (s .used) k) where
     at-k : (x : ℕ) → eqb x k ≡ true → count (eqb x) (inv .points) ≡ 0
@@ -77,7 +75,6 @@ module _ (n : ℕ) (s : State) (inv : Inv n s) where
         let out : length (s .frontier) ≡ suc (length rest) = omega (arith, pop (λ x. true), count-all (s .frontier), count-all rest) in
         record { faces = r .faces; used = r .used; frontier = omega arith; processed = r .processed; looks = omega (arith, inv .looked, r .faces); pivots = r .pivots }
 
-    -- if it is not processed, there is room to mark it
-    pub pivot-room : any (same e) (s .processed) ≡ false → length (s .processed) + 1 ≤ 2 * n
-    unfolding popped met
-    pivot-room h = pivoted-room n e (met e none (popped rest s)) (room n (pivoted e (met e none (popped rest s))) (miss-looked n s inv e rest pop h .inv)) .1
+    -- if it is not processed, no other entry of its edge waits
+    pub popped-alone : any (same e) (s .processed) ≡ false → any (same e) rest ≡ false
+    popped-alone h = false-any (same e) rest (omega (arith, inv .edgewise e, pop (same e), ap bit (same-refl e), any-false (same e) (s .processed) h))

@@ -35,10 +35,10 @@ module _ (n : ℕ) (s : State) (inv : Inv n s) where
   untouched x h = inv .pointwise x .unused-untouched (unlisted x h)
 
   -- an edge that a free point belongs to is an edge of no face
-  clear-v1 : (e : Edge) → Free n (s .used) (e .v1) → count (has e) (s .faces) ≡ 0
+  pub clear-v1 : (e : Edge) → Free n (s .used) (e .v1) → count (has e) (s .faces) ≡ 0
   clear-v1 e h = omega (arith, laid-v1 e (s .faces), untouched (e .v1) h)
 
-  clear-v2 : (e : Edge) → Free n (s .used) (e .v2) → count (has e) (s .faces) ≡ 0
+  pub clear-v2 : (e : Edge) → Free n (s .used) (e .v2) → count (has e) (s .faces) ≡ 0
   clear-v2 e h = omega (arith, laid-v2 e (s .faces), untouched (e .v2) h)
 
   -- a point that a face touches is listed
@@ -100,7 +100,7 @@ module _ (n : ℕ) (s : State) (inv : Inv n s) where
         apart : (x : ℕ) → 1 ≤ count (touches x) (s .faces) → k ≢ x
         apart x h q = let c : count (touches k) (s .faces) ≡ count (touches x) (s .faces) = ap (λ (m : ℕ). count (touches m) (s .faces)) q in omega (arith, untouched k free)
 
-        distinct : Distinct next-face
+        pub distinct : Distinct next-face
         distinct = record {
           ab = λ q. let c : count (has (edge (e .v1) (e .v1))) (s .faces) ≡ count (has e) (s .faces) = ap (λ (m : ℕ). count (has (edge (e .v1) m)) (s .faces)) q in omega (arith, laid-e, inv .straight (e .v1));
           bc = λ q. apart (e .v2) touched-2 (sym q);

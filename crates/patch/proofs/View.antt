@@ -3,12 +3,16 @@ use Prim.Native.Nat.{ℕ, zero, suc, _+_, _-_, _*_, _/_, _%_, _≤_, _<_}
 use mathlib.Core.Path.{_≡_, refl, sym, ap, ap₂, _∙_}
 use mathlib.Core.Bool.{Bool, true, false, cond}
 use mathlib.Core.List.{List, [], _∷_, _++_, map}
+use mathlib.Core.Logic.{⊎-elim}
 use native.Mathlib.Omega.{arith}
+use lib.Dec.{eqb, ltb}
+use borrow.Author.Tests.{eqb-false, ltb-true}
 use lib.ListN.{length, getD, set, take, drop, length-map, length-append, length-drop, List·getD-map}
 use lib.Seq.{take-all, take-append-le, take-at, drop-append-add, drop-drop, sets, sets-eq}
 use Rattle.patch.specs.Lay.{edge, Face, face}
-use Rattle.patch.specs.Frontier.{sift, afterPop, noEdge}
+use Rattle.patch.specs.Frontier.{sift, afterPop}
 use Rattle.patch.specs.View.{encode, decode, flat, written}
+use Rattle.patch.proofs.Counts.{either}
 
 pub decode-encode : (a b : ℕ) → b < 4096 → decode (encode (edge a b)) ≡ edge a b
 decode-encode a b h =
@@ -39,16 +43,46 @@ module _ {A B : Type 0} (f : A → B) where
       let ih = map-sift d fuel (set xs q (getD xs (q + q + 2) d)) (q + q + 2) v in
       simp (map-cond, ih, length-map xs f, List·getD-map f xs (q + q + 2) d, List·getD-map f xs (q + q + 1) d, map-set)
 
-  map-afterPop : (d : A) (xs : List A) → map f (afterPop d xs) ≡ afterPop (f d) (map f xs)
+  afterPop-map : (d : A) (xs : List A) → map f (afterPop d xs) ≡ afterPop (f d) (map f xs)
   unfolding afterPop
-  map-afterPop d xs =
+  afterPop-map d xs =
       let m : ℕ = length xs - 1 in
       let s = map-sift d m (take m xs) 0 (getD xs m d) in
       simp (map-cond, s, length-map xs f, List·getD-map f xs m d, map-take)
 
--- the pop over coded entries is the pop over edges
-pub decode-afterPop : (xs : List ℕ) → map decode (afterPop 0 xs) ≡ afterPop noEdge (map decode xs)
-decode-afterPop xs = map-afterPop decode 0 xs
+-- which entry stands for one that is not there makes no difference
+module _ {A : Type 0} (d e : A) where
+  getD-default : (xs : List A) (i : ℕ) → i < length xs → getD xs i d ≡ getD xs i e
+  getD-default [] i h = absurd (omega arith)
+  getD-default (x ∷ xs) zero h = refl
+  getD-default (x ∷ xs) (suc i) h = getD-default xs i (omega arith)
+
+  sift-default : (fuel : ℕ) (xs : List A) (q : ℕ) (v : A) → sift d fuel xs q v ≡ sift e fuel xs q v
+  unfolding sift
+  sift-default zero xs q v = refl
+  sift-default (suc fuel) xs q v = ⊎-elim
+      (λ (t : ltb (q + q + 2) (length xs) ≡ true).
+      rw t (ap (λ (a : A). sift d fuel (set xs q a) (q + q + 2) v) (getD-default xs (q + q + 2) (ltb-true (q + q + 2) (length xs) t)) ∙ sift-default fuel (set xs q (getD xs (q + q + 2) e)) (q + q + 2) v))
+      (λ (t : ltb (q + q + 2) (length xs) ≡ false). ⊎-elim
+      (λ (u : ltb (q + q + 1) (length xs) ≡ true). rw (t, u) (ap (λ (a : A). set (set xs q a) (q + q + 1) v) (getD-default xs (q + q + 1) (ltb-true (q + q + 1) (length xs) u))))
+      (λ (u : ltb (q + q + 1) (length xs) ≡ false). rw (t, u))
+      (either (ltb (q + q + 1) (length xs))))
+      (either (ltb (q + q + 2) (length xs)))
+
+  afterPop-default : (xs : List A) → afterPop d xs ≡ afterPop e xs
+  unfolding afterPop
+  afterPop-default xs =
+      let m : ℕ = length xs - 1 in
+      ⊎-elim
+      (λ (t : eqb m 0 ≡ true). rw t)
+      (λ (t : eqb m 0 ≡ false).
+      let nz = eqb-false m 0 t in
+      rw t (ap (λ (a : A). sift d m (take m xs) 0 a) (getD-default xs m (omega arith)) ∙ sift-default m (take m xs) 0 (getD xs m e)))
+      (either (eqb m 0))
+
+-- the pop over words of entries is the pop over entries
+pub map-afterPop : {A B : Type 0} (f : A → B) (d : A) (e : B) (xs : List A) → map f (afterPop d xs) ≡ afterPop e (map f xs)
+map-afterPop f d e xs = afterPop-map f d xs ∙ afterPop-default (f d) e (map f xs)
 
 -- ---- faces in a slice
 pub length-flat : (fs : List Face) → length (flat fs) ≡ 3 * length fs

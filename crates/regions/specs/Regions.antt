@@ -29,9 +29,9 @@ usedAt n = 5 * n
 abbrev pub frontierAt : ℕ → ℕ
 frontierAt n = 6 * n
 
--- the processed edges
-abbrev pub processedAt : ℕ → ℕ
-processedAt n = 9 * n
+-- where they end
+abbrev pub frontierEnd : ℕ → ℕ
+frontierEnd n = 9 * n
 
 abbrev pub words : ℕ → List Region
 words n =
@@ -40,7 +40,6 @@ words n =
     ∷ record { start = neighborsAt n; size = n }
     ∷ record { start = usedAt n; size = n }
     ∷ record { start = frontierAt n; size = 3 * n }
-    ∷ record { start = processedAt n; size = 2 * n }
     ∷ []
 
 -- ---- the f32 slice

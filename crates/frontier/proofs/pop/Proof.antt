@@ -1,6 +1,6 @@
 use Prim.Native.Nat.{_*_}
 use native.Mathlib.Omega.{arith}
-use Rattle.frontier.proofs.Slices.{before-same}
+use Rattle.frontier.proofs.Slices.{only-wider}
 use Rattle.frontier.proofs.Work.{pop-takes}
 use borrow.Author.Needs.{needs}
 use Rattle.frontier.proofs.pop.Statement.{statement}
@@ -25,7 +25,7 @@ returns : tie.Need-returns
 returns c =
     let s = c .before .before .before .before .before .before in
     let p = c .before .before .before .pop-frontier in
-    (pop-takes (s .args .n) (s .args .c) (s .args .w .now) (p .last .0) (p .result) (p .ensures), before-same (p .ensures .only) 0 (5 * s .args .n) (omega arith))
+    (pop-takes (s .args .n) (s .args .c) (s .args .w .now) (p .last .0) (p .result) (p .ensures), only-wider (5 * s .args .n) (9 * s .args .n) (omega arith) (omega arith) (p .ensures .only))
 
 pub pop-spec : {M : Type 1} → statement M
 pop-spec = tie.close (tie.spec pop-frontier-requires sub-r add-r same-length returns)

@@ -20,7 +20,7 @@ loop-holds : tie.Need-loop-holds Inv-loop μ-loop
 loop-holds c =
     let b = c .before .before in
     let s = b .before .before .before .before .before in
-    cover-start (s .pre .0) (b .begin .ensures .0) (b .begin .ensures .1 .before) (b .begin .kept .0)
+    cover-start (s .pre .0) (b .begin .ensures .0) (b .begin .ensures .1)
 
 mul-lay-one : tie.Need-mul-lay-one Inv-loop μ-loop
 mul-lay-one c =
@@ -57,7 +57,7 @@ loop-again c =
     let l = t .before in
     let b = l .before .before .before in
     let s = b .before .before .before .before .before in
-    cover-step (l .loop .inv) _ (t .loop-test .taken) (omega (arith, s .good .1 .1 .0 .1 .0 .1, t .loop-test .taken, s .pre .1)) (o .lay-one .ensures) (o .lay-one .kept .1 .1 .1 .0) (o .lay-one .kept .1 .1 .0)
+    cover-step (l .loop .inv) _ (t .loop-test .taken) (omega (arith, s .good .1 .1 .0 .1 .0 .1, t .loop-test .taken, s .pre .1)) (o .lay-one .ensures) (o .lay-one .kept .1 .1 .0)
 
 same-length : tie.Need-same-length Inv-loop μ-loop
 same-length c = c .before .loop .inv .face-words

@@ -55,7 +55,7 @@ run-requires c κs =
     let q = f .before .before .before .before in
     let s = start-of q in
     seed-standing (s .args .radius) (s .pre) (q .before .before .clear .ensures) (q .find-seed-triangle .ensures .0) (q .find-seed-triangle .ensures .1) (q .find-seed-triangle .kept .1 .1 .0) (f .seed .given .1)
-    (l .lay-seed .ensures .0) (l .lay-seed .ensures .1) (l .lay-seed .kept .1 .0)
+    (l .lay-seed .ensures .0) (l .lay-seed .ensures .1)
 
 enum-told : tie.Need-enum-told
 enum-told c = search needs

@@ -1,6 +1,6 @@
 -- `laying::pivot_over` meets its contract. Assumes nothing.
 use native.Mathlib.Omega.{arith}
-use Rattle.laying.proofs.Pivots.{edge-below, free-point, pivot-room, pivot-laid, pivot-missed}
+use Rattle.laying.proofs.Pivots.{edge-below, free-point, pivot-room, few-pivots, pivot-laid, pivot-missed}
 use borrow.Author.Needs.{needs}
 use Rattle.laying.proofs.pivot_over.Statement.{statement}
 use Rattle.laying.proofs.pivot_over.Tie as tie
@@ -38,6 +38,12 @@ lay-pivot-requires c κs =
 enum-told : tie.Need-enum-told
 enum-told c = search needs
 
+miss-requires : tie.Need-miss-requires
+miss-requires c κs =
+    let t = c .before .before .before .before in
+    let s = start-of t in
+    few-pivots (s .args .radius) (s .pre) (t .try-ball-pivot .ensures .0) (t .try-ball-pivot .ensures .1) (t .try-ball-pivot .kept .1 .1 .0)
+
 same-length : tie.Need-same-length
 same-length c = search needs
 
@@ -57,9 +63,9 @@ same-length-3 c = search needs
 
 returns-2 : tie.Need-returns-2
 returns-2 c =
-    let t = c .before .before .before .before in
+    let t = c .before .before .before .before .before in
     let s = start-of t in
-    pivot-missed (s .args .radius) (s .pre) (t .try-ball-pivot .ensures .0) (t .try-ball-pivot .ensures .1) (t .try-ball-pivot .kept .1 .1 .0) (c .enum-told .given .1)
+    pivot-missed (s .args .radius) (s .pre) (t .try-ball-pivot .ensures .0) (t .try-ball-pivot .ensures .1) (t .try-ball-pivot .kept .1 .1 .0) (c .before .enum-told .given .1) (c .miss .ensures)
 
 pub pivot-over-spec : {M : Type 1} → statement M
 pivot-over-spec =
@@ -70,6 +76,7 @@ pivot-over-spec =
     cast-lay-pivot
     lay-pivot-requires
     enum-told
+    miss-requires
     same-length
     same-length-2
     returns

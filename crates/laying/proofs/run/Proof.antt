@@ -23,20 +23,20 @@ loop-less c =
     let o = c .before .before .before .before in
     let t = o .before .before .before in
     let l = t .before .before in
-    run-less (l .loop .inv) (t .if1 .taken) (o .look .ensures) (o .look .kept .1 .1 .1 .0)
+    run-less (l .loop .inv) (t .if1 .taken) (o .look .ensures)
 
 loop-again : tie.Need-loop-again Inv-loop μ-loop
 loop-again c =
     let o = c .before .before .before .before in
     let t = o .before .before .before in
     let l = t .before .before in
-    run-step (l .loop .inv) (t .if1 .taken) (o .look .ensures) (o .look .kept .1 .1 .1 .0) (o .look .kept .1 .1 .0)
+    run-step (l .loop .inv) (t .if1 .taken) (o .look .ensures) (o .look .kept .1 .1 .0)
 
 same-length : tie.Need-same-length Inv-loop μ-loop
 same-length c = c .before .before .loop .inv .face-words
 
 same-length-2 : tie.Need-same-length-2 Inv-loop μ-loop
-same-length-2 c = c .before .before .loop .inv .words
+same-length-2 c = c .before .before .loop .inv .lays .only .length-same
 
 returns : tie.Need-returns Inv-loop μ-loop
 returns c =
