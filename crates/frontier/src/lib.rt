@@ -11,6 +11,9 @@ ghost use Rattle.patch.specs.Lay.{edge, face, met, seeded, pivoted};
 ghost use Rattle.patch.specs.View.{encode};
 ghost use Rattle.frontier.specs.Work.{usedIn, flag, wordsOf, Takes, Begins, Clears, Pops, Tells, Open, NoneProcessed, Misses, Sized, Ready, Room, OnlyIn, Taken, Pushed, Marked, Wrote};
 
+// What an entry has above its edge if the edge is processed.
+const FLAG: u32 = 16777216;
+
 // How many faces, seeds, looks and pivots there were, and how many entries wait.
 pub struct Counts {
     pub faces: usize,
@@ -94,7 +97,7 @@ pub fn pop(w: &mut [u32], n: usize, c: Counts) -> Popped
 pub fn is_processed(entry: u32) -> bool
     ensures { λ r. ⌜ Tells entry r ⌝ }
 {
-    16777216 <= entry
+    FLAG <= entry
 }
 
 // The edge a, b goes to the end of the `count` entries that wait, with `mark` above it.
@@ -106,7 +109,7 @@ fn push_edge(w: &mut [u32], n: usize, count: usize, mark: u32, a: u32, b: u32)
     w[i] = a * 4096 + b + mark;
 }
 
-// The three edges of the face a, b, k; `mark` tells whether the first is processed.
+// The three edges of the face a, b, k, of which none was processed; `mark` comes above the first: FLAG if it is processed from now on, else 0.
 pub fn add_triangle_edges_to_frontier(
     w: &mut [u32],
     n: usize,
@@ -149,7 +152,7 @@ pub fn miss(c: Counts) -> Counts
     ensures { λ r. ⌜ Misses c r ⌝ }
 {
     let mut r = c;
-    r.pivots = c.pivots + 1;
+    r.pivots += 1;
     r
 }
 
@@ -184,7 +187,7 @@ pub fn lay_pivot(
     let waiting = c.frontier;
     put_face(faces, count, a, b, k);
     mark_used(w, n, k);
-    add_triangle_edges_to_frontier(w, n, waiting, 16777216, a, b, k);
+    add_triangle_edges_to_frontier(w, n, waiting, FLAG, a, b, k);
     let mut r = c;
     r.faces = count + 1;
     r.frontier = waiting + 3;
