@@ -33,6 +33,14 @@ frontierAt n = 6 * n
 abbrev pub frontierEnd : ℕ → ℕ
 frontierEnd n = 9 * n
 
+-- the spatial hash: of each point the next one in its bucket
+abbrev pub linksAt : ℕ → ℕ
+linksAt n = 9 * n
+
+-- of each bucket its first point
+abbrev pub headsAt : ℕ → ℕ
+headsAt n = 10 * n
+
 abbrev pub words : ℕ → List Region
 words n =
     record { start = orderAt n; size = n }
@@ -40,6 +48,8 @@ words n =
     ∷ record { start = neighborsAt n; size = n }
     ∷ record { start = usedAt n; size = n }
     ∷ record { start = frontierAt n; size = 3 * n }
+    ∷ record { start = linksAt n; size = n }
+    ∷ record { start = headsAt n; size = 4 * n + 64 }
     ∷ []
 
 -- ---- the f32 slice

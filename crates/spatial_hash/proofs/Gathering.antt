@@ -1,0 +1,104 @@
+-- The points of the buckets between the bounds' cells: each within the bounds is there, none twice. Assumes nothing.
+use mathlib.Core.Path.{_≡_, sym, ap, _∙_, subst}
+use mathlib.Core.Bool.{true, _&&_}
+use mathlib.Core.List.{List}
+use Prim.Native.Nat.{ℕ, _*_, _%_, _≤_}
+use native.Mathlib.Nat.{mod-lt, mul-le-mul}
+use native.Mathlib.Decide.{decLt}
+use native.Mathlib.Omega.{arith}
+use lib.Dec.{T, eqb}
+use lib.ListN.{length}
+use lib.Ieee.{Float}
+use lib.Ieee.Scale.{finite}
+use Rattle.triangle.specs.declared.Point3f.{Point3f}
+use Rattle.points.specs.Points.{pointAt}
+use Rattle.patch.specs.Count.{count}
+use Rattle.patch.specs.Search.{Below}
+use Rattle.patch.proofs.Counts.{pigeons, and-both}
+use Rattle.spatial_hash.specs.declared.Bounds.{Bounds}
+use Rattle.spatial_hash.specs.declared.Hash.{Hash}
+use Rattle.spatial_hash.specs.declared.Span.{Span}
+use Rattle.spatial_hash.specs.Buckets.{slot, bucketOf, bucketAt, spanned, Spanning, rows, boxOf, pointsIn, Appended}
+use Rattle.spatial_hash.specs.Cover.{between}
+use Rattle.spatial_hash.specs.Near.{within, Gathers, Gathered, Hashed, Room, Finite}
+use Rattle.spatial_hash.proofs.Chains.{listed-has, listed-beyond}
+use Rattle.spatial_hash.proofs.Residues.{residues-once, residues-below, rows-count}
+use Rattle.spatial_hash.proofs.Slots.{slot-above, slot-under}
+
+-- the remainders between two coordinates
+abbrev pub Axis : Hash → Float → Float → Float → Span → Type 0
+Axis h least lo hi s = Spanning (h .side) (slot (h .scale) least lo) (slot (h .scale) least hi) s
+
+module _ (h : Hash) (pts : List Float) (n : ℕ) (w : List ℕ) (b : Bounds) (xs ys zs : Span) (s : Hashed h pts n w)
+    (on-x : Axis h (h .least .x) (b .lo .x) (b .hi .x) xs)
+    (on-y : Axis h (h .least .y) (b .lo .y) (b .hi .y) ys)
+    (on-z : Axis h (h .least .z) (b .lo .z) (b .hi .z) zs) where
+  -- ---- one axis
+
+  -- how often a coordinate's remainder is visited
+  met : Float → Float → Span → ℕ
+  met least v sp = count (eqb (slot (h .scale) least v % h .side)) (spanned (h .side) sp)
+
+  met-once : (least lo hi v : Float) (sp : Span) → Axis h least lo hi sp → met least v sp ≤ 1
+  unfolding met
+  met-once least lo hi v sp a = residues-once (h .side) (sp .first) (sp .count) _ (a .starts) (a .few) (mod-lt _ (s .sound .some))
+
+  met-within : (least lo hi v : Float) (sp : Span) → Axis h least lo hi sp → T (finite least) → T (finite v) → between lo hi v ≡ true → 1 ≤ met least v sp
+  unfolding met
+  met-within least lo hi v sp a g k i =
+      let f = s .sound .scale-finite in
+      let p = s .sound .positive in
+      a .has (slot (h .scale) least v) (slot-above (h .scale) least lo hi v f p g k i) (slot-under (h .scale) least lo hi v f p g k i)
+
+  below : (least lo hi : Float) (sp : Span) → Axis h least lo hi sp → Below (h .side) (spanned (h .side) sp)
+  below least lo hi sp a = residues-below (h .side) (sp .count) (sp .first) (a .starts)
+
+  -- ---- all three
+
+  visited : (p : Point3f) → count (eqb (bucketOf h p)) (boxOf (h .side) xs ys zs) ≡ met (h .least .x) (p .x) xs * met (h .least .y) (p .y) ys * met (h .least .z) (p .z) zs
+  unfolding met bucketOf
+  visited p =
+      rows-count (h .side) _ _ (mod-lt _ (s .sound .some)) (rows (h .side) (spanned (h .side) xs) (spanned (h .side) ys)) (spanned (h .side) zs) (below _ _ _ zs on-z)
+      ∙ ap (λ (k : ℕ). k * met (h .least .z) (p .z) zs) (rows-count (h .side) _ _ (mod-lt _ (s .sound .some)) (spanned (h .side) xs) (spanned (h .side) ys) (below _ _ _ ys on-y))
+
+  visited-once : (p : Point3f) → count (eqb (bucketOf h p)) (boxOf (h .side) xs ys zs) ≤ 1
+  visited-once p =
+      let x = met-once _ _ _ (p .x) xs on-x in
+      let y = met-once _ _ _ (p .y) ys on-y in
+      let z = met-once _ _ _ (p .z) zs on-z in
+      rw (visited p) (mul-le-mul (mul-le-mul x y) z)
+
+  visited-within : (p : Point3f) → Finite p → within b p ≡ true → 1 ≤ count (eqb (bucketOf h p)) (boxOf (h .side) xs ys zs)
+  unfolding within
+  visited-within p f i =
+      let c = s .sound .corner in
+      let a = and-both {p = between (b .lo .x) (b .hi .x) (p .x)} {q = between (b .lo .y) (b .hi .y) (p .y) && between (b .lo .z) (b .hi .z) (p .z)} i in
+      let r = and-both {p = between (b .lo .y) (b .hi .y) (p .y)} {q = between (b .lo .z) (b .hi .z) (p .z)} (a .1) in
+      let x = met-within _ _ _ (p .x) xs on-x (c .x-finite) (f .x-finite) (a .0) in
+      let y = met-within _ _ _ (p .y) ys on-y (c .y-finite) (f .y-finite) (r .0) in
+      let z = met-within _ _ _ (p .z) zs on-z (c .z-finite) (f .z-finite) (r .1) in
+      rw (visited p) (mul-le-mul (mul-le-mul x y) z)
+
+  pub box-gathers : Gathers pts n b (pointsIn h pts n (boxOf (h .side) xs ys zs))
+  box-gathers = record {
+    below = λ j l. elim (decLt j n) [ yes k ↦ k | no k ↦ absurd (omega (arith, listed-beyond (bucketAt h pts) n (boxOf (h .side) xs ys zs) j (omega arith))) ];
+    once = λ j. elim (decLt j n) [
+      | yes k ↦ omega (arith, listed-has (bucketAt h pts) n (boxOf (h .side) xs ys zs) j k, visited-once (pointAt pts j))
+      | no k ↦ omega (arith, listed-beyond (bucketAt h pts) n (boxOf (h .side) xs ys zs) j (omega arith))
+    ];
+    complete = λ j k i. omega (arith, listed-has (bucketAt h pts) n (boxOf (h .side) xs ys zs) j k, visited-within (pointAt pts j) (s .ready .numbers j k) i);
+  }
+
+  few : length (pointsIn h pts n (boxOf (h .side) xs ys zs)) ≤ n
+  few = pigeons n (pointsIn h pts n (boxOf (h .side) xs ys zs)) (box-gathers .once) (box-gathers .below)
+
+  pub box-room : Room h pts n w 0 (pointsIn h pts n (boxOf (h .side) xs ys zs))
+  box-room = record { hashed = s; enough = let l = few in omega arith }
+
+  pub box-gathered : (u : List ℕ) (r : ℕ) → Appended n w u 0 r (pointsIn h pts n (boxOf (h .side) xs ys zs)) → Gathered pts n b w u r
+  box-gathered u r a = record {
+    most = let l = few in let t = a .total in omega arith;
+    gathers = subst (Gathers pts n b) (sym (a .appended)) box-gathers;
+    before = a .before;
+    after = a .after;
+  }

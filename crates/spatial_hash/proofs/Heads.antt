@@ -1,0 +1,68 @@
+-- Laws of building: heads that are cleared one by one, and points that are linked one by one. Assumes nothing.
+use mathlib.Core.Path.{_≡_, refl, ap, _∙_, subst}
+use mathlib.Core.Logic.{⊎-elim}
+use mathlib.Core.Bool.{true, false}
+use mathlib.Core.List.{List}
+use Prim.Native.Nat.{ℕ, _+_, _*_, _≤_, _<_}
+use native.Mathlib.Nat.{mod-lt}
+use native.Mathlib.Omega.{arith}
+use borrow.Author.Tests.{eqb-true, eqb-false}
+use lib.Dec.{eqb}
+use lib.ListN.{length, take, getD, set, length-set}
+use lib.Seq.{getD-set-same, getD-set-other, take-set-le}
+use lib.Ieee.{Float}
+use Rattle.triangle.specs.declared.Point3f.{Point3f}
+use Rattle.patch.proofs.Counts.{either}
+use Rattle.spatial_hash.specs.declared.Hash.{Hash}
+use Rattle.spatial_hash.specs.Buckets.{bucketOf, bucketAt, buckets, Chained}
+use Rattle.spatial_hash.specs.Near.{Empty}
+use Rattle.spatial_hash.proofs.Sizes.{joined-below}
+use Rattle.spatial_hash.proofs.Chains.{chained-start, chained-step}
+
+-- the heads below b are empty, and what lies before the links is as it was
+pub record Cleared (w₀ : List ℕ) (n : ℕ) (w : List ℕ) (b : ℕ) : Type 0 where
+  pub zero : (i : ℕ) → i < b → getD w (10 * n + i) 0 ≡ 0
+  pub before : take (9 * n) w ≡ take (9 * n) w₀
+  pub length-same : length w ≡ length w₀
+
+pub cleared-step : (w₀ w : List ℕ) (n b : ℕ) → 10 * n + b < length w → Cleared w₀ n w b → Cleared w₀ n (set w (10 * n + b) 0) (b + 1)
+cleared-step w₀ w n b h s = record {
+  zero = λ i l. ⊎-elim
+      (λ (t : eqb i b ≡ true). ap (λ (k : ℕ). getD (set w (10 * n + b) 0) (10 * n + k) 0) (eqb-true i b t) ∙ getD-set-same w (10 * n + b) 0 0 h)
+      (λ (t : eqb i b ≡ false). let ne = eqb-false i b t in getD-set-other w (10 * n + b) (10 * n + i) 0 0 (λ e. omega arith) ∙ s .zero i (omega arith))
+      (either (eqb i b));
+  before = take-set-le (9 * n) w (10 * n + b) 0 (omega arith) ∙ s .before;
+  length-same = length-set w (10 * n + b) 0 ∙ s .length-same;
+}
+
+pub bucket-below : (h : Hash) (p : Point3f) → 0 < h .side → bucketOf h p < buckets h
+unfolding bucketOf
+bucket-below h p l = joined-below (h .side * h .side) (h .side) _ _ (joined-below (h .side) (h .side) _ _ (mod-lt _ l) (mod-lt _ l)) (mod-lt _ l)
+
+-- the first j points are chained, and what lies before the links is as it was
+pub record Linking (h : Hash) (pts : List Float) (n : ℕ) (w₀ w : List ℕ) (j : ℕ) : Type 0 where
+  pub chained : Chained (bucketAt h pts) n (buckets h) w j
+  pub before : take (9 * n) w ≡ take (9 * n) w₀
+  pub length-same : length w ≡ length w₀
+  pub most : j ≤ n
+
+pub linking-start : (h : Hash) (pts : List Float) (n : ℕ) (w : List ℕ) → Empty h pts n w → Linking h pts n w w 0
+linking-start h pts n w e = record { chained = chained-start (bucketAt h pts) n (buckets h) w (e .empty); before = refl; length-same = refl; most = omega arith }
+
+pub linking-step : (h : Hash) (pts : List Float) (n : ℕ) (w₀ w u : List ℕ) (j b : ℕ) → Empty h pts n w₀ → j < n → b ≡ bucketAt h pts j
+    → u ≡ set (set w (9 * n + j) (getD w (10 * n + b) 0)) (10 * n + b) (j + 1) → Linking h pts n w₀ w j → Linking h pts n w₀ u (j + 1)
+linking-step h pts n w₀ w u j b e l q s i =
+    let same = i .length-same in
+    let a = getD w (10 * n + b) 0 in
+    let v = set w (9 * n + j) a in
+    let long : 24 * n + 64 ≤ length w = let o = e .ready .work-long in omega arith in
+    record {
+      chained = chained-step (bucketAt h pts) n (buckets h) j w l (bucket-below h _ (e .sound .some)) (e .sound .fitting) long (i .chained) u
+          (s ∙ ap (λ (a : ℕ). set (set w (9 * n + j) (getD w (10 * n + a) 0)) (10 * n + a) (j + 1)) q);
+      before = ap (take (9 * n)) s ∙ take-set-le (9 * n) v (10 * n + b) (j + 1) (omega arith) ∙ take-set-le (9 * n) w (9 * n + j) a (omega arith) ∙ i .before;
+      length-same = ap length s ∙ length-set v (10 * n + b) (j + 1) ∙ length-set w (9 * n + j) a ∙ same;
+      most = omega arith;
+    }
+
+pub linking-end : (h : Hash) (pts : List Float) (n : ℕ) (w₀ w : List ℕ) (j : ℕ) → n ≤ j → Linking h pts n w₀ w j → Chained (bucketAt h pts) n (buckets h) w n
+linking-end h pts n w₀ w j l s = let e : j ≡ n = let m = s .most in omega arith in subst (Chained (bucketAt h pts) n (buckets h) w) e (s .chained)

@@ -1,0 +1,13 @@
+-- The laws that the proofs cite, leaves first.
+pub mod Sizes
+pub mod Corners
+pub mod Slots
+pub mod Beyond
+pub mod Chains
+pub mod Heads
+pub mod Residues
+pub mod Kept
+pub mod Appending
+pub mod Following
+pub mod Visiting
+pub mod Gathering

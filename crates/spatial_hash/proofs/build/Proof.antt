@@ -1,0 +1,62 @@
+-- `spatial_hash::build` meets its contract. Assumes nothing.
+use mathlib.Core.Path.{_∙_}
+use Rattle.spatial_hash.specs.Near.{Sound}
+use Rattle.spatial_hash.proofs.Kept.{ready-same}
+use borrow.Author.Needs.{needs}
+use Rattle.spatial_hash.proofs.build.Statement.{statement}
+use Rattle.spatial_hash.proofs.build.Tie as tie
+
+least-corner-requires : tie.Need-least-corner-requires
+least-corner-requires c κs = search needs
+
+scale-for-requires : tie.Need-scale-for-requires
+scale-for-requires c κs = search needs
+
+side-for-requires : tie.Need-side-for-requires
+side-for-requires c κs = search needs
+
+-- what was chosen is sound
+sound : (c : tie.After-side-for) → Sound (record { least = c .before .before .least-corner .result; scale = c .before .scale-for .result; side = c .side-for .result }) (c .before .before .before .before .before .args .n)
+sound c = record {
+  some = c .side-for .ensures .0;
+  few = c .side-for .ensures .1;
+  fitting = c .side-for .ensures .2;
+  positive = c .before .scale-for .ensures .0;
+  scale-finite = c .before .scale-for .ensures .1;
+  corner = c .before .before .least-corner .ensures;
+}
+
+clear-heads-requires : tie.Need-clear-heads-requires
+clear-heads-requires c κs = search needs
+
+link-points-requires : tie.Need-link-points-requires
+link-points-requires c κs =
+    let s = c .before .before .before .before .before .before .before .before .before .before in
+    let e = c .before .before .before .clear-heads in
+    record { ready = ready-same _ _ _ _ (e .kept .0) (s .pre); sound = sound (c .before .before .before .before .before); empty = e .ensures .0 }
+
+same-length : tie.Need-same-length
+same-length c = search needs
+
+returns : tie.Need-returns
+returns c =
+    let s = c .before .before .before .before .before .before .before .before .before .before .before .before .before in
+    let e = c .before .before .before .before .before .before .clear-heads in
+    let l = c .before .before .link-points in
+    record {
+      hashed = record { ready = ready-same _ _ _ _ (l .kept .1 .0 ∙ e .kept .0) (s .pre); sound = sound (c .before .before .before .before .before .before .before .before); chained = l .ensures .0 };
+      before = l .ensures .1 ∙ e .ensures .1;
+      length-same = l .kept .1 .0 ∙ e .kept .0;
+    }
+
+pub build-spec : {M : Type 1} → statement M
+build-spec =
+    tie.close
+    (tie.spec
+    least-corner-requires
+    scale-for-requires
+    side-for-requires
+    clear-heads-requires
+    link-points-requires
+    same-length
+    returns)

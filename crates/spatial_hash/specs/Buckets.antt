@@ -1,0 +1,111 @@
+-- Cells, buckets and their chains, and how a walk through them appends to a list. Definitions only.
+use Prim.Native.Nat.{ℕ, zero, suc, _+_, _*_, _%_, _≤_, _<_}
+use mathlib.Core.Path.{_≡_}
+use mathlib.Core.Bool.{true, false}
+use mathlib.Core.List.{List, [], _∷_, _++_}
+use lib.Dec.{eqb}
+use lib.ListN.{length, take, drop, getD}
+use lib.Ieee.{Float}
+use Rattle.numbers.specs.Rounded.{_⊖_, _⊗_}
+use Rattle.numbers.specs.Cut.{cut}
+use Rattle.triangle.specs.declared.Point3f.{Point3f}
+use Rattle.points.specs.Points.{pointAt}
+use Rattle.regions.specs.Regions.{neighborsAt, usedAt, linksAt, headsAt}
+use Rattle.patch.specs.Count.{count}
+use Rattle.spatial_hash.specs.declared.Hash.{Hash}
+use Rattle.spatial_hash.specs.declared.Span.{Span}
+
+-- ---- buckets
+
+-- the number of the cell that a coordinate is in, on one axis
+unfoldable pub slot : Float → Float → Float → ℕ
+slot scale least v = cut ((v ⊖ least) ⊗ scale)
+
+-- a place's bucket: what its three numbers leave when divided by the side, as one number
+unfoldable pub bucketOf : Hash → Point3f → ℕ
+bucketOf h p =
+    (slot (h .scale) (h .least .x) (p .x) % h .side * h .side + slot (h .scale) (h .least .y) (p .y) % h .side) * h .side
+    + slot (h .scale) (h .least .z) (p .z) % h .side
+
+-- the bucket of point j
+abbrev pub bucketAt : Hash → List Float → ℕ → ℕ
+bucketAt h pts j = bucketOf h (pointAt pts j)
+
+abbrev pub buckets : Hash → ℕ
+buckets h = h .side * h .side * h .side
+
+-- ---- chains, where f gives each point's bucket
+
+-- of the points below j in bucket b the last one's number plus 1; 0 if there is none
+unfoldable pub lastIn : (ℕ → ℕ) → ℕ → ℕ → ℕ
+lastIn f b zero = 0
+lastIn f b (suc j) = elim (eqb (f j) b) [ true ↦ suc j | false ↦ lastIn f b j ]
+
+-- those points, the last one first
+unfoldable pub chain : (ℕ → ℕ) → ℕ → ℕ → List ℕ
+chain f b zero = []
+chain f b (suc j) = elim (eqb (f j) b) [ true ↦ j ∷ chain f b j | false ↦ chain f b j ]
+
+-- the n points' words when the first j are chained into m buckets: each bucket has its last point, and each point the one before it in its bucket
+pub record Chained (f : ℕ → ℕ) (n m : ℕ) (w : List ℕ) (j : ℕ) : Type 0 where
+  pub heads : (b : ℕ) → b < m → getD w (headsAt n + b) 0 ≡ lastIn f b j
+  pub links : (i : ℕ) → i < j → getD w (linksAt n + i) 0 ≡ lastIn f (f i) i
+
+-- ---- the buckets that a walk visits
+
+-- the remainder after r, from m - 1 back to 0
+unfoldable pub next : ℕ → ℕ → ℕ
+next m r = elim (eqb (r + 1) m) [ true ↦ 0 | false ↦ r + 1 ]
+
+-- k remainders, from r on
+unfoldable pub residues : ℕ → ℕ → ℕ → List ℕ
+residues m r zero = []
+residues m r (suc k) = r ∷ residues m (next m r) k
+
+abbrev pub spanned : ℕ → Span → List ℕ
+spanned m s = residues m (s .first) (s .count)
+
+-- remainders among which each number from a to b has its own
+pub record Spanning (m a b : ℕ) (s : Span) : Type 0 where
+  pub starts : s .first < m
+  pub few : s .count ≤ m
+  pub has : (v : ℕ) → a ≤ v → v ≤ b → 1 ≤ count (eqb (v % m)) (spanned m s)
+
+-- p and each q as one number
+unfoldable pub row : ℕ → ℕ → List ℕ → List ℕ
+row m p [] = []
+row m p (q ∷ qs) = (p * m + q) ∷ row m p qs
+
+-- each p and each q as one number
+unfoldable pub rows : ℕ → List ℕ → List ℕ → List ℕ
+rows m [] qs = []
+rows m (p ∷ ps) qs = row m p qs ++ rows m ps qs
+
+-- the buckets that have the remainders p, and one of a span; x, and one of each of two spans; one of each of three
+abbrev pub rowOf : ℕ → ℕ → Span → List ℕ
+rowOf m p zs = row m p (spanned m zs)
+
+abbrev pub planeOf : ℕ → ℕ → Span → Span → List ℕ
+planeOf m x ys zs = rows m (rowOf m x ys) (spanned m zs)
+
+abbrev pub boxOf : ℕ → Span → Span → Span → List ℕ
+boxOf m xs ys zs = rows m (rows m (spanned m xs) (spanned m ys)) (spanned m zs)
+
+-- the points below n of several buckets
+unfoldable pub listed : (ℕ → ℕ) → ℕ → List ℕ → List ℕ
+listed f n [] = []
+listed f n (b ∷ bs) = chain f b n ++ listed f n bs
+
+-- the n points of several buckets of a hash
+abbrev pub pointsIn : Hash → List Float → ℕ → List ℕ → List ℕ
+pointsIn h pts n bs = listed (bucketAt h pts) n bs
+
+-- ---- appending to the list of neighbours
+
+-- js was appended to the first `at` neighbours, r of them in all, and nothing else changed: w before, u after
+pub record Appended (n : ℕ) (w u : List ℕ) (at r : ℕ) (js : List ℕ) : Type 0 where
+  pub total : r ≡ at + length js
+  pub appended : take r (drop (neighborsAt n) u) ≡ take at (drop (neighborsAt n) w) ++ js
+  pub before : take (neighborsAt n) u ≡ take (neighborsAt n) w
+  pub after : drop (usedAt n) u ≡ drop (usedAt n) w
+  pub length-same : length u ≡ length w

@@ -1,0 +1,90 @@
+-- Places within bounds, lists of the points there, and what the hash asks and keeps. Definitions only.
+use Prim.Native.Nat.{ℕ, _+_, _*_, _≤_, _<_}
+use mathlib.Core.Path.{_≡_}
+use mathlib.Core.Bool.{Bool, false, true, _&&_}
+use mathlib.Core.List.{List}
+use lib.Dec.{T, eqb}
+use lib.ListN.{length, take, drop, getD}
+use lib.Ieee.{Float, binary32, lt, fits}
+use lib.Ieee.Scale.{finite}
+use Rattle.numbers.specs.Rounded.{f32}
+use Rattle.numbers.specs.Root.{root}
+use Rattle.triangle.specs.Vector.{squared}
+use Rattle.triangle.specs.declared.Point3f.{Point3f}
+use Rattle.points.specs.Points.{pointAt}
+use Rattle.regions.specs.Regions.{neighborsAt, usedAt, linksAt, headsAt}
+use Rattle.patch.specs.Count.{count}
+use Rattle.patch.specs.Search.{Below}
+use Rattle.spatial_hash.specs.declared.Bounds.{Bounds}
+use Rattle.spatial_hash.specs.declared.Hash.{Hash}
+use Rattle.spatial_hash.specs.Cover.{between}
+use Rattle.spatial_hash.specs.Buckets.{Chained, bucketAt, buckets}
+
+-- a place whose coordinates are numbers
+pub record Finite (p : Point3f) : Type 0 where
+  pub x-finite : T (finite (p .x))
+  pub y-finite : T (finite (p .y))
+  pub z-finite : T (finite (p .z))
+
+-- a place within bounds
+unfoldable pub within : Bounds → Point3f → Bool
+within b p = between (b .lo .x) (b .hi .x) (p .x) && (between (b .lo .y) (b .hi .y) (p .y) && between (b .lo .z) (b .hi .z) (p .z))
+
+-- each square above t has a root above r
+abbrev pub Limit : Float → Float → Type 0
+Limit r t = (s : Float) → T (fits binary32 s) → T (lt t s) → T (lt r (root s))
+
+-- every place outside the bounds has a squared distance above t from p
+abbrev pub Covers : Point3f → Float → Bounds → Type 0
+Covers p t b = (q : Point3f) → Finite q → within b q ≡ false → T (lt t (squared q p))
+
+-- js has every point within the bounds, each at most once, and none but the n of the cloud
+pub record Gathers (pts : List Float) (n : ℕ) (b : Bounds) (js : List ℕ) : Type 0 where
+  pub below : Below n js
+  pub once : (j : ℕ) → count (eqb j) js ≤ 1
+  pub complete : (j : ℕ) → j < n → within b (pointAt pts j) ≡ true → 1 ≤ count (eqb j) js
+
+-- n points whose coordinates are numbers, and room for what is kept of them
+pub record Ready (pts : List Float) (n : ℕ) (w : List ℕ) : Type 0 where
+  pub few : n ≤ 4096
+  pub points-long : 3 * n ≤ length pts
+  pub work-long : 24 * n + 64 ≤ length w
+  pub numbers : (i : ℕ) → i < n → Finite (pointAt pts i)
+
+-- a hash whose cell numbers keep the order of the coordinates, and whose buckets have words
+pub record Sound (h : Hash) (n : ℕ) : Type 0 where
+  pub some : 0 < h .side
+  pub few : h .side ≤ 24
+  pub fitting : buckets h ≤ 4 * n + 64
+  pub positive : T (lt (f32 0) (h .scale))
+  pub scale-finite : T (finite (h .scale))
+  pub corner : Finite (h .least)
+
+-- a hash with empty buckets
+pub record Empty (h : Hash) (pts : List Float) (n : ℕ) (w : List ℕ) : Type 0 where
+  pub ready : Ready pts n w
+  pub sound : Sound h n
+  pub empty : (b : ℕ) → b < buckets h → getD w (headsAt n + b) 0 ≡ 0
+
+-- what `build` leaves and `gather` needs: it lies in the words from `linksAt` on
+pub record Hashed (h : Hash) (pts : List Float) (n : ℕ) (w : List ℕ) : Type 0 where
+  pub ready : Ready pts n w
+  pub sound : Sound h n
+  pub chained : Chained (bucketAt h pts) n (buckets h) w n
+
+-- a hash, and room for so many more neighbours
+pub record Room (h : Hash) (pts : List Float) (n : ℕ) (w : List ℕ) (at : ℕ) (js : List ℕ) : Type 0 where
+  pub hashed : Hashed h pts n w
+  pub enough : at + length js ≤ n
+
+pub record Built (h : Hash) (pts : List Float) (n : ℕ) (w u : List ℕ) : Type 0 where
+  pub hashed : Hashed h pts n u
+  pub before : take (linksAt n) u ≡ take (linksAt n) w
+  pub length-same : length u ≡ length w
+
+-- r points were gathered, and only the list of neighbours was changed: w before, u after
+pub record Gathered (pts : List Float) (n : ℕ) (b : Bounds) (w u : List ℕ) (r : ℕ) : Type 0 where
+  pub most : r ≤ n
+  pub gathers : Gathers pts n b (take r (drop (neighborsAt n) u))
+  pub before : take (neighborsAt n) u ≡ take (neighborsAt n) w
+  pub after : drop (usedAt n) u ≡ drop (usedAt n) w

@@ -1,0 +1,117 @@
+// The points near a place: a spatial hash over the cloud, in the words of the work slice from 9n on. How its cells are sized is a guess that decides nothing;
+// what is promised is that no point within the bounds asked for is left out.
+mod cells;
+mod cover;
+mod links;
+mod walk;
+
+use triangle::Point3f;
+ghost use Prim.Native.Nat.{_*_, _≤_};
+ghost use Rattle.spatial_hash.specs.Near.{Finite, Limit, Covers, Ready, Hashed, Gathered, Built};
+
+// The places between two corners, both included.
+pub struct Bounds {
+    pub lo: Point3f,
+    pub hi: Point3f,
+}
+
+// How a coordinate becomes the number of a cell, and how many of these numbers have buckets of their own on an axis.
+pub struct Hash {
+    pub least: Point3f,
+    pub scale: f32,
+    pub side: usize,
+}
+
+// The coordinates between two, both included.
+pub struct Interval {
+    pub lo: f32,
+    pub hi: f32,
+}
+
+// Remainders that follow one another, the side's last by 0.
+pub struct Span {
+    pub first: usize,
+    pub count: usize,
+}
+
+// A number such that each square above it has a root above r.
+pub fn square_limit(r: f32) -> f32
+    ensures { λ t. ⌜ Limit r t ⌝ }
+{
+    let t = r * r * 1.000001;
+    if t >= 0.0 {
+        if numbers::sqrt(t) > r {
+            return t;
+        }
+    }
+    1.0 / 0.0
+}
+
+// Bounds outside of which every squared distance from the place is above the limit. The reach is a guess at how far they have to go.
+pub fn covering(place: Point3f, reach: f32, limit: f32) -> Bounds
+    requires { ⌜ Finite place ⌝ }
+    ensures { λ b. ⌜ Covers place limit b ⌝ }
+{
+    let x = cover::interval(place.x, reach, limit);
+    let y = cover::interval(place.y, reach, limit);
+    let z = cover::interval(place.z, reach, limit);
+    Bounds {
+        lo: Point3f {
+            x: x.lo,
+            y: y.lo,
+            z: z.lo,
+        },
+        hi: Point3f {
+            x: x.hi,
+            y: y.hi,
+            z: z.hi,
+        },
+    }
+}
+
+// Hashes n points. The size of the cells is a guess.
+pub fn build(points: &[f32], n: usize, size: f32, w: &mut [u32]) -> Hash
+    requires { ⌜ Ready (now points) n (now w) ⌝ }
+    ensures { λ h. ⌜ Built h (now (points .entry)) n (now (w .entry)) (now (w .exit)) ⌝ }
+{
+    let least = links::least_corner(points, n);
+    let scale = cells::scale_for(size);
+    let side = cells::side_for(n);
+    let hash = Hash {
+        least: least,
+        scale: scale,
+        side: side,
+    };
+    links::clear_heads(w, n, side);
+    links::link_points(points, w, n, hash);
+    hash
+}
+
+// Writes the numbers of points into the region of the neighbours, those within the bounds among them, and returns how many they are.
+pub fn gather(points: &[f32], w: &mut [u32], n: usize, hash: Hash, bounds: Bounds) -> usize
+    requires { ⌜ Hashed hash (now points) n (now w) ⌝ }
+    ensures { λ r. ⌜ Gathered (now (points .entry)) n bounds (now (w .entry)) (now (w .exit)) r ⌝ }
+{
+    let xs = cells::span(
+        hash.side,
+        hash.scale,
+        hash.least.x,
+        bounds.lo.x,
+        bounds.hi.x,
+    );
+    let ys = cells::span(
+        hash.side,
+        hash.scale,
+        hash.least.y,
+        bounds.lo.y,
+        bounds.hi.y,
+    );
+    let zs = cells::span(
+        hash.side,
+        hash.scale,
+        hash.least.z,
+        bounds.lo.z,
+        bounds.hi.z,
+    );
+    walk::visit_planes(points, w, n, hash, xs, ys, zs)
+}
