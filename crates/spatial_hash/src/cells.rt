@@ -51,6 +51,7 @@ fn slot(scale: f32, least: f32, v: f32) -> u32
     numbers::cut((v - least) * scale)
 }
 
+// What is left of that number when it is divided by the side.
 fn residue(side: usize, scale: f32, least: f32, v: f32) -> usize
     requires { ⌜ 0 < side ⌝ }
     ensures { λ r. ⌜ (r ≡ slot scale least v % side) × (r < side) ⌝ }
@@ -81,7 +82,7 @@ pub fn next(side: usize, r: usize) -> usize
 
 // The remainders of the numbers from a to b.
 fn span_of(side: usize, a: u32, b: u32) -> Span
-    requires { ⌜ (0 < side) × (side ≤ 24) ⌝ }
+    requires { ⌜ 0 < side ⌝ }
     ensures { λ s. ⌜ Spanning side a b s ⌝ }
 {
     let first = (a as usize) % side;
@@ -105,11 +106,11 @@ fn span_of(side: usize, a: u32, b: u32) -> Span
 }
 
 // The remainders of the cells between two coordinates.
-pub fn span(side: usize, scale: f32, least: f32, lo: f32, hi: f32) -> Span
-    requires { ⌜ (0 < side) × (side ≤ 24) ⌝ }
-    ensures { λ s. ⌜ Spanning side (slot scale least lo) (slot scale least hi) s ⌝ }
+pub fn span(hash: Hash, least: f32, lo: f32, hi: f32) -> Span
+    requires { ⌜ 0 < hash .side ⌝ }
+    ensures { λ s. ⌜ Spanning (hash .side) (slot (hash .scale) least lo) (slot (hash .scale) least hi) s ⌝ }
 {
-    let a = slot(scale, least, lo);
-    let b = slot(scale, least, hi);
-    span_of(side, a, b)
+    let a = slot(hash.scale, least, lo);
+    let b = slot(hash.scale, least, hi);
+    span_of(hash.side, a, b)
 }

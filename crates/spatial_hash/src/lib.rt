@@ -92,26 +92,8 @@ pub fn gather(points: &[f32], w: &mut [u32], n: usize, hash: Hash, bounds: Bound
     requires { ⌜ Hashed hash (now points) n (now w) ⌝ }
     ensures { λ r. ⌜ Gathered (now (points .entry)) n bounds (now (w .entry)) (now (w .exit)) r ⌝ }
 {
-    let xs = cells::span(
-        hash.side,
-        hash.scale,
-        hash.least.x,
-        bounds.lo.x,
-        bounds.hi.x,
-    );
-    let ys = cells::span(
-        hash.side,
-        hash.scale,
-        hash.least.y,
-        bounds.lo.y,
-        bounds.hi.y,
-    );
-    let zs = cells::span(
-        hash.side,
-        hash.scale,
-        hash.least.z,
-        bounds.lo.z,
-        bounds.hi.z,
-    );
+    let xs = cells::span(hash, hash.least.x, bounds.lo.x, bounds.hi.x);
+    let ys = cells::span(hash, hash.least.y, bounds.lo.y, bounds.hi.y);
+    let zs = cells::span(hash, hash.least.z, bounds.lo.z, bounds.hi.z);
     walk::visit_planes(points, w, n, hash, xs, ys, zs)
 }

@@ -9,7 +9,7 @@ ghost use lib.ListN.{length, take, getD, set};
 ghost use Rattle.spatial_hash.specs.Buckets.{Chained, bucketAt, buckets};
 ghost use Rattle.spatial_hash.specs.Near.{Finite, Empty};
 
-// The corner of two places.
+// The lesser of two coordinates, on each axis.
 fn lower(a: Point3f, b: Point3f) -> Point3f
     requires { ⌜ Finite a × Finite b ⌝ }
     ensures { λ r. ⌜ Finite r ⌝ }

@@ -1,4 +1,5 @@
 // Walks through buckets. Each appends the points there to the neighbours, of which there are `count`, and returns how many there are then.
+// The coordinates are there for the contracts alone.
 use super::cells;
 use crate::Hash;
 use crate::Span;

@@ -8,7 +8,7 @@ rem-first : tie.Need-rem-first
 rem-first c = search needs
 
 returns : tie.Need-returns
-returns c = let s = c .before in span-empty (s .args .side) (s .args .a) (s .args .b) (s .pre .0) (c .if1 .taken)
+returns c = let s = c .before in span-empty (s .args .side) (s .args .a) (s .args .b) (s .pre) (c .if1 .taken)
 
 cast-gap : tie.Need-cast-gap
 cast-gap c = search needs
@@ -17,10 +17,10 @@ add-t9 : tie.Need-add-t9
 add-t9 c = search needs
 
 returns-2 : tie.Need-returns-2
-returns-2 c = let s = c .before .before in span-part (s .args .side) (s .args .a) (s .args .b) (s .pre .0) (c .before .if1 .left) (c .if2 .taken)
+returns-2 c = let s = c .before .before in span-part (s .args .side) (s .args .a) (s .args .b) (s .pre) (c .before .if1 .left) (c .if2 .taken)
 
 returns-3 : tie.Need-returns-3
-returns-3 c = let s = c .before .before in span-whole (s .args .side) (s .args .a) (s .args .b) (s .pre .0)
+returns-3 c = let s = c .before .before in span-whole (s .args .side) (s .args .a) (s .args .b) (s .pre)
 
 pub span-of-spec : {M : Type 1} → statement M
 span-of-spec = tie.close (tie.spec rem-first returns cast-gap add-t9 returns-2 returns-3)
