@@ -4,11 +4,16 @@ use mathlib.Core.Path.{_≡_, refl, sym, ap, _∙_, subst}
 use mathlib.Core.List.{List, [], _∷_}
 use native.Mathlib.Omega.{arith}
 use lib.ListN.{length, take}
+use lib.Seq.{take-take}
 use lib.Ieee.{Float}
 use Rattle.domain.specs.declared.BallPivotingConfig.{BallPivotingConfig}
+use Rattle.grid.specs.Index.{Indexed}
+use Rattle.grid.proofs.Near.{indexed-kept}
 use Rattle.patch.specs.Lay.{State, patch}
 use Rattle.patch.specs.Frontier.{heapOf}
 use Rattle.patch.specs.Shape.{Shape}
+use Rattle.spatial_hash.specs.declared.Hash.{Hash}
+use Rattle.spatial_hash.specs.Near.{Built}
 use Rattle.decisions.specs.declared.Scene.{Scene}
 use Rattle.radii.specs.Radii.{adaptiveRadii}
 use Rattle.radii.specs.Steps as radii
@@ -16,7 +21,7 @@ use Rattle.radii.specs.declared.Radii.{Radii}
 use Rattle.laying.specs.Laying.{Ground, rulesOf}
 use Rattle.laying.proofs.Claim.{laid-shape}
 use Rattle.ball_pivoting.specs.Reconstruct.{pointCount, indexOf, sceneOf, radiiOf, laidOf, laid, plainly, foundAt, found}
-use Rattle.ball_pivoting.specs.Parts.{Ready, Finds}
+use Rattle.ball_pivoting.specs.Parts.{Sized, Ready, Finds}
 use Rattle.ball_pivoting.specs.declared.Finding.{Finding}
 
 -- the patch of the multi-radius path has the shape, for every cloud and all settings
@@ -24,21 +29,34 @@ pub shape-of : (c : BallPivotingConfig) (pts : List Float) → Shape (laidOf c p
 unfolding laidOf sceneOf
 shape-of c pts = laid-shape (sceneOf c pts) pts (radiiOf c pts)
 
+-- ---- the points are indexed and hashed
+
+pub grounded : {s : Scene} {hash : Hash} {pts : List Float} {w u v : List ℕ} → s .n ≡ pointCount pts → Sized pts w → Indexed (s .grid) (s .indexed) pts (s .n) u → Built hash pts (s .n) u v → Ground s hash pts v
+grounded {s = s} {u = u} {v = v} e z x b = record {
+  some = omega (arith, z .some);
+  held = record { few = x .few; points-long = omega (arith, z .threes); work-long = omega (arith, x .room, b .length-same) };
+  indexed = indexed-kept v x (b .length-same) (take-fewer u v (b .before));
+  hashed = b .hashed;
+}
+  where
+    take-fewer : (u v : List ℕ) → take (9 * s .n) v ≡ take (9 * s .n) u → take (4 * s .n) v ≡ take (4 * s .n) u
+    take-fewer u v q = let h : 4 * s .n ≤ 9 * s .n = omega arith in sym (take-take (4 * s .n) (9 * s .n) v h) ∙ ap (take (4 * s .n)) q ∙ take-take (4 * s .n) (9 * s .n) u h
+
 -- ---- the radii
 
-ready-at : (c : BallPivotingConfig) (pts : List Float) (w : List ℕ) (w₀ : List ℕ) (f : List Float) → Ready c pts w₀ f → Ground (sceneOf c pts) pts w → radii.Ready c (sceneOf c pts .grid) pts (sceneOf c pts .n) w f
+ready-at : (c : BallPivotingConfig) (pts : List Float) (w : List ℕ) (w₀ : List ℕ) (f : List Float) {hash : Hash} → Ready c pts w₀ f → Ground (sceneOf c pts) hash pts w → radii.Ready c (sceneOf c pts .grid) hash pts (sceneOf c pts .n) w f
 unfolding sceneOf
 ready-at c pts w w₀ f h g = record {
   some = g .some;
-  points = omega (arith, h .sized .threes);
   indexed = g .indexed;
+  hashed = g .hashed;
   room = h .floats-enough;
   percentiles = h .percentiles;
   additional = h .additional;
 }
 
-pub radii-ready : (c : BallPivotingConfig) (pts : List Float) (s : Scene) (w w₀ : List ℕ) (f : List Float) → s ≡ sceneOf c pts → Ready c pts w₀ f → Ground s pts w → radii.Ready c (s .grid) pts (s .n) w f
-radii-ready c pts s w w₀ f e h = subst (λ (t : Scene). Ground t pts w → radii.Ready c (t .grid) pts (t .n) w f) (sym e) (ready-at c pts w w₀ f h)
+pub radii-ready : (c : BallPivotingConfig) (pts : List Float) (s : Scene) (w w₀ : List ℕ) (f : List Float) {hash : Hash} → s ≡ sceneOf c pts → Ready c pts w₀ f → Ground s hash pts w → radii.Ready c (s .grid) hash pts (s .n) w f
+radii-ready c pts s w w₀ f {hash} e h = subst (λ (t : Scene). Ground t hash pts w → radii.Ready c (t .grid) hash pts (t .n) w f) (sym e) (ready-at c pts w w₀ f h)
 
 -- the radii are the definition's
 pub listed-at : (c : BallPivotingConfig) (pts : List Float) (s : Scene) (r : Radii) → s ≡ sceneOf c pts → radii.Listed (adaptiveRadii c (s .grid) pts (s .n)) r → radii.Listed (radiiOf c pts) r

@@ -9,10 +9,12 @@ use lib.Ieee.{Float}
 use borrow.Author.Tests.{eq-eqb, ne-eqb}
 use Rattle.numbers.specs.Rounded.{f32}
 use Rattle.domain.specs.Refusals.{Check, firstRefusal, reconstructRefusal}
-use Rattle.domain.specs.Accepted.{AcceptedReconstruct}
+use Rattle.domain.specs.Accepted.{Cloud}
 use Rattle.domain.specs.declared.BallPivotingConfig.{BallPivotingConfig}
 use Rattle.domain.specs.declared.Refusal.{Refusal}
-use Rattle.domain.proofs.Accepted.{accepted-reconstruct}
+use Rattle.domain.proofs.Accepted.{cloud-finite, accepted-reconstruct}
+use Rattle.points.specs.Points.{pointAt}
+use Rattle.spatial_hash.specs.Near.{Finite}
 use Rattle.patch.specs.Shape.{Shape}
 use Rattle.ball_pivoting.specs.Reconstruct.{radiiOf, laidOf, found, refused, delivered, reconstructed, swept, facesAfter}
 use Rattle.ball_pivoting.specs.Outcome.{Reconstructs}
@@ -40,12 +42,20 @@ reconstruct-early points normals s words floats = refusal-early _ (omega arith, 
 
 -- ---- what the checks leave
 
+cloud-numbers : {n : ℕ} {points : List Float} → Cloud n points → (i : ℕ) → i < n → Finite (pointAt points i)
+unfolding pointAt
+cloud-numbers cloud i h = record {
+  x-finite = cloud-finite cloud (3 * i) (omega (arith, cloud .threes));
+  y-finite = cloud-finite cloud (3 * i + 1) (omega (arith, cloud .threes));
+  z-finite = cloud-finite cloud (3 * i + 2) (omega (arith, cloud .threes));
+}
+
 pub ready-of : (c : BallPivotingConfig) (points normals : List Float) (words : List ℕ) (floats : List Float) → reconstructRefusal points normals c (length words) (length floats) .answer ≡ 0
     → Ready c points words floats
 ready-of c points normals words floats e =
     let a = accepted-reconstruct points normals c (length words) (length floats) e in
     record {
-      sized = record { some = a .cloud .some; few = a .cloud .few; threes = a .cloud .threes; words-enough = a .room .words-enough };
+      sized = record { some = a .cloud .some; few = a .cloud .few; threes = a .cloud .threes; numbers = cloud-numbers (a .cloud); words-enough = a .room .words-enough };
       floats-enough = a .room .floats-enough;
       percentiles = a .settled .percentiles .few;
       additional = a .settled .additional .few;

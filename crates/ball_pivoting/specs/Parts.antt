@@ -4,6 +4,8 @@ use mathlib.Core.Path.{_≡_}
 use mathlib.Core.List.{List}
 use lib.ListN.{length}
 use lib.Ieee.{Float}
+use Rattle.points.specs.Points.{pointAt}
+use Rattle.spatial_hash.specs.Near.{Finite}
 use Rattle.domain.specs.declared.BallPivotingConfig.{BallPivotingConfig}
 use Rattle.patch.specs.View.{written}
 use Rattle.radii.specs.Steps.{Listed}
@@ -11,11 +13,12 @@ use Rattle.ball_pivoting.specs.Reconstruct.{Found, pointCount, delivered
 use Rattle.ball_pivoting.specs.declared.Finding.{Finding}
 use Rattle.ball_pivoting.specs.declared.Patch.{Patch}
 
--- a cloud, and a work slice for it
+-- a cloud whose coordinates are numbers, and a work slice for it
 pub record Sized (points : List Float) (words : List ℕ) : Type 0 where
   pub some : 0 < pointCount points
   pub few : pointCount points ≤ 4096
   pub threes : length points ≡ 3 * pointCount points
+  pub numbers : (i : ℕ) → i < pointCount points → Finite (pointAt points i)
   pub words-enough : 24 * pointCount points + 64 ≤ length words
 
 -- what the checks leave for the work that follows

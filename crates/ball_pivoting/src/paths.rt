@@ -3,6 +3,7 @@ use crate::Finding;
 use decisions::Scene;
 use domain::BallPivotingConfig;
 use radii::Radii;
+use spatial_hash::Hash;
 ghost use mathlib.Core.Path.{_≡_};
 ghost use mathlib.Core.List.{[]};
 ghost use Prim.Native.Nat.{_/_, _≤_};
@@ -14,22 +15,33 @@ ghost use Rattle.radii.specs.Steps.{Listed};
 ghost use Rattle.ball_pivoting.specs.Reconstruct.{sceneOf, radiiOf, laid, plainly, found};
 ghost use Rattle.ball_pivoting.specs.Parts.{Sized, Ready, Finds};
 
-// The cloud's points, indexed.
-fn index_points(points: &[f32], settings: BallPivotingConfig, words: &mut [u32]) -> Scene
+// The cloud's points, indexed and hashed.
+pub struct Site {
+    pub scene: Scene,
+    pub hash: Hash,
+}
+
+// Indexes and hashes the cloud's points.
+fn index_points(points: &[f32], settings: BallPivotingConfig, words: &mut [u32]) -> Site
     requires { ⌜ Sized (now points) (now words) ⌝ }
-    ensures { λ r. ⌜ (r ≡ sceneOf settings (now (points .entry))) × Ground r (now (points .entry)) (now (words .exit)) ⌝ }
+    ensures { λ r. ⌜ (r .scene ≡ sceneOf settings (now (points .entry))) × Ground (r .scene) (r .hash) (now (points .entry)) (now (words .exit)) ⌝ }
 {
     let n = points.len() / 3;
     let indexed = settings.use_spatial_index;
     let size = settings.radius * settings.spatial_cell_factor;
     let grid = grid::build_spatial_grid(points, n, size, indexed, words);
-    Scene {
+    let hash = spatial_hash::build(points, n, settings.radius, words);
+    let scene = Scene {
         n: n,
         indexed: indexed,
         grid: grid,
         min_triangle_area: settings.min_triangle_area,
         quality_threshold: settings.quality_threshold,
         max_edge_factor: settings.max_edge_factor,
+    };
+    Site {
+        scene: scene,
+        hash: hash,
     }
 }
 
@@ -60,8 +72,9 @@ fn find_pivoting(
     radii: Radii,
     faces: &mut [u32],
     words: &mut [u32],
+    hash: Hash,
 ) -> Finding
-    requires { ⌜ Ground scene (now points) (now words) × Listed (take (radii .count) (radii .list)) radii ⌝ }
+    requires { ⌜ Ground scene hash (now points) (now words) × Listed (take (radii .count) (radii .list)) radii ⌝ }
     ensures { λ r. ⌜ Finds (laid (patch (rulesOf scene (now (points .entry))) heapOf (scene .n) (take (radii .count) (radii .list)))) (take (radii .count) (radii .list)) (now (faces .entry)) r (now (faces .exit)) ⌝ }
 {
     let list = radii.list;
@@ -72,6 +85,7 @@ fn find_pivoting(
         radii.count as usize,
         faces,
         words,
+        hash,
     );
     Finding {
         faces: counts.faces,
@@ -93,10 +107,20 @@ pub fn find(
     requires { ⌜ Ready settings (now points) (now words) (now floats) ⌝ }
     ensures { λ r. ⌜ Finds (found settings (now (points .entry))) (radiiOf settings (now (points .entry))) (now (faces .entry)) r (now (faces .exit)) ⌝ }
 {
-    let scene = index_points(points, settings, words);
-    let radii = radii::compute_adaptive_radii(points, scene.n, settings, scene.grid, words, floats);
+    let site = index_points(points, settings, words);
+    let scene = site.scene;
+    let hash = site.hash;
+    let radii = radii::compute_adaptive_radii(
+        points,
+        scene.n,
+        settings,
+        scene.grid,
+        hash,
+        words,
+        floats,
+    );
     if radii.count == 0 {
         return find_plain(points, settings, radii, faces);
     }
-    find_pivoting(scene, points, radii, faces, words)
+    find_pivoting(scene, points, radii, faces, words, hash)
 }

@@ -1,2 +1,3 @@
 pub mod Within
 pub mod Examples
+pub mod Scores

@@ -1,9 +1,30 @@
--- The definition's answers as the code gives them. Definitions only.
+-- The definition's answers as the code gives them, and what it works out on the way. Definitions only.
+use Prim.Native.Nat.{ℕ}
+use mathlib.Core.Bool.{cond}
+use mathlib.Core.List.{List}
 use mathlib.Core.Option.{Option, none, some}
-use lib.Ieee.{Float}
+use lib.Ieee.{Float, lt}
+use Rattle.triangle.specs.Quality.{area}
+use Rattle.triangle.specs.declared.TriangleQuality.{TriangleQuality}
+use Rattle.points.specs.Points.{pointAt}
+use Rattle.decisions.specs.Decisions.{accepts}
+use Rattle.decisions.specs.declared.Scene.{Scene}
 use Rattle.decisions.specs.declared.Score.{Score}
 use Rattle.decisions.specs.declared.Score.the-variants.{Of, None}
 
 abbrev pub scoreFound : Option Float → Score
 scoreFound none = None
 scoreFound (some x) = Of x
+
+-- a score, if it is above `top`
+unfoldable pub above : Float → Option Float → Option Float
+above top none = none
+above top (some x) = cond (lt top x) (some x) none
+
+-- the area of the triangle of three points
+unfoldable pub areaAt : List Float → ℕ → ℕ → ℕ → Float
+areaAt pts i j k = area (pointAt pts i) (pointAt pts j) (pointAt pts k)
+
+-- the score of a triangle that the settings accept at a radius
+unfoldable pub acceptedScore : Scene → Float → TriangleQuality → Option Float
+acceptedScore s r q = cond (accepts s r q) (some (q .«quality_score»)) none

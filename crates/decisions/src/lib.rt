@@ -5,9 +5,10 @@ use triangle::TriangleQuality;
 ghost use mathlib.Core.Path.{_≡_};
 ghost use Prim.Native.Nat.{_*_, _<_, _+_};
 ghost use lib.ListN.{length};
+ghost use Rattle.triangle.specs.Bound.{qualityOf};
 ghost use Rattle.patch.specs.Lay.{edge};
 ghost use Rattle.decisions.specs.Decisions.{apart, isClose, qualityAt, accepts, completes, halfway, middle, pivotable, scoreAt};
-ghost use Rattle.decisions.specs.Found.{scoreFound};
+ghost use Rattle.decisions.specs.Found.{scoreFound, above, areaAt, acceptedScore};
 
 // What the decisions go by: the number of points, the index and whether it is used, and the thresholds of the settings.
 pub struct Scene {
@@ -26,7 +27,7 @@ pub enum Score {
 }
 
 // How far points i and j are from each other.
-fn apart_at(points: &[f32], i: usize, j: usize) -> f32
+pub fn apart_at(points: &[f32], i: usize, j: usize) -> f32
     requires { ⌜ (3 * i + 2 < length (now points)) × (3 * j + 2 < length (now points)) ⌝ }
     ensures { λ r. ⌜ r ≡ apart (now (points .entry)) i j ⌝ }
 {
@@ -47,6 +48,18 @@ fn quality_at(points: &[f32], i: usize, j: usize, k: usize) -> TriangleQuality
     ensures { λ r. ⌜ r ≡ qualityAt (now (points .entry)) i j k ⌝ }
 {
     triangle::compute_triangle_quality(
+        points::point_at(points, i),
+        points::point_at(points, j),
+        points::point_at(points, k),
+    )
+}
+
+// The area of the triangle of points i, j and k.
+fn area_at(points: &[f32], i: usize, j: usize, k: usize) -> f32
+    requires { ⌜ (3 * i + 2 < length (now points)) × (3 * j + 2 < length (now points)) × (3 * k + 2 < length (now points)) ⌝ }
+    ensures { λ r. ⌜ r ≡ areaAt (now (points .entry)) i j k ⌝ }
+{
+    triangle::area_of(
         points::point_at(points, i),
         points::point_at(points, j),
         points::point_at(points, k),
@@ -95,22 +108,49 @@ pub fn is_pivotable(points: &[f32], radius: f32, a: usize, b: usize) -> bool
     !(d < 1e-10)
 }
 
-// The score of the edge a, b with point k, if k is near enough to both ends and the triangle is acceptable.
-pub fn score_at(s: Scene, points: &[f32], radius: f32, a: usize, b: usize, k: usize) -> Score
-    requires { ⌜ (3 * a + 2 < length (now points)) × (3 * b + 2 < length (now points)) × (3 * k + 2 < length (now points)) ⌝ }
-    ensures { λ r. ⌜ r ≡ scoreFound (scoreAt s (now (points .entry)) radius (edge a b) k) ⌝ }
+// The score of a triangle with edges of lengths a, b and c, if the settings accept it and the score is above `top`.
+// The bound is asked first, since it needs no angle.
+fn score_from(s: Scene, radius: f32, a: f32, b: f32, c: f32, area: f32, top: f32) -> Score
+    ensures { λ r. ⌜ r ≡ scoreFound (above top (acceptedScore s radius (qualityOf a b c area))) ⌝ }
 {
-    if !(apart_at(points, k, a) <= radius) {
+    let shape = triangle::shape_of(a, b, c, area);
+    if triangle::score_bound(shape) <= top {
         return Score::None;
     }
-    if !(apart_at(points, k, b) <= radius) {
+    let q = triangle::quality_of(a, b, c, shape);
+    if !(q.quality_score > top) {
         return Score::None;
     }
-    let q = quality_at(points, a, b, k);
     if !is_accepted(s, radius, q) {
         return Score::None;
     }
     Score::Of(q.quality_score)
+}
+
+// The score of the edge a, b with point k, if k is near enough to both ends, the triangle is acceptable and the score is above `top`.
+// `side` is the edge's length.
+pub fn score_above(
+    s: Scene,
+    points: &[f32],
+    radius: f32,
+    a: usize,
+    b: usize,
+    k: usize,
+    side: f32,
+    top: f32,
+) -> Score
+    requires { ⌜ (3 * a + 2 < length (now points)) × (3 * b + 2 < length (now points)) × (3 * k + 2 < length (now points)) × (side ≡ apart (now points) b a) ⌝ }
+    ensures { λ r. ⌜ r ≡ scoreFound (above top (scoreAt s (now (points .entry)) radius (edge a b) k)) ⌝ }
+{
+    let to_a = apart_at(points, k, a);
+    if !(to_a <= radius) {
+        return Score::None;
+    }
+    let to_b = apart_at(points, k, b);
+    if !(to_b <= radius) {
+        return Score::None;
+    }
+    score_from(s, radius, side, to_b, to_a, area_at(points, a, b, k), top)
 }
 
 // Whether k is near enough to i and j and makes an acceptable triangle with them.

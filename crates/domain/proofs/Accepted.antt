@@ -1,14 +1,16 @@
 -- What holds of a call's arguments once its checks have passed. Assumes nothing.
-use mathlib.Core.Path.{_≡_, refl}
+use mathlib.Core.Path.{_≡_, refl, sym, subst}
 use mathlib.Core.Bool.{Bool, true, false}
 use mathlib.Core.List.{List, [], _∷_}
 use Prim.Native.Nat.{ℕ, suc, _/_, _%_, _≤_, _<_, min}
 use native.Mathlib.Nat.{min-le-left, min-le-right}
 use native.Mathlib.Omega.{arith}
-use lib.ListN.{length}
-use lib.Ieee.{Float, neg}
+use lib.Dec.{T}
+use lib.ListN.{length, getD}
+use lib.Ieee.{Float, nan, inf, fin, le, neg, ofBits}
+use lib.Ieee.Scale.{finite}
 use borrow.Author.Tests.{leb-true, eqb-true}
-use Rattle.domain.specs.Range.{leading, listInside, firstOutside, farthest, largest, percentileInside}
+use Rattle.domain.specs.Range.{inside, leading, listInside, firstOutside, farthest, largest, percentileInside}
 use Rattle.domain.specs.Settings.{firstFailing, settingTests, firstBadSetting}
 use Rattle.domain.specs.Refusals.{check, pointCheck, settingCheck, roomy, firstBadPoint, estimateRefusal, reconstructRefusal}
 use Rattle.domain.specs.Accepted.{Slots, Within, Cloud, Settled, AcceptedEstimate, AcceptedReconstruct}
@@ -26,6 +28,27 @@ all-within bound xs threes none k l =
 pub cloud-of : (points normals : List Float) → Sized (length points) (length normals) → length points / 3 ≤ firstOutside farthest points → Cloud (length points / 3) points
 cloud-of points normals sized none =
     record { some = omega (arith, sized .some, sized .threes); few = sized .few; threes = omega (arith, sized .threes); near = all-within farthest points (sized .threes) none }
+
+-- between two numbers there are only numbers
+between-finite : (lo hi x : Float) → T (finite lo) → T (finite hi) → T (le lo x) → T (le x hi) → T (finite x)
+unfolding le
+between-finite lo hi (fin s m e) f g h k = tt
+between-finite nan hi nan f g h k = f
+between-finite (inf s) hi nan f g h k = f
+between-finite (fin s m e) hi nan f g h k = h
+between-finite nan hi (inf t) f g h k = f
+between-finite (inf s) hi (inf t) f g h k = f
+between-finite (fin s m e) hi (inf true) f g h k = h
+between-finite (fin s m e) nan (inf false) f g h k = k
+between-finite (fin s m e) (inf t) (inf false) f g h k = g
+between-finite (fin s m e) (fin t n d) (inf false) f g h k = k
+
+pub cloud-finite : {n : ℕ} {points : List Float} → Cloud n points → (k : ℕ) → k < length points → T (finite (getD points k nan))
+unfolding inside ofBits neg
+cloud-finite {points = points} cloud k l =
+    let x : Float = getD points k nan in
+    let b = both (le (neg farthest) x) (le x farthest) (cloud .near k l) in
+    between-finite (neg farthest) farthest x tt tt (subst T (sym (b .0)) tt) (subst T (sym (b .1)) tt)
 
 -- ---- settings
 failing-none : (n : ℕ) (passes : Bool) (tests : List Bool) → (n ≡ 0 → ⊥) → firstFailing n (passes ∷ tests) ≡ 0 → (passes ≡ true) × (firstFailing (suc n) tests ≡ 0)

@@ -1,3 +1,5 @@
-pub mod Nearest
+pub mod Least
+pub mod Looking
+pub mod Sampling
 pub mod Outcome
 pub mod Starred

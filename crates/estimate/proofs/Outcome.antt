@@ -2,16 +2,33 @@
 use mathlib.Core.Path.{_≡_, sym, ap, _∙_}
 use mathlib.Core.Bool.{Bool, true, false}
 use mathlib.Core.List.{List}
-use Prim.Native.Nat.{ℕ, _/_}
+use Prim.Native.Nat.{ℕ, _+_, _*_, _/_, _<_}
+use native.Mathlib.Omega.{arith}
 use borrow.Author.Tests.{eq-eqb, ne-eqb}
 use lib.ListN.{length, replicate}
 use lib.Ieee.{Float}
 use Rattle.numbers.specs.Rounded.{f32}
+use Rattle.points.specs.Points.{pointAt}
 use Rattle.domain.specs.declared.Refusal.{Refusal}
 use Rattle.domain.specs.Refusals.{estimateRefusal}
-use Rattle.domain.specs.Accepted.{AcceptedEstimate}
-use Rattle.domain.proofs.Accepted.{accepted-estimate}
+use Rattle.domain.specs.Accepted.{Cloud, Room, AcceptedEstimate}
+use Rattle.domain.proofs.Accepted.{cloud-finite, accepted-estimate}
+use Rattle.spatial_hash.specs.Near.{Ready}
 use Rattle.estimate.specs.Estimate.{optimalRadius, accepted, estimate, estimateOf, clearedIf, Estimated}
+
+-- the points of an accepted cloud can be hashed
+pub cloud-ready : {n : ℕ} (pts : List Float) (w : List ℕ) (floats : ℕ) → Cloud n pts → Room n (length w) floats → Ready pts n w
+unfolding pointAt
+cloud-ready {n} pts w floats cloud room = record {
+  few = cloud .few;
+  points-long = omega (arith, cloud .threes);
+  work-long = room .words-enough;
+  numbers = λ (i : ℕ) (h : i < n). record {
+    x-finite = cloud-finite cloud (3 * i) (omega (arith, cloud .threes));
+    y-finite = cloud-finite cloud (3 * i + 1) (omega (arith, cloud .threes));
+    z-finite = cloud-finite cloud (3 * i + 2) (omega (arith, cloud .threes));
+  };
+}
 
 module _ (pts : List Float) (p : Float) (words : List ℕ) (floats : List Float) where
   abbrev passes : Bool

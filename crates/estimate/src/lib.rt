@@ -1,4 +1,5 @@
 // The radius estimate.
+mod nearest;
 mod samples;
 
 ghost use Rattle.estimate.specs.Estimate.{Estimated};
@@ -28,7 +29,7 @@ pub fn estimate_optimal_radius(
             radius: 0.0,
         };
     }
-    let radius = samples::optimal_radius(points, points.len() / 3, percentile, work_f32);
+    let radius = samples::optimal_radius(points, points.len() / 3, percentile, work_u32, work_f32);
     domain::clear_u32(work_u32);
     domain::clear_f32(work_f32);
     Estimate {

@@ -1,15 +1,15 @@
--- What the index keeps in the u32 work slice: the points' order and their cells. Definitions only.
-use Prim.Native.Nat.{ℕ, zero, suc, _+_, _*_, _≤_, _<_}
+-- What the index keeps in the u32 work slice: the points' cells. Definitions only.
+use Prim.Native.Nat.{ℕ, _+_, _*_, _≤_, _<_}
 use mathlib.Core.Path.{_≡_}
-use mathlib.Core.Bool.{Bool, true, false, cond, not, _||_}
+use mathlib.Core.Bool.{Bool, true, false, cond, not, _&&_, _||_}
 use mathlib.Core.List.{List, [], _∷_}
-use lib.ListN.{length, take, getD}
+use lib.Dec.{ltb}
+use lib.ListN.{length, getD}
 use lib.Ieee.{Float}
 use Rattle.points.specs.Points.{pointAt}
-use Rattle.sorting.specs.Insertion.{insertBefore}
 use Rattle.grid.specs.declared.SpatialGrid.{SpatialGrid}
 use Rattle.grid.specs.declared.Cell.{Cell}
-use Rattle.grid.specs.Grid.{cellOf, before, inRange, orderOf}
+use Rattle.grid.specs.Grid.{cellOf, before, inRange}
 
 -- the cell that is kept for point i: three words, in the region that starts at n
 unfoldable pub cellIn : List ℕ → ℕ → ℕ → Cell
@@ -19,11 +19,10 @@ cellIn w n i = record { x = getD w (n + 3 * i) 0; y = getD w (n + 3 * i + 1) 0; 
 abbrev pub Cells : SpatialGrid → List Float → ℕ → List ℕ → Type 0
 Cells g pts n w = (i : ℕ) → i < n → cellIn w n i ≡ cellOf g (pointAt pts i)
 
--- what `build_spatial_grid` leaves and `find_neighbors` needs
+-- what `build_spatial_grid` leaves and the searches need
 pub record Indexed (g : SpatialGrid) (indexed : Bool) (pts : List Float) (n : ℕ) (w : List ℕ) : Type 0 where
   pub few : n ≤ 4096
   pub room : 24 * n + 64 ≤ length w
-  pub order : take n w ≡ orderOf indexed g pts n
   pub cells : Cells g pts n w
 
 -- ---- the definitions of Grid.antt, over the kept cells
@@ -37,10 +36,9 @@ Below n (j ∷ js) = (j < n) × Below n js
 unfoldable pub precedesIn : List ℕ → ℕ → ℕ → ℕ → Bool
 precedesIn w n i j = before (cellIn w n i) (cellIn w n j)
 
--- the first m points by cell, then by number
-unfoldable pub orderIn : List ℕ → ℕ → ℕ → List ℕ
-orderIn w n zero = []
-orderIn w n (suc m) = insertBefore (precedesIn w n m) m (orderIn w n m)
+-- point i comes before point j: by cell if there is an index, then by number
+unfoldable pub earlier : Bool → (ℕ → Cell) → ℕ → ℕ → Bool
+earlier indexed cell i j = (indexed && before (cell i) (cell j)) || (not (indexed && before (cell j) (cell i)) && ltb i j)
 
 -- those of the points js whose cell lies within the range of a cell; without the index all of them
 unfoldable pub keepIn : Bool → ℕ → Cell → List ℕ → ℕ → List ℕ → List ℕ

@@ -1,7 +1,7 @@
 // The spatial index. Everything that it keeps stands in the u32 work slice, in the regions of the order and of the cells; see specs/Index.antt.
 mod cells;
-mod order;
-mod search;
+pub mod order;
+pub mod search;
 
 use triangle::Point3f;
 ghost use mathlib.Core.Path.{_≡_};
@@ -62,31 +62,5 @@ pub fn build_spatial_grid(
         bounds_min: bounds_min(points, n),
     };
     cells::fill_cells(points, n, grid, w);
-    if indexed {
-        order::by_cell(n, w);
-    } else {
-        order::by_number(n, w);
-    }
     grid
-}
-
-// Writes the numbers of the neighbours of a place at a radius and returns how many there are. The points are those that were indexed.
-pub fn find_neighbors(
-    points: &[f32],
-    w: &mut [u32],
-    n: usize,
-    grid: SpatialGrid,
-    indexed: bool,
-    place: Point3f,
-    radius: f32,
-) -> usize
-    requires { ⌜ Indexed grid indexed (now points) n (now w) ⌝ }
-    ensures { λ r. ⌜ (take r (drop (4 * n) (now (w .exit))) ≡ neighbors indexed grid (now (points .entry)) n place radius)
-        × (r ≤ n)
-        × (take (4 * n) (now (w .exit)) ≡ take (4 * n) (now (w .entry)))
-        × (drop (5 * n) (now (w .exit)) ≡ drop (5 * n) (now (w .entry))) ⌝ }
-{
-    let range = numbers::ceil_cut(radius / grid.cell_size);
-    let cell = cell_of(grid, place);
-    search::write_near(w, n, indexed, range, cell)
 }

@@ -7,7 +7,9 @@ use native.Mathlib.Omega.{arith}
 use lib.ListN.{length, take}
 use lib.Ieee.{Float}
 use Rattle.grid.proofs.Near.{indexed-kept}
+use Rattle.spatial_hash.proofs.Kept.{hashed-behind}
 use Rattle.patch.specs.Lay.{Edge, State}
+use Rattle.spatial_hash.specs.declared.Hash.{Hash}
 use Rattle.decisions.specs.declared.Scene.{Scene}
 use Rattle.search.specs.declared.Seed.{Seed}
 use Rattle.search.specs.declared.Seed.the-variants.{Triangle, Nothing}
@@ -19,17 +21,15 @@ use Rattle.frontier.specs.Work.{Holds, Sized, OnlyIn}
 use Rattle.frontier.proofs.Slices.{after-same, only-wider}
 use Rattle.laying.specs.Laying.{Ground}
 
-pub ground-kept : {s : Scene} {pts : List Float} {w : List ℕ} (u : List ℕ) → Ground s pts w → length u ≡ length w → take (4 * s .n) u ≡ take (4 * s .n) w → Ground s pts u
-ground-kept u g l e = record {
+pub ground-only : {s : Scene} {hash : Hash} {pts : List Float} {w : List ℕ} (u : List ℕ) → Ground s hash pts w → OnlyIn (4 * s .n) (9 * s .n) w u → Ground s hash pts u
+ground-only {s} {hash} {pts} {w} u g o = record {
   some = g .some;
-  held = record { few = g .held .few; points-long = g .held .points-long; work-long = omega (arith, g .held .work-long) };
-  indexed = indexed-kept u (g .indexed) l e;
+  held = record { few = g .held .few; points-long = g .held .points-long; work-long = omega (arith, g .held .work-long, o .length-same) };
+  indexed = indexed-kept u (g .indexed) (o .length-same) (o .before);
+  hashed = hashed-behind hash pts (s .n) (9 * s .n) w u (omega arith) (o .after) (o .length-same) (g .hashed);
 }
 
-pub ground-only : {s : Scene} {pts : List Float} {w : List ℕ} (u : List ℕ) → Ground s pts w → OnlyIn (4 * s .n) (9 * s .n) w u → Ground s pts u
-ground-only u g o = ground-kept u g (o .length-same) (o .before)
-
-pub sized : {s : Scene} {pts : List Float} {w : List ℕ} → Ground s pts w → Sized (s .n) w
+pub sized : {s : Scene} {hash : Hash} {pts : List Float} {w : List ℕ} → Ground s hash pts w → Sized (s .n) w
 sized g = record { some = g .some; few = g .held .few; long = g .held .work-long }
 
 -- what the parts of a step change
@@ -43,6 +43,9 @@ module _ {s : Scene} {w : List ℕ} (u : List ℕ) (k : Kept s w u) (l : length 
 
   pub search-only : OnlyIn (4 * s .n) (9 * s .n) w u
   search-only = only-wider (4 * s .n) (9 * s .n) (omega arith) (omega arith) neighbors-only
+
+  pub ground-searched : {hash : Hash} {pts : List Float} → Ground s hash pts w → Ground s hash pts u
+  ground-searched g = ground-only u g search-only
 
   pub holds-kept : {lent : List ℕ} {t : State} {c : Counts} {slice : List ℕ} → Holds (s .n) lent t c w slice → Holds (s .n) lent t c u slice
   holds-kept {lent} {t} {c} {slice} h = record {

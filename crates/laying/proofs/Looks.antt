@@ -11,6 +11,7 @@ use Rattle.patch.specs.Frontier.{heapOf}
 use Rattle.patch.specs.View.{decode}
 use Rattle.patch.proofs.Inv.{Inv}
 use Rattle.patch.proofs.Laying.{room}
+use Rattle.spatial_hash.specs.declared.Hash.{Hash}
 use Rattle.decisions.specs.declared.Scene.{Scene}
 use Rattle.frontier.specs.declared.Counts.{Counts}
 use Rattle.frontier.specs.Work.{entryOf, Holds, Pops, Tells, Ready, OnlyIn}
@@ -21,7 +22,7 @@ use Rattle.laying.specs.Laying.{pivotOver, looked, Lays, Opened, Standin
 use Rattle.laying.proofs.Kept.{step-only, ground-only, sized, Waiting, waiting}
 use Rattle.laying.proofs.Pivots.{entry-below, looked-skip, looked-open}
 
-module _ {s : Scene} {pts : List Float} (r : Float) {c : Counts} {w slice : List ℕ} (st : Standing s pts c w slice) (some-wait : 0 < c .frontier) where
+module _ {s : Scene} {hash : Hash} {pts : List Float} (r : Float) {c : Counts} {w slice : List ℕ} (st : Standing s hash pts c w slice) (some-wait : 0 < c .frontier) where
   pub pop-ready : Ready (s .n) c w
   pop-ready = ready (s .n) (st .lent) (st .state) c w slice (sized (st .ground)) (st .holds) (room (s .n) (st .state) (st .inv))
 
@@ -73,7 +74,7 @@ module _ {s : Scene} {pts : List Float} (r : Float) {c : Counts} {w slice : List
       only = step-only (s .n) only;
     }
 
-    pub pivoting : seen ≡ false → Pivoting s pts next u slice (decode entry)
+    pub pivoting : seen ≡ false → Pivoting s hash pts next u slice (decode entry)
     pivoting b = record {
       ground = ground-only u (st .ground) (step-only (s .n) only);
       lent = st .lent;

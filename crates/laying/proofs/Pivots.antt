@@ -17,6 +17,7 @@ use Rattle.patch.proofs.Laying.{Room as Fits, look-looked}
 use Rattle.patch.proofs.Look.{look-skip, look-pivot, free-v1, free-v2, face-room, popped-below, popped-room, popped-alone}
 use Rattle.patch.proofs.Pops.{heapOf-keeps}
 use Rattle.patch.proofs.Searching.{searching-fair}
+use Rattle.spatial_hash.specs.declared.Hash.{Hash}
 use Rattle.decisions.specs.declared.Scene.{Scene}
 use Rattle.decisions.specs.Decisions.{floatsOf}
 use Rattle.decisions.proofs.Within.{within}
@@ -102,7 +103,7 @@ module _ {n : ℕ} {e : Edge} {t : State} (o : Opened n e t) where
         omega (arith, left-out (λ g. true), count-all (o .before .frontier), count-all rest, face-room n (o .before) (o .inv) k free-before .1)
 
 -- ---- the pivot
-module _ {s : Scene} {pts : List Float} (r : Float) {c : Counts} {w slice : List ℕ} {a b : ℕ} (p : Pivoting s pts c w slice (edge a b)) where
+module _ {s : Scene} {hash : Hash} {pts : List Float} (r : Float) {c : Counts} {w slice : List ℕ} {a b : ℕ} (p : Pivoting s hash pts c w slice (edge a b)) where
   pub edge-below : (a < s .n) × (b < s .n)
   edge-below = entry-below (edge a b) (p .opened .others) (p .opened .before) (p .opened .wait) (p .opened .inv)
 

@@ -13,6 +13,7 @@ use Rattle.patch.proofs.Inv.{Inv}
 use Rattle.patch.proofs.Looks.{clear-inv, seed-inv}
 use Rattle.patch.proofs.Laying.{Rest, room, layAll-rest, blank-rest}
 use Rattle.patch.proofs.Pops.{heapOf-keeps}
+use Rattle.spatial_hash.specs.declared.Hash.{Hash}
 use Rattle.decisions.specs.declared.Scene.{Scene}
 use Rattle.search.specs.declared.Seed.{Seed}
 use Rattle.search.specs.declared.Seed.the-variants.{Triangle, Nothing}
@@ -26,7 +27,7 @@ use Rattle.laying.proofs.Kept.{ground-only, sized, step-only, search-on
 use Rattle.laying.proofs.Pivots.{fair}
 
 -- ---- one radius
-module _ {s : Scene} {pts : List Float} (r : Float) {c : Counts} {w slice : List ℕ} (st : Resting s pts c w slice) {blank-counts : Counts} (clears : Clears c blank-counts)
+module _ {s : Scene} {hash : Hash} {pts : List Float} (r : Float) {c : Counts} {w slice : List ℕ} (st : Resting s hash pts c w slice) {blank-counts : Counts} (clears : Clears c blank-counts)
     {found : Seed} {u : List ℕ} (is : found ≡ seedFound (rulesOf s pts .seedOf r (usedIn s w))) (kept : Kept s w u) (long : length u ≡ length w) where
   abbrev state : State
   state = st .state
@@ -58,7 +59,7 @@ module _ {s : Scene} {pts : List Float} (r : Float) {c : Counts} {w slice : List
     unfolding cleared
     none-processed t = refl
 
-    ground : Ground s pts u
+    ground : Ground s hash pts u
     ground = ground-only u (st .ground) (search-only u kept long)
 
     no-entry : length (cleared state .frontier) ≡ 0
@@ -81,7 +82,7 @@ module _ {s : Scene} {pts : List Float} (r : Float) {c : Counts} {w slice : List
       seed-holds : (lent : List ℕ) (t : State) → Holds (s .n) lent t c w slice → Holds (s .n) lent (seeded (i, j, k) (cleared t)) after v back
       seed-holds lent t h = takes lent (cleared t) (none-processed t) (begun-holds lent t h)
 
-      pub seed-standing : Standing s pts after v back
+      pub seed-standing : Standing s hash pts after v back
       seed-standing = record {
         ground = ground-only v ground (step-only (s .n) only);
         lent = st .lent;
@@ -106,15 +107,15 @@ layAll-more rules order n [] r t = refl
 layAll-more rules order n (x ∷ rs) r t = layAll-more rules order n rs r (layOne rules order n x t)
 
 -- the first i radii have been laid
-pub record Covering (s : Scene) (pts radii : List Float) (count : ℕ) (lent w₀ : List ℕ) (i : ℕ) (c : Counts) (w slice : List ℕ) : Type 0 where
+pub record Covering (s : Scene) (hash : Hash) (pts radii : List Float) (count : ℕ) (lent w₀ : List ℕ) (i : ℕ) (c : Counts) (w slice : List ℕ) : Type 0 where
   pub inside : i ≤ count
-  pub ground : Ground s pts w
+  pub ground : Ground s hash pts w
   pub holds : Holds (s .n) lent (layAll (rulesOf s pts) heapOf (s .n) (take i radii) (blank (s .n))) c w slice
   pub words : length w ≡ length w₀
   pub face-words : length slice ≡ length lent
 
-module _ {s : Scene} {pts radii : List Float} {count : ℕ} {lent w₀ : List ℕ} where
-  pub cover-start : {w : List ℕ} {c : Counts} → Ground s pts w → Begins (s .n) c w₀ → OnlyIn (5 * s .n) (6 * s .n) w w₀ → Covering s pts radii count lent w₀ 0 c w₀ lent
+module _ {s : Scene} {hash : Hash} {pts radii : List Float} {count : ℕ} {lent w₀ : List ℕ} where
+  pub cover-start : {w : List ℕ} {c : Counts} → Ground s hash pts w → Begins (s .n) c w₀ → OnlyIn (5 * s .n) (6 * s .n) w w₀ → Covering s hash pts radii count lent w₀ 0 c w₀ lent
   unfolding layAll
   cover-start {w} {c} g begins only = record {
     inside = omega arith;
@@ -124,11 +125,11 @@ module _ {s : Scene} {pts radii : List Float} {count : ℕ} {lent w₀ : List �
     face-words = refl;
   }
 
-  module _ {i : ℕ} {c : Counts} {w slice : List ℕ} (so-far : Covering s pts radii count lent w₀ i c w slice) where
+  module _ {i : ℕ} {c : Counts} {w slice : List ℕ} (so-far : Covering s hash pts radii count lent w₀ i c w slice) where
     at-rest : Rest (s .n) (layAll (rulesOf s pts) heapOf (s .n) (take i radii) (blank (s .n)))
     at-rest = layAll-rest (s .n) (rulesOf s pts) heapOf (fair s pts) heapOf-keeps (take i radii) (blank (s .n)) (blank-rest (s .n))
 
-    pub resting : Resting s pts c w slice
+    pub resting : Resting s hash pts c w slice
     resting = record {
       ground = so-far .ground;
       lent = lent;
@@ -138,7 +139,7 @@ module _ {s : Scene} {pts radii : List Float} {count : ℕ} {lent w₀ : List �
     }
 
     pub cover-step : (d : Float) {after : Counts} {v back : List ℕ} → i < count → i < length radii → Lays (s .n) (Rest (s .n)) (layOne (rulesOf s pts) heapOf (s .n) (getD radii i d)) c w slice after v back → length back ≡ length slice
-        → Covering s pts radii count lent w₀ (i + 1) after v back
+        → Covering s hash pts radii count lent w₀ (i + 1) after v back
     cover-step d {after} {v} {back} h g lays face-long =
         let e : i + 1 ≡ suc i = omega arith in
         let one-more : take (i + 1) radii ≡ take i radii ++ (getD radii i d ∷ []) = ap (λ (m : ℕ). take m radii) e ∙ take-suc radii i d g in

@@ -10,6 +10,7 @@ use Rattle.patch.specs.Frontier.{heapOf}
 use Rattle.patch.proofs.Inv.{Inv}
 use Rattle.patch.proofs.Laying.{room, run-idle}
 use Rattle.patch.proofs.Pops.{heapOf-keeps}
+use Rattle.spatial_hash.specs.declared.Hash.{Hash}
 use Rattle.decisions.specs.declared.Scene.{Scene}
 use Rattle.frontier.specs.declared.Counts.{Counts}
 use Rattle.frontier.specs.Work.{Holds}
@@ -53,13 +54,13 @@ module _ (s : Scene) (pts : List Float) (r : Float) where
   run-inv (suc m) t inv = run-inv m (looked s pts r t) (looked-inv t inv)
 
 -- ---- a look leads from one state between two looks to the next
-pub record Stepped (s : Scene) (pts : List Float) (c : Counts) (r : Counts) (u back : List ℕ) : Type 0 where
-  pub standing : Standing s pts r u back
+pub record Stepped (s : Scene) (hash : Hash) (pts : List Float) (c : Counts) (r : Counts) (u back : List ℕ) : Type 0 where
+  pub standing : Standing s hash pts r u back
   pub one-look : r .looks ≡ c .looks + 1
   pub few : c .looks < 3 * s .n
 
-module _ {s : Scene} {pts : List Float} (r : Float) {c : Counts} {w slice : List ℕ} (st : Standing s pts c w slice) (some-wait : 0 < c .frontier) where
-  pub stepped : {after : Counts} {u back : List ℕ} → Lays (s .n) (Inv (s .n)) (looked s pts r) c w slice after u back → Stepped s pts c after u back
+module _ {s : Scene} {hash : Hash} {pts : List Float} (r : Float) {c : Counts} {w slice : List ℕ} (st : Standing s hash pts c w slice) (some-wait : 0 < c .frontier) where
+  pub stepped : {after : Counts} {u back : List ℕ} → Lays (s .n) (Inv (s .n)) (looked s pts r) c w slice after u back → Stepped s hash pts c after u back
   stepped {after} {u} {back} lays =
       let t = st .state in
       let h = st .holds in
@@ -73,14 +74,14 @@ module _ {s : Scene} {pts : List Float} (r : Float) {c : Counts} {w slice : List
       }
 
 -- ---- the loop: the looks so far were those of the definition
-pub record Running (s : Scene) (pts : List Float) (r : Float) (c₀ : Counts) (w₀ slice₀ : List ℕ) (c : Counts) (w slice : List ℕ) : Type 0 where
-  pub standing : Standing s pts c w slice
+pub record Running (s : Scene) (hash : Hash) (pts : List Float) (r : Float) (c₀ : Counts) (w₀ slice₀ : List ℕ) (c : Counts) (w slice : List ℕ) : Type 0 where
+  pub standing : Standing s hash pts c w slice
   pub later : c₀ .looks ≤ c .looks
   pub lays : Lays (s .n) (Inv (s .n)) (run (rulesOf s pts) heapOf r (c .looks - c₀ .looks)) c₀ w₀ slice₀ c w slice
   pub face-words : length slice ≡ length slice₀
 
-module _ {s : Scene} {pts : List Float} {r : Float} {c₀ : Counts} {w₀ slice₀ : List ℕ} where
-  pub run-start : Standing s pts c₀ w₀ slice₀ → Running s pts r c₀ w₀ slice₀ c₀ w₀ slice₀
+module _ {s : Scene} {hash : Hash} {pts : List Float} {r : Float} {c₀ : Counts} {w₀ slice₀ : List ℕ} where
+  pub run-start : Standing s hash pts c₀ w₀ slice₀ → Running s hash pts r c₀ w₀ slice₀ c₀ w₀ slice₀
   unfolding run
   run-start st =
       let e : 0 ≡ c₀ .looks - c₀ .looks = omega arith in
@@ -91,8 +92,8 @@ module _ {s : Scene} {pts : List Float} {r : Float} {c₀ : Counts} {w₀ slice�
         face-words = refl;
       }
 
-  module _ {c : Counts} {w slice : List ℕ} (run : Running s pts r c₀ w₀ slice₀ c w slice) where
-    pub run-step : {after : Counts} {u back : List ℕ} → 0 < c .frontier → Lays (s .n) (Inv (s .n)) (looked s pts r) c w slice after u back → length back ≡ length slice → Running s pts r c₀ w₀ slice₀ after u back
+  module _ {c : Counts} {w slice : List ℕ} (run : Running s hash pts r c₀ w₀ slice₀ c w slice) where
+    pub run-step : {after : Counts} {u back : List ℕ} → 0 < c .frontier → Lays (s .n) (Inv (s .n)) (looked s pts r) c w slice after u back → length back ≡ length slice → Running s hash pts r c₀ w₀ slice₀ after u back
     run-step {after} {u} {back} some-wait lays face-long =
         let t = stepped r (run .standing) some-wait lays in
         let k : ℕ = c .looks - c₀ .looks in

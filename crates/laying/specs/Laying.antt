@@ -12,17 +12,20 @@ use Rattle.patch.specs.Frontier.{heapOf}
 use Rattle.patch.specs.Search.{searching}
 use Rattle.patch.proofs.Inv.{Inv}
 use Rattle.patch.proofs.Laying.{Rest}
+use Rattle.spatial_hash.specs.declared.Hash.{Hash}
+use Rattle.spatial_hash.specs.Near.{Hashed}
 use Rattle.decisions.specs.declared.Scene.{Scene}
 use Rattle.decisions.specs.Decisions.{floatsOf}
 use Rattle.search.specs.Ready.{Held}
 use Rattle.frontier.specs.declared.Counts.{Counts}
 use Rattle.frontier.specs.Work.{Holds, Takes, OnlyIn}
 
--- there are points, the slices are long enough for them, and they are indexed
-pub record Ground (s : Scene) (pts : List Float) (w : List ℕ) : Type 0 where
+-- there are points, the slices are long enough for them, and they are indexed and hashed
+pub record Ground (s : Scene) (hash : Hash) (pts : List Float) (w : List ℕ) : Type 0 where
   pub some : 0 < s .n
   pub held : Held s pts w
   pub indexed : Indexed (s .grid) (s .indexed) pts (s .n) w
+  pub hashed : Hashed hash pts (s .n) w
 
 -- the choices of seeds and pivots
 abbrev pub rulesOf : Scene → List Float → Rules Float
@@ -38,7 +41,7 @@ pivotOver s pts r e t = pivoted e (met e (rulesOf s pts .pivotOf r (t .used) e) 
 abbrev pub looked : Scene → List Float → Float → State → State
 looked s pts r t = next (rulesOf s pts) heapOf r (t .frontier) t
 
--- a function that turns c, w and slice into r, u and back takes the step, from each held state of which `asked` holds, and leaves the index alone
+-- a function that turns c, w and slice into r, u and back takes the step, from each held state of which `asked` holds, and leaves the index and the hash alone
 pub record Lays (n : ℕ) (asked : State → Type 0) (step : State → State) (c : Counts) (w slice : List ℕ) (r : Counts) (u back : List ℕ) : Type 0 where
   pub takes : Takes n asked step c w slice r u back
   pub only : OnlyIn (neighborsAt n) (frontierEnd n) w u
@@ -55,24 +58,24 @@ pub record Opened (n : ℕ) (e : Edge) (t : State) : Type 0 where
 -- ---- what is asked: the counts and the slices hold some state of a laying
 
 -- between two looks
-pub record Standing (s : Scene) (pts : List Float) (c : Counts) (w slice : List ℕ) : Type 0 where
-  pub ground : Ground s pts w
+pub record Standing (s : Scene) (hash : Hash) (pts : List Float) (c : Counts) (w slice : List ℕ) : Type 0 where
+  pub ground : Ground s hash pts w
   pub lent : List ℕ
   pub state : State
   pub inv : Inv (s .n) state
   pub holds : Holds (s .n) lent state c w slice
 
 -- between two radii
-pub record Resting (s : Scene) (pts : List Float) (c : Counts) (w slice : List ℕ) : Type 0 where
-  pub ground : Ground s pts w
+pub record Resting (s : Scene) (hash : Hash) (pts : List Float) (c : Counts) (w slice : List ℕ) : Type 0 where
+  pub ground : Ground s hash pts w
   pub lent : List ℕ
   pub state : State
   pub rest : Rest (s .n) state
   pub holds : Holds (s .n) lent state c w slice
 
 -- within a look, before the pivot over e
-pub record Pivoting (s : Scene) (pts : List Float) (c : Counts) (w slice : List ℕ) (e : Edge) : Type 0 where
-  pub ground : Ground s pts w
+pub record Pivoting (s : Scene) (hash : Hash) (pts : List Float) (c : Counts) (w slice : List ℕ) (e : Edge) : Type 0 where
+  pub ground : Ground s hash pts w
   pub lent : List ℕ
   pub state : State
   pub opened : Opened (s .n) e state

@@ -3,6 +3,7 @@ use decisions::Scene;
 use frontier::Counts;
 use search::Pivot;
 use search::Seed;
+use spatial_hash::Hash;
 ghost use Prim.Native.Nat.{_*_, _≤_, _<_};
 ghost use lib.ListN.{take};
 ghost use Rattle.patch.specs.Lay.{edge, run, layOne, patch};
@@ -22,11 +23,12 @@ fn pivot_over(
     c: Counts,
     a: u32,
     b: u32,
+    hash: Hash,
 ) -> Counts
-    requires { ⌜ Pivoting s (now points) c (now w) (now faces) (edge a b) ⌝ }
+    requires { ⌜ Pivoting s hash (now points) c (now w) (now faces) (edge a b) ⌝ }
     ensures { λ r. ⌜ Lays (s .n) (Opened (s .n) (edge a b)) (pivotOver s (now (points .entry)) radius (edge a b)) c (now (w .entry)) (now (faces .entry)) r (now (w .exit)) (now (faces .exit)) ⌝ }
 {
-    let found = search::try_ball_pivot(s, points, w, radius, a as usize, b as usize);
+    let found = search::try_ball_pivot(s, points, w, radius, a as usize, b as usize, hash);
     match found {
         Pivot::To(k) => frontier::lay_pivot(faces, w, s.n, c, a, b, k as u32),
         Pivot::Nowhere => frontier::miss(c),
@@ -41,8 +43,9 @@ fn look(
     w: &mut [u32],
     radius: f32,
     c: Counts,
+    hash: Hash,
 ) -> Counts
-    requires { ⌜ Standing s (now points) c (now w) (now faces) × (0 < c .frontier) ⌝ }
+    requires { ⌜ Standing s hash (now points) c (now w) (now faces) × (0 < c .frontier) ⌝ }
     ensures { λ r. ⌜ Lays (s .n) (Inv (s .n)) (looked s (now (points .entry)) radius) c (now (w .entry)) (now (faces .entry)) r (now (w .exit)) (now (faces .exit)) ⌝ }
 {
     let top = frontier::pop(w, s.n, c);
@@ -52,7 +55,7 @@ fn look(
     }
     let a = top.entry / 4096;
     let b = top.entry % 4096;
-    pivot_over(s, points, faces, w, radius, left, a, b)
+    pivot_over(s, points, faces, w, radius, left, a, b, hash)
 }
 
 // Looks until no entry waits.
@@ -63,13 +66,14 @@ fn run(
     w: &mut [u32],
     radius: f32,
     start: Counts,
+    hash: Hash,
 ) -> Counts
-    requires { ⌜ Standing s (now points) start (now w) (now faces) ⌝ }
+    requires { ⌜ Standing s hash (now points) start (now w) (now faces) ⌝ }
     ensures { λ r. ⌜ Lays (s .n) (Inv (s .n)) (run (rulesOf s (now (points .entry))) heapOf radius (3 * s .n)) start (now (w .entry)) (now (faces .entry)) r (now (w .exit)) (now (faces .exit)) ⌝ }
 {
     let mut c = start;
     while 0 < c.frontier {
-        c = look(s, points, faces, w, radius, c);
+        c = look(s, points, faces, w, radius, c, hash);
     }
     c
 }
@@ -82,16 +86,17 @@ fn lay_one(
     w: &mut [u32],
     radius: f32,
     before: Counts,
+    hash: Hash,
 ) -> Counts
-    requires { ⌜ Resting s (now points) before (now w) (now faces) ⌝ }
+    requires { ⌜ Resting s hash (now points) before (now w) (now faces) ⌝ }
     ensures { λ r. ⌜ Lays (s .n) (Rest (s .n)) (layOne (rulesOf s (now (points .entry))) heapOf (s .n) radius) before (now (w .entry)) (now (faces .entry)) r (now (w .exit)) (now (faces .exit)) ⌝ }
 {
     let c = frontier::clear(before);
-    let seed = search::find_seed_triangle(s, points, w, radius);
+    let seed = search::find_seed_triangle(s, points, w, radius, hash);
     match seed {
         Seed::Triangle(i, j, k) => {
             let first = frontier::lay_seed(faces, w, s.n, c, i as u32, j as u32, k as u32);
-            run(s, points, faces, w, radius, first)
+            run(s, points, faces, w, radius, first, hash)
         }
         Seed::Nothing => c,
     }
@@ -105,14 +110,15 @@ pub fn advanced_ball_pivoting(
     count: usize,
     faces: &mut [u32],
     w: &mut [u32],
+    hash: Hash,
 ) -> Counts
-    requires { ⌜ Ground s (now points) (now w) × (count ≤ 17) ⌝ }
+    requires { ⌜ Ground s hash (now points) (now w) × (count ≤ 17) ⌝ }
     ensures { λ r. ⌜ Holds (s .n) (now (faces .entry)) (patch (rulesOf s (now (points .entry))) heapOf (s .n) (take count radii)) r (now (w .exit)) (now (faces .exit)) ⌝ }
 {
     let mut c = frontier::begin(w, s.n);
     let mut i: usize = 0;
     while i < count {
-        c = lay_one(s, points, faces, w, radii[i], c);
+        c = lay_one(s, points, faces, w, radii[i], c, hash);
         i += 1;
     }
     c

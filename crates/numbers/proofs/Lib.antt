@@ -10,6 +10,8 @@ pub mod RootMonotone
 pub mod RoundedOrder
 pub mod SumOrder
 pub mod ProductOrder
+pub mod QuotientOrder
+pub mod Minimum
 pub mod CutOrder
 pub mod RootExamples
 pub mod Compare

@@ -1,5 +1,5 @@
 -- An f32 product keeps the order in a factor where the other is not below 0 (`mul-monotone`), and a square keeps the order of magnitudes (`square-monotone`, `square-antitone`, `square-beyond`).
--- Assumes nothing.
+-- The square of a difference is the same both ways (`square-turned`). Assumes nothing.
 use mathlib.Core.Path.{_≡_, refl, sym, ap, _∙_, subst}
 use mathlib.Core.Logic.{_⊎_, inl, inr}
 use Prim.Native.Nat.{ℕ, _+_, _*_, _≤_}
@@ -7,7 +7,7 @@ use native.Mathlib.Nat.{add-mul, mul-comm, mul-pos, mul-le-mul, mul-le-mul-right
 use native.Mathlib.Omega.{arith}
 use mathlib.Core.Bool.{Bool, true, false, not, cond}
 use lib.Dec.{T, eqb}
-use lib.Ieee.{Float, nan, inf, fin, binary32, unlike, up, down, round, neg, mul, le, ofBits, isNan}
+use lib.Ieee.{Float, nan, inf, fin, binary32, unlike, up, down, round, neg, add, sub, mul, le, ofBits, isNan}
 use lib.Ieee.Fits.{eq→eqb, up-pos, down-pos}
 use lib.Ieee.Order.{round-mono}
 use lib.Ieee.Scale.{finite}
@@ -133,6 +133,23 @@ square-swap x y f g =
       | inl e ↦ ap (λ (z : Float). z ⊗ z) e
       | inr e ↦ ap (λ (z : Float). z ⊗ z) e ∙ square-neg (y ⊖ x)
     ]
+
+-- the same of all floats
+pub square-turned : (x y : Float) → (x ⊖ y) ⊗ (x ⊖ y) ≡ (y ⊖ x) ⊗ (y ⊖ x)
+square-turned nan nan = refl
+square-turned nan (inf t) = unfold sub add neg mul in refl
+square-turned nan (fin t n d) = unfold sub add neg mul in refl
+square-turned (inf s) nan = unfold sub add neg mul in refl
+square-turned (inf true) (inf true) = refl
+square-turned (inf true) (inf false) = unfold sub add neg mul in refl
+square-turned (inf false) (inf true) = unfold sub add neg mul in refl
+square-turned (inf false) (inf false) = refl
+square-turned (inf true) (fin t n d) = unfold sub add neg mul in refl
+square-turned (inf false) (fin t n d) = unfold sub add neg mul in refl
+square-turned (fin s m e) nan = unfold sub add neg mul in refl
+square-turned (fin s m e) (inf true) = unfold sub add neg mul in refl
+square-turned (fin s m e) (inf false) = unfold sub add neg mul in refl
+square-turned (fin s m e) (fin t n d) = square-swap (fin s m e) (fin t n d) tt tt
 
 -- farther from a on the same side, by a difference
 pub square-beyond : (a h p : Float) → T (finite a) → T (finite h) → T (finite p) → (T (le a h) × T (le h p)) ⊎ (T (le h a) × T (le p h))

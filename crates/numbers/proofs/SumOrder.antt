@@ -1,5 +1,5 @@
 -- f32 sums and differences of finite numbers keep the order, in each argument (`add-monotone`, `sub-monotone`, `sub-antitone`), and a sum of f32 that are not below 0, +infinity included, is at least each of them.
--- Assumes nothing.
+-- Infinities included, a sum keeps the order in its first argument unless it is a NaN (`add-monotone-left`). Assumes nothing.
 use mathlib.Core.Path.{_≡_, refl, sym, ap, _∙_, subst}
 use mathlib.Core.Logic.{_⊎_, inl, inr}
 use Prim.Native.Nat.{ℕ, _+_, _-_, _*_, _≤_, _<_}
@@ -12,7 +12,7 @@ use lib.Ieee.{Float, nan, inf, fin, binary32, up, down, round, neg, sum, add, su
 use lib.Ieee.Scale.{finite}
 use lib.Ieee.Positive.{den, den-pos}
 use Rattle.numbers.specs.Rounded.{f32, _⊕_, _⊖_}
-use Rattle.numbers.proofs.OrderLaws.{plus, minus, plus-mul, minus-mul, side, le→side, of-finite, le-refl, le-right, le-top, finite-number, unsigned, unsigned-le}
+use Rattle.numbers.proofs.OrderLaws.{plus, minus, plus-mul, minus-mul, side, le→side, of-finite, le-refl, le-right, le-top, bottom-le, top-le, finite-number, unsigned, unsigned-le}
 use Rattle.numbers.proofs.RoundedOrder.{Rounds, above, under, round-unsigned, neg-le, rounds-le, rounds-own, rounds-number, nonnegative-minus, rounds-nonnegative, rounds-nonpositive}
 
 -- ---- a sum as a rounding
@@ -199,3 +199,25 @@ add-number (inf s) (inf t) h = (tt, tt)
 add-number (inf s) (fin t n d) h = (tt, tt)
 add-number (fin s m e) (inf t) h = (tt, tt)
 add-number (fin s m e) (fin t n d) h = (tt, tt)
+
+-- ---- the order, infinities included
+
+inf-added : (s : Bool) (u : Float) → T (not (isNan (inf s ⊕ u))) → inf s ⊕ u ≡ inf s
+unfolding add isNan
+inf-added s nan h = absurd h
+inf-added true (inf true) h = refl
+inf-added true (inf false) h = absurd h
+inf-added false (inf true) h = absurd h
+inf-added false (inf false) h = refl
+inf-added s (fin t n d) h = refl
+
+pub add-monotone-left : (x y u : Float) → T (le x y) → T (not (isNan (x ⊕ u))) → T (not (isNan (y ⊕ u))) → T (le (x ⊕ u) (y ⊕ u))
+add-monotone-left nan y u h i j = absurd (unfold le in h)
+add-monotone-left (inf true) y u h i j = rw (inf-added true u i) (bottom-le (y ⊕ u) j)
+add-monotone-left (inf false) y u h i j = subst (λ (w : Float). T (le (inf false ⊕ u) (w ⊕ u))) (sym (top-le y h)) (le-refl (inf false ⊕ u) i)
+add-monotone-left (fin s m e) nan u h i j = absurd (unfold le in h)
+add-monotone-left (fin s m e) (inf true) u h i j = absurd (unfold le in h)
+add-monotone-left (fin s m e) (inf false) u h i j = rw (inf-added false u j) (le-top (fin s m e ⊕ u) i)
+add-monotone-left (fin s m e) (fin t n d) nan h i j = absurd (unfold add isNan in i)
+add-monotone-left (fin s m e) (fin t n d) (inf r) h i j = unfold add in le-refl (inf r) (unfold isNan in tt)
+add-monotone-left (fin s m e) (fin t n d) (fin r k c) h i j = add-monotone (fin s m e) (fin t n d) (fin r k c) (fin r k c) tt tt tt tt h (le-refl (fin r k c) (unfold isNan in tt))

@@ -85,7 +85,7 @@ module _ {A : Type 0} where
   count-all (x ∷ xs) = let ih = count-all xs in omega arith
 
 -- ---- a list of numbers below n, each at most once, is no longer than n
-upto : (n : ℕ) (x : ℕ) → bit (ltb x (suc n)) ≡ bit (ltb x n) + bit (eqb n x)
+pub upto : (n : ℕ) (x : ℕ) → bit (ltb x (suc n)) ≡ bit (ltb x n) + bit (eqb n x)
 upto n x = ⊎-elim
     (λ (t : ltb x n ≡ true). let l = ltb-true x n t in let ne : n ≡ x → ⊥ = λ (q : n ≡ x). omega arith in let g : x < suc n = omega arith in rw (t, lt-ltb x (suc n) g, ne-eqb n x ne))
     (λ (t : ltb x n ≡ false). ⊎-elim

@@ -1,2 +1,3 @@
 pub mod Radii
+pub mod Squares
 pub mod Steps

@@ -1,26 +1,26 @@
 -- What the contracts of the steps cite. Definitions only.
-use Prim.Native.Nat.{ℕ, zero, suc, _+_, _-_, _*_, _≤_, _<_}
+use Prim.Native.Nat.{ℕ, _+_, _-_, _*_, _≤_, _<_}
 use mathlib.Core.Path.{_≡_}
-use mathlib.Core.Bool.{Bool, cond}
-use mathlib.Core.List.{List, [], _∷_, _++_, map}
+use mathlib.Core.Bool.{cond}
+use mathlib.Core.List.{List, [], _∷_, _++_}
 use lib.Dec.{eqb}
 use lib.ListN.{length, take, drop, getD, replicate}
 use lib.Ieee.{Float, nan, lt}
 use Rattle.numbers.specs.Rounded.{f32, _⊖_, _⊗_}
-use Rattle.triangle.specs.Vector.{distance}
-use Rattle.points.specs.Points.{pointAt}
 use Rattle.sorting.specs.Sorted.{insert, percentileOf}
 use Rattle.domain.specs.declared.BallPivotingConfig.{BallPivotingConfig}
 use Rattle.grid.specs.declared.SpatialGrid.{SpatialGrid}
 use Rattle.grid.specs.Index.{Indexed}
+use Rattle.spatial_hash.specs.declared.Hash.{Hash}
+use Rattle.spatial_hash.specs.Near.{Hashed}
 use Rattle.radii.specs.declared.Radii.{Radii}
 use Rattle.radii.specs.Radii.{average}
 
 -- what `compute_adaptive_radii` needs
-pub record Ready (c : BallPivotingConfig) (g : SpatialGrid) (pts : List Float) (n : ℕ) (w : List ℕ) (f : List Float) : Type 0 where
+pub record Ready (c : BallPivotingConfig) (g : SpatialGrid) (h : Hash) (pts : List Float) (n : ℕ) (w : List ℕ) (f : List Float) : Type 0 where
   pub some : 0 < n
-  pub points : 3 * n ≤ length pts
   pub indexed : Indexed g (c .«use_spatial_index») pts n w
+  pub hashed : Hashed h pts n w
   pub room : 4 * n + 64 ≤ length f
   pub percentiles : c .«percentile_count» ≤ 8
   pub additional : c .«additional_count» ≤ 8
@@ -31,10 +31,6 @@ pub record Listed (xs : List Float) (r : Radii) : Type 0 where
   pub counted : r .count ≡ length xs
   pub kept : take (r .count) (r .list) ≡ xs
   pub zeros : drop (r .count) (r .list) ≡ replicate (17 - r .count) (f32 0)
-
--- the least distances from point i, once point j has been looked at
-unfoldable pub withPoint : List Float → ℕ → ℕ → List Float → List Float
-withPoint pts i j kept = cond (eqb j i) kept (take 10 (insert (distance (pointAt pts i) (pointAt pts j)) kept))
 
 -- the densities, once a sample with the least distances ds has been looked at
 unfoldable pub withSample : List Float → List Float → List Float

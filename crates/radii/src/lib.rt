@@ -1,12 +1,15 @@
 // The ball radii, chosen from the cloud's density.
 mod choice;
+mod nearest;
 mod samples;
 
 use domain::BallPivotingConfig;
+use grid::Cell;
 use grid::SpatialGrid;
+use spatial_hash::Hash;
 ghost use mathlib.Core.Path.{_≡_};
-ghost use Prim.Native.Nat.{_+_, _*_, _≤_, _<_};
-ghost use lib.ListN.{length, take, drop};
+ghost use Prim.Native.Nat.{_*_};
+ghost use lib.ListN.{take, drop};
 ghost use Rattle.radii.specs.Radii.{adaptiveRadii};
 ghost use Rattle.radii.specs.Steps.{Ready, Listed};
 
@@ -16,16 +19,24 @@ pub struct Radii {
     pub count: u32,
 }
 
-// The radii for n points that have been indexed.
+// Which points are neighbours: all, or, if they are indexed, those whose cell lies within the range of a cell.
+pub struct Around {
+    pub indexed: bool,
+    pub range: u32,
+    pub cell: Cell,
+}
+
+// The radii for n points that have been indexed and hashed.
 pub fn compute_adaptive_radii(
     points: &[f32],
     n: usize,
     config: BallPivotingConfig,
     grid: SpatialGrid,
+    hash: Hash,
     w: &mut [u32],
     f: &mut [f32],
 ) -> Radii
-    requires { ⌜ Ready config grid (now points) n (now w) (now f) ⌝ }
+    requires { ⌜ Ready config grid hash (now points) n (now w) (now f) ⌝ }
     ensures { λ r. ⌜ Listed (adaptiveRadii config grid (now (points .entry)) n) r
         × (take (4 * n) (now (w .exit)) ≡ take (4 * n) (now (w .entry)))
         × (drop (5 * n) (now (w .exit)) ≡ drop (5 * n) (now (w .entry))) ⌝ }
@@ -36,7 +47,7 @@ pub fn compute_adaptive_radii(
             count: 0,
         };
     }
-    let count = samples::measure(points, n, config, grid, w, f);
+    let count = samples::measure(points, n, config, grid, hash, w, f);
     if count == 0 {
         return Radii {
             list: [0.0; 17],

@@ -9,10 +9,6 @@ pub record Region : Type 0 where
 
 -- ---- the u32 slice
 
--- the points ordered by cell
-abbrev pub orderAt : ℕ → ℕ
-orderAt n = 0
-
 -- the cell of each point, three numbers to a point
 abbrev pub cellsAt : ℕ → ℕ
 cellsAt n = n
@@ -43,8 +39,7 @@ headsAt n = 10 * n
 
 abbrev pub words : ℕ → List Region
 words n =
-    record { start = orderAt n; size = n }
-    ∷ record { start = cellsAt n; size = 3 * n }
+    record { start = cellsAt n; size = 3 * n }
     ∷ record { start = neighborsAt n; size = n }
     ∷ record { start = usedAt n; size = n }
     ∷ record { start = frontierAt n; size = 3 * n }

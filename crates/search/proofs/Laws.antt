@@ -1,7 +1,7 @@
 -- The searches step by step: what each turn of a loop does to the definition. Assumes nothing.
 use Prim.Native.Nat.{ℕ, suc, _+_, _-_, _≤_, _<_}
 use mathlib.Core.Path.{_≡_, refl, sym, ap, _∙_}
-use mathlib.Core.Bool.{Bool, true, false, not, _&&_}
+use mathlib.Core.Bool.{Bool, true, false, not, _&&_, cond}
 use mathlib.Core.List.{List, [], _∷_}
 use mathlib.Core.Option.{Option, none, some}
 use native.Mathlib.Omega.{arith}
@@ -13,7 +13,7 @@ use lib.Ieee.{Float, lt}
 use Rattle.numbers.specs.Rounded.{f32}
 use Rattle.patch.specs.Lay.{Edge}
 use Rattle.patch.specs.Search.{Floats, unused, isSecond, isThird, thirdOf, secondOf, firstOf, scoreOf, bestOf, numbers, searching}
-use Rattle.decisions.specs.Found.{scoreFound}
+use Rattle.decisions.specs.Found.{scoreFound, above}
 use Rattle.decisions.specs.declared.Score.the-variants.{Of, None}
 use Rattle.search.specs.declared.Seed.the-variants.{Triangle, Nothing}
 use Rattle.search.specs.declared.Pivot.the-variants.{Nowhere}
@@ -46,11 +46,11 @@ numbers-end n i h = let e : n - i ≡ 0 = omega arith in ap (λ (m : ℕ). numbe
 
 -- ---- by cases, where the definition goes by cases
 
-chosen : {A : Type 0} (b : Bool) (x y : A) → b ≡ true → elim b as (λ c. A) [ true ↦ x | false ↦ y ] ≡ x
+pub chosen : {A : Type 0} (b : Bool) (x y : A) → b ≡ true → elim b as (λ c. A) [ true ↦ x | false ↦ y ] ≡ x
 chosen true x y h = refl
 chosen false x y h = absurd (let z : _≡_ {A = ℕ} 0 1 = cc in omega arith)
 
-passed : {A : Type 0} (b : Bool) (x y : A) → b ≡ false → elim b as (λ c. A) [ true ↦ x | false ↦ y ] ≡ y
+pub passed : {A : Type 0} (b : Bool) (x y : A) → b ≡ false → elim b as (λ c. A) [ true ↦ x | false ↦ y ] ≡ y
 passed true x y h = absurd (let z : _≡_ {A = ℕ} 0 1 = cc in omega arith)
 passed false x y h = refl
 
@@ -130,45 +130,46 @@ module _ {R : Type 0} (floats : Floats R) (r : R) (used : List ℕ) where
   first-end tries = refl
 
   -- ---- the candidates
-  pub not-met : (e : Edge) (k : ℕ) → (not (eqb k (e .v1)) && (not (eqb k (e .v2)) && unused used k)) ≡ false → None ≡ scoreFound (scoreOf floats r used e k)
-  unfolding scoreOf
-  not-met e k h = ap scoreFound (sym (passed (not (eqb k (e .v1)) && (not (eqb k (e .v2)) && unused used k)) (floats .score r e k) none h))
+  pub not-met : (e : Edge) (k : ℕ) (top : Float) → (not (eqb k (e .v1)) && (not (eqb k (e .v2)) && unused used k)) ≡ false → None ≡ scoreFound (above top (scoreOf floats r used e k))
+  unfolding scoreOf above
+  not-met e k top h = ap (λ (o : Option Float). scoreFound (above top o)) (sym (passed (not (eqb k (e .v1)) && (not (eqb k (e .v2)) && unused used k)) (floats .score r e k) none h))
 
-  pub met : (e : Edge) (k : ℕ) → (not (eqb k (e .v1)) && (not (eqb k (e .v2)) && unused used k)) ≡ true → scoreFound (floats .score r e k) ≡ scoreFound (scoreOf floats r used e k)
+  pub met : (e : Edge) (k : ℕ) (top : Float) → (not (eqb k (e .v1)) && (not (eqb k (e .v2)) && unused used k)) ≡ true → scoreFound (above top (floats .score r e k)) ≡ scoreFound (above top (scoreOf floats r used e k))
   unfolding scoreOf
-  met e k h = ap scoreFound (sym (chosen (not (eqb k (e .v1)) && (not (eqb k (e .v2)) && unused used k)) (floats .score r e k) none h))
+  met e k top h = ap (λ (o : Option Float). scoreFound (above top o)) (sym (chosen (not (eqb k (e .v1)) && (not (eqb k (e .v2)) && unused used k)) (floats .score r e k) none h))
 
-  pub best-none : (e : Edge) (k : ℕ) (ks : List ℕ) (top : Float) (best : Option ℕ) → scoreFound (scoreOf floats r used e k) ≡ None
-      → bestOf floats r used e (k ∷ ks) top best ≡ bestOf floats r used e ks top best
-  unfolding bestOf
-  best-none e k ks top best = go (scoreOf floats r used e k)
+  -- what a score above `top`, or none, leads to
+  abbrev after : Edge → ℕ → List ℕ → Float → Option ℕ → Option Float → Option ℕ
+  after e k ks top best o = elim o as (λ c. Option ℕ) [ none ↦ bestOf floats r used e ks top best | some s ↦ bestOf floats r used e ks s (some k) ]
+
+  best-step : (e : Edge) (k : ℕ) (ks : List ℕ) (top : Float) (best : Option ℕ) → bestOf floats r used e (k ∷ ks) top best ≡ after e k ks top best (above top (scoreOf floats r used e k))
+  unfolding bestOf above
+  best-step e k ks top best = go (scoreOf floats r used e k)
     where
-      go : (o : Option Float) → scoreFound o ≡ None
-          → elim o as (λ c. Option ℕ) [ none ↦ bestOf floats r used e ks top best | some s ↦ elim (lt top s) as (λ c. Option ℕ) [ true ↦ bestOf floats r used e ks s (some k) | false ↦ bestOf floats r used e ks top best ] ] ≡ bestOf floats r used e ks top best
+      turn : (s : Float) (t : Bool) → elim t as (λ c. Option ℕ) [ true ↦ bestOf floats r used e ks s (some k) | false ↦ bestOf floats r used e ks top best ] ≡ after e k ks top best (cond t (some s) none)
+      turn s true = refl
+      turn s false = refl
+
+      go : (o : Option Float)
+          → elim o as (λ c. Option ℕ) [ none ↦ bestOf floats r used e ks top best | some s ↦ elim (lt top s) as (λ c. Option ℕ) [ true ↦ bestOf floats r used e ks s (some k) | false ↦ bestOf floats r used e ks top best ] ] ≡ after e k ks top best (above top o)
+      go none = refl
+      go (some s) = turn s (lt top s)
+
+  pub best-none : (e : Edge) (k : ℕ) (ks : List ℕ) (top : Float) (best : Option ℕ) → scoreFound (above top (scoreOf floats r used e k)) ≡ None
+      → bestOf floats r used e (k ∷ ks) top best ≡ bestOf floats r used e ks top best
+  best-none e k ks top best h = best-step e k ks top best ∙ go (above top (scoreOf floats r used e k)) h
+    where
+      go : (o : Option Float) → scoreFound o ≡ None → after e k ks top best o ≡ bestOf floats r used e ks top best
       go none h = refl
       go (some s) h = absurd (let z : _≡_ {A = ℕ} 0 1 = cc in omega arith)
 
-  -- what a score leads to
-  abbrev after : Edge → ℕ → List ℕ → Float → Option ℕ → Float → Option ℕ
-  after e k ks top best s = elim (lt top s) as (λ c. Option ℕ) [ true ↦ bestOf floats r used e ks s (some k) | false ↦ bestOf floats r used e ks top best ]
-
-  scored : (e : Edge) (k : ℕ) (ks : List ℕ) (top x : Float) (best : Option ℕ) → scoreFound (scoreOf floats r used e k) ≡ Of x
-      → bestOf floats r used e (k ∷ ks) top best ≡ after e k ks top best x
-  unfolding bestOf
-  scored e k ks top x best = go (scoreOf floats r used e k)
-    where
-      go : (o : Option Float) → scoreFound o ≡ Of x
-          → _≡_ {A = Option ℕ} (elim o as (λ c. Option ℕ) [ none ↦ bestOf floats r used e ks top best | some s ↦ after e k ks top best s ]) (after e k ks top best x)
-      go none h = absurd (let z : _≡_ {A = ℕ} 0 1 = cc in omega arith)
-      go (some s) h = let q : s ≡ x = cc in ap (after e k ks top best) q
-
-  pub best-more : (e : Edge) (k : ℕ) (ks : List ℕ) (top x : Float) (best : Option ℕ) → scoreFound (scoreOf floats r used e k) ≡ Of x → lt top x ≡ true
+  pub best-more : (e : Edge) (k : ℕ) (ks : List ℕ) (top x : Float) (best : Option ℕ) → scoreFound (above top (scoreOf floats r used e k)) ≡ Of x
       → bestOf floats r used e (k ∷ ks) top best ≡ bestOf floats r used e ks x (some k)
-  best-more e k ks top x best h g = scored e k ks top x best h ∙ chosen (lt top x) (bestOf floats r used e ks x (some k)) (bestOf floats r used e ks top best) g
-
-  pub best-less : (e : Edge) (k : ℕ) (ks : List ℕ) (top x : Float) (best : Option ℕ) → scoreFound (scoreOf floats r used e k) ≡ Of x → lt top x ≡ false
-      → bestOf floats r used e (k ∷ ks) top best ≡ bestOf floats r used e ks top best
-  best-less e k ks top x best h g = scored e k ks top x best h ∙ passed (lt top x) (bestOf floats r used e ks x (some k)) (bestOf floats r used e ks top best) g
+  best-more e k ks top x best h = best-step e k ks top best ∙ go (above top (scoreOf floats r used e k)) h
+    where
+      go : (o : Option Float) → scoreFound o ≡ Of x → after e k ks top best o ≡ bestOf floats r used e ks x (some k)
+      go none h = absurd (let z : _≡_ {A = ℕ} 0 1 = cc in omega arith)
+      go (some s) h = let q : s ≡ x = cc in ap (λ (y : Float). bestOf floats r used e ks y (some k)) q
 
   pub best-end : (e : Edge) (top : Float) (best : Option ℕ) → bestOf floats r used e [] top best ≡ best
   unfolding bestOf

@@ -1,63 +1,77 @@
 -- What the lent slices hold between the steps of the searches. Assumes nothing.
 use Prim.Native.Nat.{ℕ, suc, _+_, _-_, _*_, _≤_, _<_}
 use mathlib.Core.Path.{_≡_, refl, sym, ap, _∙_, subst}
-use mathlib.Core.Bool.{true, false}
+use mathlib.Core.Logic.{_⊎_}
+use mathlib.Core.Bool.{Bool, true, false}
 use mathlib.Core.List.{List, _∷_}
 use mathlib.Core.Option.{Option, none}
 use native.Mathlib.Omega.{arith}
-use lib.ListN.{length, take, drop, length-drop}
-use lib.Seq.{getD-drop}
-use lib.Ieee.{Float}
+use lib.ListN.{length, take}
+use lib.Ieee.{Float, lt}
 use Rattle.numbers.specs.Rounded.{f32}
 use Rattle.triangle.specs.declared.Point3f.{Point3f}
 use Rattle.points.specs.Points.{pointAt}
 use Rattle.grid.specs.Grid.{neighbors}
 use Rattle.grid.specs.Index.{Indexed, Below}
 use Rattle.grid.proofs.Near.{neighbors-below, indexed-kept}
-use Rattle.grid.proofs.Sequence.{below-word}
+use Rattle.grid.proofs.Sequence.{below-part}
+use Rattle.spatial_hash.specs.declared.Hash.{Hash}
+use Rattle.spatial_hash.specs.Near.{Finite, Hashed}
 use Rattle.patch.specs.Lay.{edge}
 use Rattle.patch.specs.Search.{unused, secondOf, firstOf, bestOf, numbers}
 use Rattle.decisions.specs.declared.Scene.{Scene}
-use Rattle.decisions.specs.Decisions.{reach, middle, around, floatsOf}
+use Rattle.decisions.specs.Decisions.{reach, apart, middle, around, floatsOf}
 use Rattle.search.specs.declared.Seed.{Seed}
 use Rattle.search.specs.declared.Seed.the-variants.{Triangle, Nothing}
 use Rattle.search.specs.Ready.{Held, Listed, Kept, usedIn, listed, seedFound, withFirst}
+use Rattle.search.specs.Narrow.{only, inReach, Nearby, Sought}
+use Rattle.search.proofs.Keeping.{kept-self, kept-on, held-kept, hashed-search}
 use Rattle.search.proofs.Laws.{orElse, numbers-step, numbers-end, else-hit, else-miss, first-tried, first-used, first-spent, first-end}
+use Rattle.search.proofs.LeftOut.{only-below, best-only, second-only, second-thirds, out-of-reach, score-out, second-out, third-out}
 
-pub kept-self : (s : Scene) (w : List ℕ) → Kept s w w
-kept-self s w = record { before = refl; after = refl }
+-- ---- what is listed
 
-pub kept-on : {s : Scene} {w u v : List ℕ} → Kept s w u → Kept s u v → Kept s w v
-kept-on k l = record { before = l .before ∙ k .before; after = l .after ∙ k .after }
-
-pub held-kept : {s : Scene} {pts : List Float} {w : List ℕ} (u : List ℕ) → Held s pts w → length u ≡ length w → Held s pts u
-held-kept u h l = record { few = h .few; points-long = h .points-long; work-long = omega (arith, h .work-long) }
-
--- what `find_neighbors` leaves are points of the cloud
-pub listed-near : (s : Scene) (pts : List Float) (u : List ℕ) (count : ℕ) (p : Point3f) (r : Float) → 24 * s .n + 64 ≤ length u → count ≤ s .n
-    → take count (drop (4 * s .n) u) ≡ neighbors (s .indexed) (s .grid) pts (s .n) p r → Listed s u count
-listed-near s pts u count p r long most e = record {
-  most = most;
-  below = λ (m : ℕ) (h : m < count). subst (λ (k : ℕ). k < s .n) (getD-drop (4 * s .n) u m 0)
-      (below-word (s .n) (drop (4 * s .n) u) count m (subst (λ (l : List ℕ). Below (s .n) l) (sym e) (neighbors-below (s .indexed) (s .grid) pts (s .n) p r)) h (simp length-drop (omega arith)));
+-- points of the cloud
+pub listed-points : {s : Scene} {pts : List Float} {w u : List ℕ} {a count : ℕ} {q : Point3f} {r : Float} → 24 * s .n + 64 ≤ length u → Sought s pts w u a q r count → Listed s u count
+listed-points {s} {pts} {w} {u} {a} {count} {q} {r} long f = record {
+  most = f .most;
+  below = λ (m : ℕ) (h : m < count).
+      let b = only-below (inReach pts (usedIn s w) (pointAt pts a) (f .nearby .limit)) (s .n) (neighbors (s .indexed) (s .grid) pts (s .n) q r) (neighbors-below (s .indexed) (s .grid) pts (s .n) q r) in
+      below-part (s .n) u (4 * s .n) count m (subst (λ (l : List ℕ). Below (s .n) l) (sym (f .nearby .same)) b) h (omega (arith, f .most));
 }
 
+-- whoever was left out is used or too far away
+left-out : {pts : List Float} {used ks js : List ℕ} {a : ℕ} {r : Float} (x : Nearby pts used a r ks js) (k : ℕ) → inReach pts used (pointAt pts a) (x .limit) k ≡ false
+    → (unused used k ≡ false) ⊎ (lt r (apart pts k a) ≡ true)
+left-out {pts} {used} {a = a} {r = r} x k h = out-of-reach pts used r a k (x .limit) (x .limits) h
+
 -- ---- the first point
-pub with-first : (s : Scene) (pts : List Float) (r : Float) (w u : List ℕ) (count i : ℕ) (p : Point3f) → p ≡ pointAt pts i
-    → take count (drop (4 * s .n) u) ≡ neighbors (s .indexed) (s .grid) pts (s .n) p (reach r) → drop (5 * s .n) u ≡ drop (5 * s .n) w
+near-is : (s : Scene) (pts : List Float) (r : Float) (i : ℕ) (p : Point3f) → p ≡ pointAt pts i → neighbors (s .indexed) (s .grid) pts (s .n) p (reach r) ≡ floatsOf s pts .near r i
+unfolding floatsOf around
+near-is s pts r i p e = ap (λ (q : Point3f). neighbors (s .indexed) (s .grid) pts (s .n) q (reach r)) e
+
+pub with-first : (s : Scene) (pts : List Float) (r : Float) (w u : List ℕ) (count i : ℕ) (p : Point3f) → p ≡ pointAt pts i → i < s .n → ((k : ℕ) → k < s .n → Finite (pointAt pts k))
+    → Sought s pts w u i p (reach r) count
     → secondOf (floatsOf s pts) r (usedIn s u) i (listed s u count) (listed s u count) ≡ withFirst (floatsOf s pts) r (usedIn s w) i
-unfolding withFirst floatsOf around
-with-first s pts r w u count i p ep e d =
-    ap (λ (l : List ℕ). secondOf (floatsOf s pts) r (take (s .n) l) i (listed s u count) (listed s u count)) d
-    ∙ ap (λ (l : List ℕ). secondOf (floatsOf s pts) r (usedIn s w) i l l) (e ∙ ap (λ (q : Point3f). neighbors (s .indexed) (s .grid) pts (s .n) q (reach r)) ep)
+unfolding withFirst
+with-first s pts r w u count i p ep hi finite f =
+    let ks : List ℕ = neighbors (s .indexed) (s .grid) pts (s .n) p (reach r) in
+    let test : ℕ → Bool = inReach pts (usedIn s w) (pointAt pts i) (f .nearby .limit) in
+    let below = neighbors-below (s .indexed) (s .grid) pts (s .n) p (reach r) in
+    ap (λ (l : List ℕ). secondOf (floatsOf s pts) r (take (s .n) l) i (listed s u count) (listed s u count)) (f .kept .after)
+    ∙ ap (λ (l : List ℕ). secondOf (floatsOf s pts) r (usedIn s w) i l l) (f .nearby .same)
+    ∙ second-only (floatsOf s pts) r (usedIn s w) test (s .n) i (λ j h t. second-out s pts r (usedIn s w) i j (finite i hi) (finite j h) (left-out (f .nearby) j t)) (only test ks) ks below
+    ∙ second-thirds (floatsOf s pts) r (usedIn s w) test (s .n) i (λ j k h t. third-out s pts r (usedIn s w) i k (finite i hi) (finite k h) j (left-out (f .nearby) k t)) ks below ks
+    ∙ ap (λ (l : List ℕ). secondOf (floatsOf s pts) r (usedIn s w) i l l) (near-is s pts r i p ep)
 
 -- what is found from the points is, so many of the unused ones being tried
 abbrev firsts : Scene → List Float → Float → List ℕ → List ℕ → ℕ → Option (ℕ × ℕ × ℕ)
 firsts s pts r w is left = firstOf (floatsOf s pts) r (usedIn s w) is left
 
 -- the points below i have been tried, `left` more unused ones may be
-pub record Seeking (s : Scene) (pts : List Float) (r : Float) (w₀ w : List ℕ) (left i : ℕ) : Type 0 where
+pub record Seeking (s : Scene) (pts : List Float) (r : Float) (hash : Hash) (w₀ w : List ℕ) (left i : ℕ) : Type 0 where
   pub held : Held s pts w
+  pub hashed : Hashed hash pts (s .n) w
   pub indexed : Indexed (s .grid) (s .indexed) pts (s .n) w
   pub kept : Kept s w₀ w
   pub same : length w ≡ length w₀
@@ -65,13 +79,13 @@ pub record Seeking (s : Scene) (pts : List Float) (r : Float) (w₀ w : List ℕ
   pub inside : i ≤ s .n
   pub rest : firsts s pts r w₀ (numbers (s .n) 0) 1000 ≡ firsts s pts r w₀ (numbers (s .n - i) i) left
 
-module _ {s : Scene} {pts : List Float} {r : Float} {w₀ : List ℕ} where
-  pub seek-start : Held s pts w₀ → Indexed (s .grid) (s .indexed) pts (s .n) w₀ → Seeking s pts r w₀ w₀ 1000 0
-  seek-start h x =
+module _ {s : Scene} {pts : List Float} {r : Float} {hash : Hash} {w₀ : List ℕ} where
+  pub seek-start : Held s pts w₀ → Indexed (s .grid) (s .indexed) pts (s .n) w₀ → Hashed hash pts (s .n) w₀ → Seeking s pts r hash w₀ w₀ 1000 0
+  seek-start h x d =
       let e : s .n ≡ s .n - 0 = omega arith in
-      record { held = h; indexed = x; kept = kept-self s w₀; same = refl; most = omega arith; inside = omega arith; rest = ap (λ (m : ℕ). firsts s pts r w₀ (numbers m 0) 1000) e }
+      record { held = h; hashed = d; indexed = x; kept = kept-self s w₀; same = refl; most = omega arith; inside = omega arith; rest = ap (λ (m : ℕ). firsts s pts r w₀ (numbers m 0) 1000) e }
 
-  module _ {w : List ℕ} {left i : ℕ} (k : Seeking s pts r w₀ w left i) where
+  module _ {w : List ℕ} {left i : ℕ} (k : Seeking s pts r hash w₀ w left i) where
     abbrev on : List ℕ
     on = numbers (s .n - (i + 1)) (i + 1)
 
@@ -91,9 +105,10 @@ module _ {s : Scene} {pts : List Float} {r : Float} {w₀ : List ℕ} where
     used-is : usedIn s w ≡ usedIn s w₀
     used-is = ap (take (s .n)) (k .kept .after)
 
-    pub seek-used : i < s .n → (left ≡ 0 → ⊥) → unused (usedIn s w) i ≡ false → Seeking s pts r w₀ w left (i + 1)
+    pub seek-used : i < s .n → (left ≡ 0 → ⊥) → unused (usedIn s w) i ≡ false → Seeking s pts r hash w₀ w left (i + 1)
     seek-used h ne t = record {
       held = k .held;
+      hashed = k .hashed;
       indexed = k .indexed;
       kept = k .kept;
       same = k .same;
@@ -116,9 +131,10 @@ module _ {s : Scene} {pts : List Float} {r : Float} {w₀ : List ℕ} where
     seek-hit {a} {b} {c} h ne t e f = sym (ap seedFound (tried h ne t) ∙ else-hit (withFirst (floatsOf s pts) r (usedIn s w₀) i) (firsts s pts r w₀ on (left - 1)) a b c (found-is e f))
 
     pub seek-miss : {found : Seed} (v : List ℕ) → i < s .n → (left ≡ 0 → ⊥) → unused (usedIn s w) i ≡ true
-        → found ≡ seedFound (withFirst (floatsOf s pts) r (usedIn s w) i) → found ≡ Nothing → Kept s w v → length v ≡ length w → Seeking s pts r w₀ v (left - 1) (i + 1)
+        → found ≡ seedFound (withFirst (floatsOf s pts) r (usedIn s w) i) → found ≡ Nothing → Kept s w v → length v ≡ length w → Seeking s pts r hash w₀ v (left - 1) (i + 1)
     seek-miss v h ne t e f kv l = record {
       held = held-kept v (k .held) l;
+      hashed = hashed-search {s = s} v (k .hashed) l kv;
       indexed = indexed-kept v (k .indexed) l (kv .before);
       kept = kept-on (k .kept) kv;
       same = l ∙ k .same;
@@ -128,10 +144,11 @@ module _ {s : Scene} {pts : List Float} {r : Float} {w₀ : List ℕ} where
     }
 
 -- ---- the candidates
-pub around-is : (s : Scene) (pts : List Float) (r : Float) (w u : List ℕ) (count a b : ℕ) (p q m : Point3f) → p ≡ pointAt pts a → q ≡ pointAt pts b → m ≡ middle p q
-    → take count (drop (4 * s .n) u) ≡ neighbors (s .indexed) (s .grid) pts (s .n) m r → drop (5 * s .n) u ≡ drop (5 * s .n) w
+pub around-is : (s : Scene) (pts : List Float) (r : Float) (w u : List ℕ) (count a b : ℕ) (p q m : Point3f) → p ≡ pointAt pts a → q ≡ pointAt pts b → m ≡ middle p q → Sought s pts w u a m r count
     → bestOf (floatsOf s pts) r (usedIn s u) (edge a b) (listed s u count) (f32 0) none ≡ bestOf (floatsOf s pts) r (usedIn s w) (edge a b) (floatsOf s pts .around r (edge a b)) (f32 0) none
 unfolding floatsOf around
-around-is s pts r w u count a b p q m ep eq em e d =
-    ap (λ (l : List ℕ). bestOf (floatsOf s pts) r (take (s .n) l) (edge a b) (listed s u count) (f32 0) none) d
-    ∙ ap (λ (l : List ℕ). bestOf (floatsOf s pts) r (usedIn s w) (edge a b) l (f32 0) none) (e ∙ ap (λ (t : Point3f). neighbors (s .indexed) (s .grid) pts (s .n) t r) (em ∙ ap (λ (t : Point3f). middle t q) ep ∙ ap (middle (pointAt pts a)) eq))
+around-is s pts r w u count a b p q m ep eq em f =
+    ap (λ (l : List ℕ). bestOf (floatsOf s pts) r (take (s .n) l) (edge a b) (listed s u count) (f32 0) none) (f .kept .after)
+    ∙ ap (λ (l : List ℕ). bestOf (floatsOf s pts) r (usedIn s w) (edge a b) l (f32 0) none) (f .nearby .same)
+    ∙ best-only (floatsOf s pts) r (usedIn s w) (inReach pts (usedIn s w) (pointAt pts a) (f .nearby .limit)) (edge a b) (λ k t. score-out s pts r (usedIn s w) a b k (left-out (f .nearby) k t)) (neighbors (s .indexed) (s .grid) pts (s .n) m r) (f32 0) none
+    ∙ ap (λ (t : Point3f). bestOf (floatsOf s pts) r (usedIn s w) (edge a b) (neighbors (s .indexed) (s .grid) pts (s .n) t r) (f32 0) none) (em ∙ ap (λ (t : Point3f). middle t q) ep ∙ ap (middle (pointAt pts a)) eq)

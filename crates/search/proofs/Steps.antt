@@ -6,12 +6,12 @@ use mathlib.Core.List.{List, [], _∷_}
 use mathlib.Core.Option.{Option, none, some}
 use native.Mathlib.Omega.{arith}
 use lib.ListN.{length, drop, getD}
-use lib.Ieee.{Float, lt}
+use lib.Ieee.{Float}
 use Rattle.numbers.specs.Rounded.{f32}
 use Rattle.patch.specs.Lay.{edge}
 use Rattle.patch.specs.Search.{isThird, thirdOf, secondOf, scoreOf, bestOf}
 use Rattle.decisions.specs.Decisions.{floatsOf}
-use Rattle.decisions.specs.Found.{scoreFound}
+use Rattle.decisions.specs.Found.{scoreFound, above}
 use Rattle.decisions.specs.declared.Scene.{Scene}
 use Rattle.decisions.specs.declared.Score.{Score}
 use Rattle.decisions.specs.declared.Score.the-variants.{Of, None}
@@ -20,7 +20,7 @@ use Rattle.search.specs.declared.Seed.the-variants.{Triangle, Nothing}
 use Rattle.search.specs.declared.Pivot.{Pivot}
 use Rattle.search.specs.declared.Pivot.the-variants.{To, Nowhere}
 use Rattle.search.specs.Ready.{Held, Listed, usedIn, listed, seedFound, pivotFound, withSecond}
-use Rattle.search.proofs.Laws.{part-step, part-end, else-hit, else-miss, third-hit, third-miss, third-end, second-step, second-end, best-none, best-more, best-less, best-end}
+use Rattle.search.proofs.Laws.{part-step, part-end, else-hit, else-miss, third-hit, third-miss, third-end, second-step, second-end, best-none, best-more, best-end}
 
 -- ---- any search through the list
 
@@ -126,17 +126,12 @@ module _ {s : Scene} {pts : List Float} {r : Float} {w : List ℕ} {count a b : 
   best-start h l = record { rest = rest-start h l (bests s pts r w a b (f32 0) Nowhere) }
 
   module _ {top : Float} {best : Pivot} {m : ℕ} (k : Best s pts r w count a b top best m) where
-    pub best-skip : {o : Score} → m < count → o ≡ scoreFound (scoreOf (floatsOf s pts) r (usedIn s w) (edge a b) (nth s w m)) → o ≡ None → Best s pts r w count a b top best (m + 1)
+    pub best-skip : {o : Score} → m < count → o ≡ scoreFound (above top (scoreOf (floatsOf s pts) r (usedIn s w) (edge a b) (nth s w m))) → o ≡ None → Best s pts r w count a b top best (m + 1)
     best-skip h e t = record { rest = rest-step (k .rest) h (bests s pts r w a b top best) (λ (ks : List ℕ). best-none (floatsOf s pts) r (usedIn s w) (edge a b) (nth s w m) ks top (pointOf best) (sym e ∙ t)) }
 
-    pub best-taken : {o : Score} {x : Float} → m < count → o ≡ scoreFound (scoreOf (floatsOf s pts) r (usedIn s w) (edge a b) (nth s w m)) → o ≡ Of x → lt top x ≡ true → Best s pts r w count a b x (To (nth s w m)) (m + 1)
-    best-taken {x = x} h e t g = record {
-      rest = rest-step (k .rest) h (bests s pts r w a b x (To (nth s w m))) (λ (ks : List ℕ). best-more (floatsOf s pts) r (usedIn s w) (edge a b) (nth s w m) ks top x (pointOf best) (sym e ∙ t) g);
-    }
-
-    pub best-left : {o : Score} {x : Float} → m < count → o ≡ scoreFound (scoreOf (floatsOf s pts) r (usedIn s w) (edge a b) (nth s w m)) → o ≡ Of x → lt top x ≡ false → Best s pts r w count a b top best (m + 1)
-    best-left {x = x} h e t g = record {
-      rest = rest-step (k .rest) h (bests s pts r w a b top best) (λ (ks : List ℕ). best-less (floatsOf s pts) r (usedIn s w) (edge a b) (nth s w m) ks top x (pointOf best) (sym e ∙ t) g);
+    pub best-taken : {o : Score} {x : Float} → m < count → o ≡ scoreFound (above top (scoreOf (floatsOf s pts) r (usedIn s w) (edge a b) (nth s w m))) → o ≡ Of x → Best s pts r w count a b x (To (nth s w m)) (m + 1)
+    best-taken {x = x} h e t = record {
+      rest = rest-step (k .rest) h (bests s pts r w a b x (To (nth s w m))) (λ (ks : List ℕ). best-more (floatsOf s pts) r (usedIn s w) (edge a b) (nth s w m) ks top x (pointOf best) (sym e ∙ t));
     }
 
     pub best-all : count ≤ m → best ≡ pivotFound (bests s pts r w a b (f32 0) Nowhere (listed s w count))

@@ -1,12 +1,15 @@
 // The two searches of ball pivoting: a seed triangle, and the point that the ball meets over an edge.
 mod candidates;
+mod nearby;
 mod triples;
 
 use decisions::Scene;
+use spatial_hash::Hash;
 ghost use mathlib.Core.Path.{_≡_};
 ghost use Prim.Native.Nat.{_*_, _<_, _≤_, _+_};
 ghost use lib.ListN.{length};
 ghost use Rattle.grid.specs.Index.{Indexed};
+ghost use Rattle.spatial_hash.specs.Near.{Hashed};
 ghost use Rattle.patch.specs.Lay.{edge};
 ghost use Rattle.patch.specs.Search.{unused, searching};
 ghost use Rattle.decisions.specs.Decisions.{floatsOf};
@@ -31,11 +34,11 @@ pub fn is_unused(s: Scene, w: &[u32], k: usize) -> bool
 }
 
 // The first triangle of unused points at a radius that is acceptable, in the order of their numbers and neighbours.
-pub fn find_seed_triangle(s: Scene, points: &[f32], w: &mut [u32], radius: f32) -> Seed
-    requires { ⌜ Held s (now points) (now w) × Indexed (s .grid) (s .indexed) (now points) (s .n) (now w) ⌝ }
+pub fn find_seed_triangle(s: Scene, points: &[f32], w: &mut [u32], radius: f32, hash: Hash) -> Seed
+    requires { ⌜ Held s (now points) (now w) × Indexed (s .grid) (s .indexed) (now points) (s .n) (now w) × Hashed hash (now points) (s .n) (now w) ⌝ }
     ensures { λ r. ⌜ (r ≡ seedFound (searching (floatsOf s (now (points .entry))) (s .n) .seedOf radius (usedIn s (now (w .entry))))) × Kept s (now (w .entry)) (now (w .exit)) ⌝ }
 {
-    triples::find_from(s, points, w, radius)
+    triples::find_from(s, points, w, radius, hash)
 }
 
 // The unused point that makes the best acceptable triangle with the edge a, b.
@@ -46,14 +49,15 @@ pub fn try_ball_pivot(
     radius: f32,
     a: usize,
     b: usize,
+    hash: Hash,
 ) -> Pivot
-    requires { ⌜ Held s (now points) (now w) × Indexed (s .grid) (s .indexed) (now points) (s .n) (now w) × (a < s .n) × (b < s .n) ⌝ }
+    requires { ⌜ Held s (now points) (now w) × Indexed (s .grid) (s .indexed) (now points) (s .n) (now w) × Hashed hash (now points) (s .n) (now w) × (a < s .n) × (b < s .n) ⌝ }
     ensures { λ r. ⌜ (r ≡ pivotFound (searching (floatsOf s (now (points .entry))) (s .n) .pivotOf radius (usedIn s (now (w .entry))) (edge a b))) × Kept s (now (w .entry)) (now (w .exit)) ⌝ }
 {
     if !decisions::is_pivotable(points, radius, a, b) {
         return Pivot::Nowhere;
     }
     let place = decisions::middle_of(points::point_at(points, a), points::point_at(points, b));
-    let count = grid::find_neighbors(points, w, s.n, s.grid, s.indexed, place, radius);
+    let count = nearby::find_near(s, points, w, a, place, radius, hash);
     candidates::best_of(s, points, w, count, radius, a, b)
 }

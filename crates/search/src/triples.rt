@@ -1,9 +1,11 @@
 // The search for a seed: three loops, over i, j and k.
 use crate::Seed;
 use decisions::Scene;
+use spatial_hash::Hash;
 ghost use mathlib.Core.Path.{_≡_};
 ghost use Prim.Native.Nat.{_*_, _<_, _+_};
 ghost use Rattle.grid.specs.Index.{Indexed};
+ghost use Rattle.spatial_hash.specs.Near.{Hashed};
 ghost use Rattle.patch.specs.Search.{isSecond, isThird, thirdOf, secondOf, firstOf, numbers};
 ghost use Rattle.decisions.specs.Decisions.{floatsOf};
 ghost use Rattle.search.specs.Ready.{Held, Listed, usedIn, listed, Kept, seedFound, withSecond, withFirst};
@@ -102,18 +104,18 @@ fn find_second(s: Scene, points: &[f32], w: &[u32], count: usize, radius: f32, i
 }
 
 // What the unused point i gives as the first one.
-fn try_first(s: Scene, points: &[f32], w: &mut [u32], radius: f32, i: usize) -> Seed
-    requires { ⌜ Held s (now points) (now w) × Indexed (s .grid) (s .indexed) (now points) (s .n) (now w) × (i < s .n) ⌝ }
+fn try_first(s: Scene, points: &[f32], w: &mut [u32], radius: f32, i: usize, hash: Hash) -> Seed
+    requires { ⌜ Held s (now points) (now w) × Indexed (s .grid) (s .indexed) (now points) (s .n) (now w) × Hashed hash (now points) (s .n) (now w) × (i < s .n) ⌝ }
     ensures { λ r. ⌜ (r ≡ seedFound (withFirst (floatsOf s (now (points .entry))) radius (usedIn s (now (w .entry))) i)) × Kept s (now (w .entry)) (now (w .exit)) ⌝ }
 {
     let place = points::point_at(points, i);
-    let count = grid::find_neighbors(points, w, s.n, s.grid, s.indexed, place, radius * 2.0);
+    let count = crate::nearby::find_near(s, points, w, i, place, radius * 2.0, hash);
     find_second(s, points, w, count, radius, i)
 }
 
 // The first seed; only the first 1,000 unused points are tried as i.
-pub fn find_from(s: Scene, points: &[f32], w: &mut [u32], radius: f32) -> Seed
-    requires { ⌜ Held s (now points) (now w) × Indexed (s .grid) (s .indexed) (now points) (s .n) (now w) ⌝ }
+pub fn find_from(s: Scene, points: &[f32], w: &mut [u32], radius: f32, hash: Hash) -> Seed
+    requires { ⌜ Held s (now points) (now w) × Indexed (s .grid) (s .indexed) (now points) (s .n) (now w) × Hashed hash (now points) (s .n) (now w) ⌝ }
     ensures { λ r. ⌜ (r ≡ seedFound (firstOf (floatsOf s (now (points .entry))) radius (usedIn s (now (w .entry))) (numbers (s .n) 0) 1000)) × Kept s (now (w .entry)) (now (w .exit)) ⌝ }
 {
     let n = s.n;
@@ -127,7 +129,7 @@ pub fn find_from(s: Scene, points: &[f32], w: &mut [u32], radius: f32) -> Seed
             i += 1;
             continue;
         }
-        let found = try_first(s, points, w, radius, i);
+        let found = try_first(s, points, w, radius, i, hash);
         if let Seed::Triangle(a, b, c) = found {
             return Seed::Triangle(a, b, c);
         }

@@ -17,8 +17,8 @@ minimum-finite a b r e p q =
     subst (λ (v : Float). T (finite v)) (sym e)
     (of-cond (λ (v : Float). T (finite v)) (isNan a) b (cond (lt b a) b a) q (of-cond (λ (v : Float). T (finite v)) (lt b a) b a q p))
 
--- above 0 and at most a million
-pub bounded-finite : (v : Float) → lt (f32 0) v ≡ true → le v (f32 0x49742400) ≡ true → T (finite v)
+-- above 0 and at most 10 ^ 30
+pub bounded-finite : (v : Float) → lt (f32 0) v ≡ true → le v (f32 0x7149f2ca) ≡ true → T (finite v)
 unfolding lt le eq ofBits
 bounded-finite nan h l = absurd (true≢false (sym h))
 bounded-finite (inf true) h l = absurd (true≢false (sym h))

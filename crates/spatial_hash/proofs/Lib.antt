@@ -11,3 +11,5 @@ pub mod Appending
 pub mod Following
 pub mod Visiting
 pub mod Gathering
+pub mod Squares
+pub mod Nearby

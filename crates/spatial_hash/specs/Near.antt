@@ -9,7 +9,7 @@ use lib.Ieee.{Float, binary32, lt, fits}
 use lib.Ieee.Scale.{finite}
 use Rattle.numbers.specs.Rounded.{f32}
 use Rattle.numbers.specs.Root.{root}
-use Rattle.triangle.specs.Vector.{squared}
+unfoldable pub use Rattle.triangle.specs.Vector.{squared}
 use Rattle.triangle.specs.declared.Point3f.{Point3f}
 use Rattle.points.specs.Points.{pointAt}
 use Rattle.regions.specs.Regions.{neighborsAt, usedAt, linksAt, headsAt}
@@ -17,7 +17,7 @@ use Rattle.patch.specs.Count.{count}
 use Rattle.patch.specs.Search.{Below}
 use Rattle.spatial_hash.specs.declared.Bounds.{Bounds}
 use Rattle.spatial_hash.specs.declared.Hash.{Hash}
-use Rattle.spatial_hash.specs.Cover.{between}
+pub use Rattle.spatial_hash.specs.Cover.{between}
 use Rattle.spatial_hash.specs.Buckets.{Chained, bucketAt, buckets}
 
 -- a place whose coordinates are numbers

@@ -16,7 +16,7 @@ pub fn scale_for(size: f32) -> f32
 {
     let s = 1.0 / size;
     if s > 0.0 {
-        if s <= 1000000.0 {
+        if s <= 1e30 {
             return s;
         }
     }

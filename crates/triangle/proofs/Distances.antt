@@ -11,7 +11,7 @@ use Rattle.numbers.specs.Root.{root}
 use Rattle.numbers.proofs.OrderLaws.{le-left, le-trans, lt-le-trans, unsigned, unsigned-le}
 use Rattle.numbers.proofs.RootMonotone.{root-monotone}
 use Rattle.numbers.proofs.SumOrder.{add-unsigned, add-above-left, add-above-right, add-number, sub-number}
-use Rattle.numbers.proofs.ProductOrder.{square-unsigned, square-swap}
+use Rattle.numbers.proofs.ProductOrder.{square-unsigned, square-turned}
 use Rattle.triangle.specs.Vector.{difference, magnitudeSquared, squared, distance}
 use Rattle.triangle.specs.declared.Point3f.{Point3f}
 
@@ -61,6 +61,9 @@ finite-unsigned x y f g = square-unsigned (x ⊖ y) (sub-number x y f g)
 pub squared-fits : (p q : Point3f) → T (fits binary32 (squared p q))
 squared-fits p q = rw (squared-is p q) (add-fits binary32 (square (p .x) (q .x) ⊕ square (p .y) (q .y)) (square (p .z) (q .z)))
 
+pub squared-turned : (p q : Point3f) → squared p q ≡ squared q p
+squared-turned p q = rw (squared-is p q, squared-is q p, square-turned (p .x) (q .x), square-turned (p .y) (q .y), square-turned (p .z) (q .z))
+
 module _ (p q : Point3f) (f : FinitePoint p) (g : FinitePoint q) where
   on-x : T (unsigned (square (p .x) (q .x)))
   on-x = finite-unsigned (p .x) (q .x) (f .finite-x) (g .finite-x)
@@ -84,14 +87,7 @@ module _ (p q : Point3f) (f : FinitePoint p) (g : FinitePoint q) where
   squared-z = rw (squared-is p q) (above-third _ _ _ on-x on-y on-z (square-fits (p .z) (q .z)))
 
   pub squared-swap : squared p q ≡ squared q p
-  squared-swap =
-      rw (
-        squared-is p q,
-        squared-is q p,
-        square-swap (p .x) (q .x) (f .finite-x) (g .finite-x),
-        square-swap (p .y) (q .y) (f .finite-y) (g .finite-y),
-        square-swap (p .z) (q .z) (f .finite-z) (g .finite-z),
-      )
+  squared-swap = squared-turned p q
 
 -- whatever the points, it is not below 0 unless it is a NaN
 number-unsigned : (x y : Float) → T (not (isNan (square x y))) → T (unsigned (square x y))
@@ -115,9 +111,12 @@ pub distance-is : (p q : Point3f) → distance p q ≡ root (squared p q)
 unfolding distance
 distance-is p q = refl
 
-pub distance-swap : (p q : Point3f) → FinitePoint p → FinitePoint q → distance p q ≡ distance q p
+pub distance-turned : (p q : Point3f) → distance p q ≡ distance q p
 unfolding distance
-distance-swap p q f g = ap root (squared-swap p q f g)
+distance-turned p q = ap root (squared-turned p q)
+
+pub distance-swap : (p q : Point3f) → FinitePoint p → FinitePoint q → distance p q ≡ distance q p
+distance-swap p q f g = distance-turned p q
 
 pub distance-monotone : (p q p' q' : Point3f) → T (le (squared p q) (squared p' q')) → T (le (distance p q) (distance p' q'))
 unfolding distance

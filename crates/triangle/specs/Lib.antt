@@ -1,3 +1,4 @@
 -- What the crate's contracts cite, leaves first.
 pub mod Vector
 pub mod Quality
+pub mod Bound

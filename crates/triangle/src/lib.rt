@@ -4,6 +4,7 @@ mod measure;
 ghost use mathlib.Core.Path.{_≡_};
 ghost use Rattle.triangle.specs.Vector.{point, difference, magnitudeSquared, magnitude, cross, squared, distance};
 ghost use Rattle.triangle.specs.Quality.{area, circumradius, quality, acceptable};
+ghost use Rattle.triangle.specs.Bound.{shapeOf, scoreBound, qualityOf};
 
 // A point, or the vector between two.
 #[repr(C)]
@@ -22,6 +23,13 @@ pub struct TriangleQuality {
     pub area: f32,
     pub edge_ratio: f32,
     pub quality_score: f32,
+}
+
+// The measures of a triangle without its angles.
+pub struct Shape {
+    pub area: f32,
+    pub aspect_ratio: f32,
+    pub edge_ratio: f32,
 }
 
 // The point (x, y, z).
@@ -78,7 +86,7 @@ pub fn distance(p: Point3f, q: Point3f) -> f32
     numbers::sqrt(distance_squared(p, q))
 }
 
-fn area_of(p1: Point3f, p2: Point3f, p3: Point3f) -> f32
+pub fn area_of(p1: Point3f, p2: Point3f, p3: Point3f) -> f32
     ensures { λ r. ⌜ r ≡ area p1 p2 p3 ⌝ }
 {
     magnitude(cross(difference(p2, p1), difference(p3, p1))) * 0.5
@@ -94,15 +102,42 @@ pub fn compute_circumradius(p1: Point3f, p2: Point3f, p3: Point3f) -> f32
     measure::radius_of(distance(p2, p1), distance(p3, p2), distance(p1, p3), area)
 }
 
+// The shape of a triangle, from the lengths of its edges and its area.
+pub fn shape_of(a: f32, b: f32, c: f32, area: f32) -> Shape
+    ensures { λ r. ⌜ r ≡ shapeOf a b c area ⌝ }
+{
+    if area < 1e-10 {
+        return measure::flat(area);
+    }
+    measure::shape(a, b, c, area)
+}
+
+// What the score of a triangle is not above, whatever its angles: none is larger than pi.
+pub fn score_bound(shape: Shape) -> f32
+    ensures { λ r. ⌜ r ≡ scoreBound shape ⌝ }
+{
+    measure::score(3.1415927, shape.aspect_ratio, shape.edge_ratio)
+}
+
+// The quality of a triangle, from the lengths of its edges and its shape.
+pub fn quality_of(a: f32, b: f32, c: f32, shape: Shape) -> TriangleQuality
+    requires { ⌜ shape ≡ shapeOf a b c (shape .area) ⌝ }
+    ensures { λ r. ⌜ r ≡ qualityOf a b c (shape .area) ⌝ }
+{
+    if shape.area < 1e-10 {
+        return measure::degenerate(shape.area);
+    }
+    measure::measures(a, b, c, shape)
+}
+
 // The lengths and the area serve the circumradius too.
 pub fn compute_triangle_quality(p1: Point3f, p2: Point3f, p3: Point3f) -> TriangleQuality
     ensures { λ r. ⌜ r ≡ quality p1 p2 p3 ⌝ }
 {
-    let area = area_of(p1, p2, p3);
-    if area < 1e-10 {
-        return measure::degenerate(area);
-    }
-    measure::measures(distance(p2, p1), distance(p3, p2), distance(p1, p3), area)
+    let a = distance(p2, p1);
+    let b = distance(p3, p2);
+    let c = distance(p1, p3);
+    quality_of(a, b, c, shape_of(a, b, c, area_of(p1, p2, p3)))
 }
 
 pub fn is_triangle_acceptable(

@@ -1,7 +1,9 @@
 // A triangle's measures, from the lengths of its edges and its area.
+use crate::Shape;
 use crate::TriangleQuality;
 ghost use mathlib.Core.Path.{_≡_};
 ghost use Rattle.triangle.specs.Quality.{radiusOf, angle, least, largest, aspectRatio, edgeRatio, score, measures, degenerate};
+ghost use Rattle.triangle.specs.Bound.{shape, flat};
 
 // The circumradius.
 pub fn radius_of(a: f32, b: f32, c: f32, area: f32) -> f32
@@ -50,7 +52,7 @@ fn edge_ratio(a: f32, b: f32, c: f32) -> f32
     }
 }
 
-fn score(min_angle: f32, aspect: f32, edge: f32) -> f32
+pub fn score(min_angle: f32, aspect: f32, edge: f32) -> f32
     ensures { λ r. ⌜ r ≡ score «min_angle» aspect edge ⌝ }
 {
     let angle_quality = numbers::min(min_angle / (3.1415927 / 6.0), 1.0);
@@ -58,23 +60,44 @@ fn score(min_angle: f32, aspect: f32, edge: f32) -> f32
     (angle_quality + aspect * 2.0 + edge_quality) / 3.0
 }
 
+// The shape of a triangle that has an area.
+pub fn shape(a: f32, b: f32, c: f32, area: f32) -> Shape
+    ensures { λ r. ⌜ r ≡ shape a b c area ⌝ }
+{
+    Shape {
+        area,
+        aspect_ratio: aspect_ratio(a, b, c, area, radius_of(a, b, c, area)),
+        edge_ratio: edge_ratio(a, b, c),
+    }
+}
+
+// The shape of one that has next to none.
+pub fn flat(area: f32) -> Shape
+    ensures { λ r. ⌜ r ≡ flat area ⌝ }
+{
+    Shape {
+        area,
+        aspect_ratio: 0.0,
+        edge_ratio: 1.0 / 0.0,
+    }
+}
+
 // The measures of a triangle that has an area.
-pub fn measures(a: f32, b: f32, c: f32, area: f32) -> TriangleQuality
-    ensures { λ r. ⌜ r ≡ measures a b c area (radiusOf a b c area) ⌝ }
+pub fn measures(a: f32, b: f32, c: f32, known: Shape) -> TriangleQuality
+    requires { ⌜ known ≡ shape a b c (known .area) ⌝ }
+    ensures { λ r. ⌜ r ≡ measures a b c (known .area) (radiusOf a b c (known .area)) ⌝ }
 {
     let angle_a = angle(a, b, c);
     let angle_b = angle(b, a, c);
     let angle_c = 3.1415927 - angle_a - angle_b;
     let min_angle = least(angle_a, angle_b, angle_c);
-    let aspect = aspect_ratio(a, b, c, area, radius_of(a, b, c, area));
-    let edge = edge_ratio(a, b, c);
     TriangleQuality {
-        aspect_ratio: aspect,
+        aspect_ratio: known.aspect_ratio,
         min_angle,
         max_angle: largest(angle_a, angle_b, angle_c),
-        area,
-        edge_ratio: edge,
-        quality_score: score(min_angle, aspect, edge),
+        area: known.area,
+        edge_ratio: known.edge_ratio,
+        quality_score: score(min_angle, known.aspect_ratio, known.edge_ratio),
     }
 }
 

@@ -4,7 +4,7 @@ use mathlib.Core.Path.{_≡_, ap, _∙_}
 use native.Mathlib.Omega.{arith}
 use lib.ListN.{length, replicate}
 use Rattle.numbers.specs.Rounded.{f32}
-use Rattle.estimate.proofs.Outcome.{outcome-refused, outcome-passed, in-domain}
+use Rattle.estimate.proofs.Outcome.{outcome-refused, outcome-passed, in-domain, cloud-ready}
 use borrow.Author.Needs.{needs}
 use Rattle.estimate.proofs.estimate_optimal_radius.Statement.{statement}
 use Rattle.estimate.proofs.estimate_optimal_radius.Tie as tie
@@ -20,10 +20,10 @@ returns c =
 
 optimal-radius-requires : tie.Need-optimal-radius-requires
 optimal-radius-requires c κs =
-    let s = c .before .before .before .before .before .before .before in
-    let r = c .before .before .before .refusal-of-estimate in
-    let a = in-domain (s .args .points .now) (s .args .percentile) (s .args .work-u32 .now) (s .args .work-f32 .now) (r .result) (r .ensures) (c .before .if1 .left) in
-    (a .cloud .threes, a .cloud .few, omega (arith, a .room .floats-enough))
+    let s = c .before .before .before .before .before .before .before .before in
+    let r = c .before .before .before .before .refusal-of-estimate in
+    let a = in-domain (s .args .points .now) (s .args .percentile) (s .args .work-u32 .now) (s .args .work-f32 .now) (r .result) (r .ensures) (c .before .before .if1 .left) in
+    (cloud-ready (s .args .points .now) (s .args .work-u32 .now) (length (s .args .work-f32 .now)) (a .cloud) (a .room), omega (arith, a .room .floats-enough))
 
 clear-u32-requires : tie.Need-clear-u32-requires
 clear-u32-requires c κs = search needs
@@ -39,14 +39,16 @@ same-length-2 c = search needs
 
 returns-2 : tie.Need-returns-2
 returns-2 c =
-    let s = c .before .before .before .before .before .before .before .before .before .before .before .before .before .before .before .before .before .before in
-    let r = c .before .before .before .before .before .before .before .before .before .before .before .before .before .before .refusal-of-estimate in
-    let zero = c .before .before .before .before .before .before .before .before .before .before .before .before .if1 .left in
-    let o = c .before .before .before .before .before .before .before .before .before .before .optimal-radius in
+    let s = c .before .before .before .before .before .before .before .before .before .before .before .before .before .before .before .before .before .before .before .before .before in
+    let r = c .before .before .before .before .before .before .before .before .before .before .before .before .before .before .before .before .before .refusal-of-estimate in
+    let zero = c .before .before .before .before .before .before .before .before .before .before .before .before .before .before .before .if1 .left in
+    let o = c .before .before .before .before .before .before .before .before .before .before .before .before .optimal-radius in
     let u = c .before .before .before .before .before .before .clear-u32 in
     let f = c .before .before .clear-f32 in
-    let same : length (o .last .1 .1 .1 .0) ≡ length (s .args .work-f32 .now) = omega arith in
-    outcome-passed (s .args .points .now) (s .args .percentile) (s .args .work-u32 .now) (s .args .work-f32 .now) (r .result) (r .ensures) (o .result) (u .last .0) (f .last .0) zero (o .ensures) (u .ensures)
+    let same : length (o .last .1 .1 .1 .1 .0) ≡ length (s .args .work-f32 .now) = omega arith in
+    let same-words : length (o .last .1 .1 .1 .0) ≡ length (s .args .work-u32 .now) = omega arith in
+    outcome-passed (s .args .points .now) (s .args .percentile) (s .args .work-u32 .now) (s .args .work-f32 .now) (r .result) (r .ensures) (o .result) (u .last .0) (f .last .0) zero (o .ensures)
+    (u .ensures ∙ ap (λ (n : ℕ). replicate n 0) same-words)
     (f .ensures ∙ ap (λ (n : ℕ). replicate n (f32 0)) same)
 
 pub estimate-optimal-radius-spec : {M : Type 1} → statement M

@@ -8,10 +8,10 @@ use Rattle.laying.proofs.advanced_ball_pivoting.Statement.{statement}
 use Rattle.laying.proofs.advanced_ball_pivoting.Tie as tie
 
 abbrev Inv-loop : tie.InvT-loop
-Inv-loop s points count faces₀ w₀ radii c₀ i₀ faces w c i = Covering s points radii count faces₀ w₀ i c w faces
+Inv-loop s points count faces₀ w₀ hash radii c₀ i₀ faces w c i = Covering s hash points radii count faces₀ w₀ i c w faces
 
 abbrev μ-loop : tie.MeasureT-loop
-μ-loop s points count faces₀ w₀ radii c₀ i₀ faces w c i = count - i
+μ-loop s points count faces₀ w₀ hash radii c₀ i₀ faces w c i = count - i
 
 begin-requires : tie.Need-begin-requires Inv-loop μ-loop
 begin-requires c κs = sized (c .before .before .before .before .pre .0)

@@ -15,7 +15,7 @@ try-ball-pivot-requires : tie.Need-try-ball-pivot-requires
 try-ball-pivot-requires c κs =
     let s = c .before .before .before .before in
     let e = edge-below (s .args .radius) (s .pre) in
-    (s .pre .ground .held, s .pre .ground .indexed, e .0, e .1)
+    (s .pre .ground .held, s .pre .ground .indexed, s .pre .ground .hashed, e .0, e .1)
 
 enum-known-found : tie.Need-enum-known-found
 enum-known-found c = search needs

@@ -35,7 +35,7 @@ returns-2 : tie.Need-returns-2
 returns-2 c =
     let s = c .before .before .before .before .before .before .before .before .before .before .before .before .before in
     let m = c .before .before .before .before .before .measure in
-    let u : List Float = m .last .1 .1 .1 .1 .1 .0 in (
+    let u : List Float = m .last .1 .1 .1 .1 .1 .1 .0 in (
       subst (λ (xs : List Float). Listed xs (record { list = replicate 17 (f32 0); count = 0 })) (radii-none (s .args .config) u (densitiesFrom (s .args .config) (s .args .grid) (s .args .points .now) (s .args .n) (stepOf (s .args .n)) 0 (sampleCount (s .args .n))) (ap (λ (k : ℕ). take k u) (sym (c .if2 .taken)) ∙ m .ensures .0) ∙ radii-on (s .args .config) (s .args .grid) (s .args .points .now) (s .args .n) (c .before .before .before .before .before .before .before .before .if1 .left)) listed-none,
       m .ensures .2,
       m .ensures .3,
@@ -54,8 +54,8 @@ returns-3 : tie.Need-returns-3
 returns-3 c =
     let s = c .before .before .before .before .before .before .before .before .before .before .before .before .before .before .before .before .before in
     let m = c .before .before .before .before .before .before .before .before .before .measure in
-    let u : List Float = m .last .1 .1 .1 .1 .1 .0 in (
-      subst (λ (xs : List Float). Listed xs (c .before .before .choose .result)) (radii-some (s .args .config) u (densitiesFrom (s .args .config) (s .args .grid) (s .args .points .now) (s .args .n) (stepOf (s .args .n)) 0 (sampleCount (s .args .n))) (m .result) (omega (arith, c .before .before .before .before .if2 .left)) (omega (arith, m .ensures .1, m .kept .1 .1 .1 .1 .1 .0, s .pre .room)) (m .ensures .0) ∙ radii-on (s .args .config) (s .args .grid) (s .args .points .now) (s .args .n) (c .before .before .before .before .before .before .before .before .before .before .before .before .if1 .left)) (c .before .before .choose .ensures),
+    let u : List Float = m .last .1 .1 .1 .1 .1 .1 .0 in (
+      subst (λ (xs : List Float). Listed xs (c .before .before .choose .result)) (radii-some (s .args .config) u (densitiesFrom (s .args .config) (s .args .grid) (s .args .points .now) (s .args .n) (stepOf (s .args .n)) 0 (sampleCount (s .args .n))) (m .result) (omega (arith, c .before .before .before .before .if2 .left)) (omega (arith, m .ensures .1, m .kept .1 .1 .1 .1 .1 .1 .0, s .pre .room)) (m .ensures .0) ∙ radii-on (s .args .config) (s .args .grid) (s .args .points .now) (s .args .n) (c .before .before .before .before .before .before .before .before .before .before .before .before .if1 .left)) (c .before .before .choose .ensures),
       m .ensures .2,
       m .ensures .3,
     )

@@ -1,5 +1,5 @@
 -- By the radii one path or the other. Assumes nothing.
-use Rattle.laying.proofs.Kept.{ground-kept}
+use Rattle.laying.proofs.Kept.{ground-searched}
 use Rattle.ball_pivoting.proofs.Found.{radii-ready, listed-at, listed-none, listed-self, finds-plain, finds-laid}
 use borrow.Author.Needs.{needs}
 use Rattle.ball_pivoting.proofs.paths.find.Statement.{statement}
@@ -10,11 +10,11 @@ index-points-requires c κs = search needs
 
 compute-adaptive-radii-requires : tie.Need-compute-adaptive-radii-requires
 compute-adaptive-radii-requires c κs =
-    let i = c .before .before .before .before .index-points .ensures in
-    radii-ready _ _ _ _ _ _ (i .0) (c .before .before .before .before .before .before .before .before .before .before .pre) (i .1)
+    let i = c .before .before .before .before .before .before .index-points .ensures in
+    radii-ready _ _ _ _ _ _ (i .0) (c .before .before .before .before .before .before .before .before .before .before .before .before .pre) (i .1)
 
 find-plain-requires : tie.Need-find-plain-requires
-find-plain-requires c κs = (c .before .before .before .before .before .before .before .before .before .before .before .before .before .before .before .before .before .before .pre .sized .few, listed-none _ _ (c .before .before .before .before .before .before .before .compute-adaptive-radii .ensures .0) (c .before .if1 .taken))
+find-plain-requires c κs = (c .before .before .before .before .before .before .before .before .before .before .before .before .before .before .before .before .before .before .before .before .pre .sized .few, listed-none _ _ (c .before .before .before .before .before .before .before .compute-adaptive-radii .ensures .0) (c .before .if1 .taken))
 
 same-length : tie.Need-same-length
 same-length c = search needs
@@ -27,15 +27,15 @@ same-length-3 c = search needs
 
 returns : tie.Need-returns
 returns c =
-    let i = c .before .before .before .before .before .before .before .before .before .before .before .before .before .before .before .index-points .ensures in
+    let i = c .before .before .before .before .before .before .before .before .before .before .before .before .before .before .before .before .before .index-points .ensures in
     let r = c .before .before .before .before .before .before .before .before .before .before .compute-adaptive-radii .ensures in
     finds-plain _ _ _ _ _ _ _ (i .0) (listed-at _ _ _ _ (i .0) (r .0)) (c .before .before .before .before .if1 .taken) (c .before .before .find-plain .ensures)
 
 find-pivoting-requires : tie.Need-find-pivoting-requires
 find-pivoting-requires c κs =
-    let i = c .before .before .before .before .before .before .before .before .before .before .before .before .before .index-points .ensures in
+    let i = c .before .before .before .before .before .before .before .before .before .before .before .before .before .before .before .index-points .ensures in
     let r = c .before .before .before .before .before .before .before .before .compute-adaptive-radii in
-    (ground-kept _ (i .1) (r .kept .1 .1 .1 .1 .0) (r .ensures .1), listed-self _ _ (r .ensures .0))
+    (ground-searched _ (record { before = r .ensures .1; after = r .ensures .2 }) (r .kept .1 .1 .1 .1 .1 .0) (i .1), listed-self _ _ (r .ensures .0))
 
 same-length-4 : tie.Need-same-length-4
 same-length-4 c = search needs
@@ -48,7 +48,7 @@ same-length-6 c = search needs
 
 returns-2 : tie.Need-returns-2
 returns-2 c =
-    let i = c .before .before .before .before .before .before .before .before .before .before .before .before .before .before .before .before .before .before .index-points .ensures in
+    let i = c .before .before .before .before .before .before .before .before .before .before .before .before .before .before .before .before .before .before .before .before .index-points .ensures in
     let r = c .before .before .before .before .before .before .before .before .before .before .before .before .before .compute-adaptive-radii .ensures in
     finds-laid _ _ _ _ _ _ _ (i .0) (listed-at _ _ _ _ (i .0) (r .0)) (c .before .before .before .before .before .before .before .if1 .left) (c .before .before .before .before .find-pivoting .ensures)
 

@@ -1,5 +1,8 @@
--- `measures` meets its contract.
+-- `measures` meets its contract: what is known without the angles is what the measures have.
+use mathlib.Core.Path.{ap}
 use Rattle.triangle.specs.Quality.{measures}
+use Rattle.triangle.specs.Bound.{shape}
+use Rattle.triangle.specs.declared.Shape.{Shape}
 use borrow.Author.Needs.{needs}
 use Rattle.triangle.proofs.measure.measures.Statement.{statement}
 use Rattle.triangle.proofs.measure.measures.Tie as tie
@@ -13,15 +16,6 @@ angle-requires-2 c κs = search needs
 least-requires : tie.Need-least-requires
 least-requires c κs = search needs
 
-radius-of-requires : tie.Need-radius-of-requires
-radius-of-requires c κs = search needs
-
-aspect-ratio-requires : tie.Need-aspect-ratio-requires
-aspect-ratio-requires c κs = search needs
-
-edge-ratio-requires : tie.Need-edge-ratio-requires
-edge-ratio-requires c κs = search needs
-
 largest-requires : tie.Need-largest-requires
 largest-requires c κs = search needs
 
@@ -29,8 +23,12 @@ score-requires : tie.Need-score-requires
 score-requires c κs = search needs
 
 returns : tie.Need-returns
-unfolding measures
-returns c = cc
+unfolding measures shape
+returns c =
+    let p = c .before .before .before .before .before .pre in
+    let aspect = ap (λ (k : Shape). k .«aspect_ratio») p in
+    let edge = ap (λ (k : Shape). k .«edge_ratio») p in
+    cc
 
 pub measures-spec : {M : Type 1} → statement M
 measures-spec =
@@ -39,9 +37,6 @@ measures-spec =
     angle-requires
     angle-requires-2
     least-requires
-    radius-of-requires
-    aspect-ratio-requires
-    edge-ratio-requires
     largest-requires
     score-requires
     returns)

@@ -1,0 +1,254 @@
+-- The least squares among the points that were gathered are those of all neighbours, if ten are not above the limit or there is none,
+-- and their roots are the least distances of the definition. Assumes nothing.
+use mathlib.Core.Path.{_≡_, refl, sym, ap, _∙_, subst}
+use mathlib.Core.Bool.{Bool, true, false, cond, not, _&&_}
+use mathlib.Core.List.{List, [], _∷_, map}
+use Prim.Native.Nat.{ℕ, zero, suc, _+_, _*_, _≤_, _<_, min}
+use native.Mathlib.Omega.{arith}
+use borrow.Author.Tests.{eq-eqb, ltb-true, ltb-false, lt-ltb, le-ltb, eqb-true, eqb-false}
+use lib.Dec.{T, eqb, ltb}
+use lib.ListN.{length, take, drop, getD, length-take, length-drop}
+use lib.Seq.{getD-take, getD-drop, length-take-le, take-take}
+use lib.Ieee.{Float, nan, inf, lt, le, isNan}
+use lib.Ieee.Bits.{is-true}
+use Rattle.numbers.specs.Rounded.{f32, _⊗_}
+use Rattle.numbers.specs.Root.{root}
+use Rattle.numbers.proofs.OrderLaws.{le-refl, le-trans, le-right, le-top, lt-le, le-not-lt, not-le-lt}
+use Rattle.triangle.specs.declared.Point3f.{Point3f}
+use Rattle.triangle.specs.Vector.{squared}
+use Rattle.points.specs.Points.{pointAt, upFrom}
+use Rattle.sorting.specs.Sorted.{sorted}
+use Rattle.domain.specs.declared.BallPivotingConfig.{BallPivotingConfig}
+use Rattle.grid.specs.declared.SpatialGrid.{SpatialGrid}
+use Rattle.grid.specs.Grid.{precedes, byCell, orderOf}
+use Rattle.grid.specs.Index.{Indexed, Below, keepIn}
+use Rattle.grid.proofs.Near.{near-is}
+use Rattle.grid.proofs.Sequence.{order-of-below}
+use Rattle.patch.specs.Count.{count, bit}
+use Rattle.patch.specs.Search as search
+use Rattle.patch.proofs.Counts.{not-true, and-both, count-mono, count-zero}
+use Rattle.spatial_hash.specs.declared.Bounds.{Bounds}
+use Rattle.spatial_hash.specs.declared.Hash.{Hash}
+use Rattle.spatial_hash.specs.Near.{Finite, Covers, Gathers, Gathered}
+use Rattle.spatial_hash.proofs.Kept.{hashed-behind}
+use Rattle.spatial_hash.proofs.Squares.{Good, squared-good, distance-back}
+use Rattle.spatial_hash.proofs.Nearby.{count-same, gathered-count, up-whole}
+use Rattle.radii.specs.declared.Around.{Around}
+use Rattle.radii.specs.Radii.{distancesTo, nearOf, nearest}
+use Rattle.radii.specs.Squares.{aroundOf, isNear, squaresTo, leastSquares, Whole, Prepared, Kept, Looked}
+use Rattle.radii.proofs.Rising.{All, atMost, insert-count, sorted-count, sorted-rising, least-same, least-roots, rising-upto}
+
+-- ---- squares of some points
+abbrev key : List Float → ℕ → ℕ → Float
+key pts i j = squared (pointAt pts j) (pointAt pts i)
+
+module _ (near : ℕ → Bool) (pts : List Float) (i : ℕ) where
+  -- another neighbour whose square is at most v
+  abbrev close : Float → ℕ → Bool
+  close v j = (not (eqb j i) && near j) && le (key pts i j) v
+
+  close-le : (v : Float) (j : ℕ) → close v j ≡ true → ((not (eqb j i) && near j) ≡ true) × T (le (key pts i j) v)
+  close-le v j e = let r = and-both {p = not (eqb j i) && near j} {q = le (key pts i j) v} e in (r .0, subst T (sym (r .1)) tt)
+
+  le-close : (v : Float) (j : ℕ) → (not (eqb j i) && near j) ≡ true → T (le (key pts i j) v) → close v j ≡ true
+  le-close v j t l = let e : le (key pts i j) v ≡ true = is-true (le (key pts i j) v) l in rw (t, e)
+
+  close-nan : (v : Float) → isNan v ≡ true → (j : ℕ) → close v j ≡ false
+  close-nan v e j = not-true (λ (t : close v j ≡ true). subst (λ (b : Bool). T (not b)) e (le-right (key pts i j) v (close-le v j t .1)))
+
+  squares-count : (v : Float) (js : List ℕ) → count (atMost v) (squaresTo near pts i js) ≡ count (close v) js
+  unfolding squaresTo
+  squares-count v [] = refl
+  squares-count v (j ∷ js) = go (not (eqb j i) && near j) (squares-count v js)
+    where
+      go : (b : Bool) → count (atMost v) (squaresTo near pts i js) ≡ count (close v) js → count (atMost v) (cond b (key pts i j ∷ squaresTo near pts i js) (squaresTo near pts i js)) ≡ bit (b && le (key pts i j) v) + count (close v) js
+      go true r = omega arith
+      go false r = omega arith
+
+  squares-good : (n : ℕ) → i < n → ((j : ℕ) → j < n → Finite (pointAt pts j)) → (js : List ℕ) → search.Below n js → All Good (squaresTo near pts i js)
+  unfolding squaresTo
+  squares-good n h numbers [] b = tt
+  squares-good n h numbers (j ∷ js) b = go (not (eqb j i) && near j) (squares-good n h numbers js (λ (k : ℕ) (c : 1 ≤ count (eqb k) js). b k (omega arith)))
+    where
+      inside : j < n
+      inside = b j (rw (eq-eqb j j refl) (omega arith))
+
+      go : (t : Bool) → All Good (squaresTo near pts i js) → All Good (cond t (key pts i j ∷ squaresTo near pts i js) (squaresTo near pts i js))
+      go true r = (squared-good (pointAt pts j) (pointAt pts i) (numbers j inside) (numbers i h), r)
+      go false r = r
+
+whole-below : (n : ℕ) (all : List ℕ) → Whole n all → search.Below n all
+whole-below n all whole j c = go (ltb j n) refl
+  where
+    go : (b : Bool) → ltb j n ≡ b → j < n
+    go true e = ltb-true j n e
+    go false e = let z : bit (ltb j n) ≡ 0 = ap bit e in absurd (omega (arith, whole j))
+
+-- the order in which all points are listed is of no matter
+whole-same : (near : ℕ → Bool) (pts : List Float) (n i : ℕ) → i < n → ((j : ℕ) → j < n → Finite (pointAt pts j)) → (xs ys : List ℕ) → Whole n xs → Whole n ys
+    → take 10 (sorted (squaresTo near pts i xs)) ≡ take 10 (sorted (squaresTo near pts i ys))
+whole-same near pts n i inside numbers xs ys a b =
+    least-same 10 (squaresTo near pts i xs) (squaresTo near pts i ys) (squares-good near pts i n inside numbers xs (whole-below n xs a)) (squares-good near pts i n inside numbers ys (whole-below n ys b))
+    (λ (v : Float). ap (min 10) (squares-count near pts i v xs ∙ count-same (close near pts i v) xs ys (λ (j : ℕ) _. a j ∙ sym (b j)) ∙ sym (squares-count near pts i v ys)))
+
+-- ---- those gathered decide
+module _ (near : ℕ → Bool) (pts : List Float) (n i : ℕ) (b : Bounds) (js all : List ℕ) (limit : Float) (inside : i < n) (numbers : (j : ℕ) → j < n → Finite (pointAt pts j))
+    (covers : Covers (pointAt pts i) limit b) (g : Gathers pts n b js) (whole : Whole n all) where
+  abbrev passing : Float → List ℕ → ℕ
+  passing v xs = count (close near pts i v) xs
+
+  -- up to the limit there are equally many
+  upto : (v : Float) → T (le v limit) → passing v js ≡ passing v all
+  upto v l =
+      gathered-count pts n b js all (pointAt pts i) limit numbers covers g whole (close near pts i v)
+      (λ (j : ℕ) (h : j < n) (e : close near pts i v j ≡ true). le-trans (key pts i j) v limit (close-le near pts i v j e .1) l)
+
+  more : (v : Float) → T (lt limit v) → (xs : List ℕ) → passing limit xs ≤ passing v xs
+  more v l xs =
+      count-mono (close near pts i limit) (close near pts i v)
+      (λ (j : ℕ) (e : close near pts i limit j ≡ true). let c = close-le near pts i limit j e in le-close near pts i v j (c .0) (le-trans (key pts i j) limit v (c .1) (lt-le limit v l))) xs
+
+  agree : T (not (isNan limit)) → ((v : Float) → T (lt limit v) → 10 ≤ passing limit js) → (v : Float) → min 10 (passing v js) ≡ min 10 (passing v all)
+  agree f enough v = go (le v limit) refl (isNan v) refl
+    where
+      go : (c : Bool) → le v limit ≡ c → (d : Bool) → isNan v ≡ d → min 10 (passing v js) ≡ min 10 (passing v all)
+      go true e d k = ap (min 10) (upto v (subst T (sym e) tt))
+      go false e true k =
+          ap (min 10) (count-zero (close near pts i v) (close-nan near pts i v k) js ∙ sym (count-zero (close near pts i v) (close-nan near pts i v k) all))
+      go false e false k =
+          let l : T (lt limit v) = not-le-lt v limit (subst (λ (x : Bool). T (not x)) (sym k) tt) f (subst (λ (x : Bool). T (not x)) (sym e) tt) in
+          omega (arith, enough v l, upto limit (le-refl limit f), more v l js, more v l all)
+
+  same : T (not (isNan limit)) → ((v : Float) → T (lt limit v) → 10 ≤ passing limit js) → leastSquares near pts i js ≡ leastSquares near pts i all
+  unfolding leastSquares
+  same f enough =
+      least-same 10 (squaresTo near pts i js) (squaresTo near pts i all) (squares-good near pts i n inside numbers js (g .below)) (squares-good near pts i n inside numbers all (whole-below n all whole))
+      (λ (v : Float). ap (min 10) (squares-count near pts i v js) ∙ agree f enough v ∙ ap (min 10) (sym (squares-count near pts i v all)))
+
+  -- ten squares, none above the limit
+  pub decided-full : (f : List Float) → n + 10 ≤ length f → take 10 (drop n f) ≡ leastSquares near pts i js → T (le (getD f (n + 9) nan) limit) → leastSquares near pts i js ≡ leastSquares near pts i all
+  unfolding leastSquares
+  decided-full f long e l = same (le-right (getD f (n + 9) nan) limit l) (λ (v : Float) _. ten)
+    where
+      ys : List Float
+      ys = squaresTo near pts i js
+
+      many : 9 < length (sorted ys)
+      many =
+          let a : length (take 10 (drop n f)) ≡ 10 = length-take-le 10 (drop n f) (simp length-drop (omega arith)) in
+          let c = ap length e in
+          omega (arith, length-take 10 (sorted ys))
+
+      tenth : getD (sorted ys) 9 nan ≡ getD f (n + 9) nan
+      tenth =
+          sym (getD-take 10 (sorted ys) 9 nan (omega arith)) ∙ ap (λ (xs : List Float). getD xs 9 nan) (sym e) ∙ getD-take 10 (drop n f) 9 nan (omega arith) ∙ getD-drop n f 9 nan
+
+      ten : 10 ≤ passing limit js
+      ten =
+          let r = rising-upto limit (sorted ys) 9 (sorted-rising ys (squares-good near pts i n inside numbers js (g .below))) many (subst (λ (x : Float). T (le x limit)) (sym tenth) l) in
+          omega (arith, sorted-count (atMost limit) ys, squares-count near pts i limit js)
+
+  -- no limit
+  pub decided-everywhere : limit ≡ inf false → leastSquares near pts i js ≡ leastSquares near pts i all
+  unfolding isNan
+  decided-everywhere e =
+      same (subst (λ (x : Float). T (not (isNan x))) (sym e) tt) (λ (v : Float) (l : T (lt limit v)). absurd (none v (subst (λ (x : Float). T (lt x v)) e l)))
+    where
+      none : (v : Float) → T (lt (inf false) v) → ⊥
+      none v l = le-not-lt v (inf false) (le-top v (le-right (inf false) v (lt-le (inf false) v l))) l
+
+-- ---- a look
+pub looked : (a : Around) (pts : List Float) (n i : ℕ) (limit : Float) (w u : List ℕ) (f g : List Float) (h : Hash) (p : Point3f) (b : Bounds) (found r : ℕ)
+    → Prepared h pts n i w f → length g ≡ length f → p ≡ pointAt pts i → Covers p limit b → Gathered pts n b w u found
+    → take r (drop n g) ≡ leastSquares (isNear a u n) pts i (take found (drop (4 * n) u)) → r ≤ 10 → take n g ≡ take n f → Looked a pts n i limit w u f g r
+looked a pts n i limit w u f g h p b found r x size hp covers gathered squares few front = record {
+  few = few;
+  full = λ (e : r ≡ 10) (l : T (le (getD g (n + 9) nan) limit)).
+      squares ∙ decided-full near pts n i b js (upFrom 0 n) limit (x .inside) (x .hashed .ready .numbers) covers' (gathered .gathers) (up-whole n) g (omega (arith, x .room)) (ap (λ (k : ℕ). take k (drop n g)) (sym e) ∙ squares) l;
+  everywhere = λ (e : limit ≡ inf false). squares ∙ decided-everywhere near pts n i b js (upFrom 0 n) limit (x .inside) (x .hashed .ready .numbers) covers' (gathered .gathers) (up-whole n) e;
+  kept = record { front = front; before = gathered .before; after = gathered .after };
+}
+  where
+    near : ℕ → Bool
+    near = isNear a u n
+
+    js : List ℕ
+    js = take found (drop (4 * n) u)
+
+    covers' : Covers (pointAt pts i) limit b
+    covers' = subst (λ (q : Point3f). Covers q limit b) hp covers
+
+-- ---- one look after another
+pub kept-start : (n : ℕ) (w : List ℕ) (f : List Float) → Kept n w w f f
+kept-start n w f = record { front = refl; before = refl; after = refl }
+
+pub kept-then : {n : ℕ} {w u v : List ℕ} {f g e : List Float} → Kept n w u f g → Kept n u v g e → Kept n w v f e
+kept-then x y = record { front = y .front ∙ x .front; before = y .before ∙ x .before; after = y .after ∙ x .after }
+
+pub prepared-kept : {h : Hash} {pts : List Float} {n i : ℕ} {w u : List ℕ} {f g : List Float} → Prepared h pts n i w f → length u ≡ length w → length g ≡ length f → Kept n w u f g → Prepared h pts n i u g
+prepared-kept {h} {pts} {n} {i} {w} {u} x words floats k = record {
+  inside = x .inside;
+  room = omega (arith, x .room);
+  hashed = hashed-behind h pts n (5 * n) w u (omega arith) (k .after) words (x .hashed);
+}
+
+pub enough : (r : ℕ) (x limit : Float) → (eqb r 10 && le x limit) ≡ true → (r ≡ 10) × T (le x limit)
+enough r x limit e = let b = and-both {p = eqb r 10} {q = le x limit} e in (eqb-true r 10 (b .0), subst T (sym (b .1)) tt)
+
+-- ---- the least distances of the definition
+module _ (pts : List Float) (n i : ℕ) (inside : i < n) (numbers : (j : ℕ) → j < n → Finite (pointAt pts j)) (a : Around) (w : List ℕ) where
+  distances-are : (js : List ℕ) → Below n js → distancesTo pts i (keepIn (a .indexed) (a .range) (a .cell) w n js) ≡ map root (squaresTo (isNear a w n) pts i js)
+  unfolding distancesTo keepIn squaresTo isNear
+  distances-are [] b = refl
+  distances-are (j ∷ js) b = go (isNear a w n j) (eqb j i) refl (distances-are js (b .1))
+    where
+      later : List ℕ
+      later = keepIn (a .indexed) (a .range) (a .cell) w n js
+
+      squares : List Float
+      squares = squaresTo (isNear a w n) pts i js
+
+      go : (c d : Bool) → eqb j i ≡ d → distancesTo pts i later ≡ map root squares
+          → distancesTo pts i (cond c (j ∷ later) later) ≡ map root (cond (not d && c) (key pts i j ∷ squares) squares)
+      go true true e r = rw e r
+      go true false e r =
+          rw e (
+          ap (λ (d : Float). d ∷ distancesTo pts i later) (distance-back (pointAt pts i) (pointAt pts j) (numbers i inside) (numbers j (b .0)))
+          ∙ ap (λ (ds : List Float). root (key pts i j) ∷ ds) r
+          )
+      go false true e r = r
+      go false false e r = r
+
+one-more : (j m : ℕ) → bit (eqb j m) + bit (ltb j m) ≡ bit (ltb j (suc m))
+one-more j m = go (eqb j m) refl (ltb j m) refl
+  where
+    go : (c : Bool) → eqb j m ≡ c → (d : Bool) → ltb j m ≡ d → bit c + bit d ≡ bit (ltb j (suc m))
+    go true e true h = let same = eqb-true j m e in let l = ltb-true j m h in absurd (omega arith)
+    go true e false h = let same = eqb-true j m e in let l : j < suc m = omega arith in rw (lt-ltb j (suc m) l)
+    go false e true h = let k = ltb-true j m h in let l : j < suc m = omega arith in rw (lt-ltb j (suc m) l)
+    go false e false h = let d = eqb-false j m e in let k = ltb-false j m h in let l : suc m ≤ j = omega arith in rw (le-ltb j (suc m) l)
+
+by-cell-whole : (g : SpatialGrid) (pts : List Float) (m : ℕ) → Whole m (byCell g pts m)
+unfolding byCell
+by-cell-whole g pts zero j = let e : ltb j 0 ≡ false = le-ltb j 0 (omega arith) in sym (ap bit e)
+by-cell-whole g pts (suc m) j =
+    let c = insert-count (eqb j) (precedes g pts m) m (byCell g pts m) in
+    let r = by-cell-whole g pts m j in
+    omega (arith, one-more j m)
+
+order-whole : (indexed : Bool) (g : SpatialGrid) (pts : List Float) (n : ℕ) → Whole n (orderOf indexed g pts n)
+unfolding orderOf
+order-whole false g pts n = up-whole n
+order-whole true g pts n = by-cell-whole g pts n
+
+pub nearest-is : (c : BallPivotingConfig) (g : SpatialGrid) (pts : List Float) (n i : ℕ) (w : List ℕ) → i < n → ((j : ℕ) → j < n → Finite (pointAt pts j)) → Indexed g (c .«use_spatial_index») pts n w
+    → map root (leastSquares (isNear (aroundOf c g (pointAt pts i)) w n) pts i (upFrom 0 n)) ≡ nearest c g pts n i
+unfolding leastSquares nearest nearOf
+nearest-is c g pts n i w inside numbers x =
+    let a : Around = aroundOf c g (pointAt pts i) in
+    let near : ℕ → Bool = isNear a w n in
+    let all : List ℕ = orderOf (c .«use_spatial_index») g pts n in
+    ap (map root) (whole-same near pts n i inside numbers (upFrom 0 n) all (up-whole n) (order-whole (c .«use_spatial_index») g pts n))
+    ∙ sym (least-roots 10 (squaresTo near pts i all) (squares-good near pts i n inside numbers all (whole-below n all (order-whole (c .«use_spatial_index») g pts n))))
+    ∙ ap (λ (ds : List Float). take 10 (sorted ds)) (sym (distances-are pts n i inside numbers a w all (order-of-below (c .«use_spatial_index») g pts n)))
+    ∙ ap (λ (js : List ℕ). take 10 (sorted (distancesTo pts i js))) (near-is g (c .«use_spatial_index») pts n w (pointAt pts i) (c .radius ⊗ f32 0x40400000) (x .cells))

@@ -1,0 +1,102 @@
+-- A look that finds ten squares, none above its limit, decides, and so does the last one, which has no limit. Assumes nothing.
+use mathlib.Core.Path.{_≡_, refl, sym, _∙_}
+use Prim.Native.Nat.{_+_, _-_, _≤_}
+use native.Mathlib.Omega.{arith}
+use lib.ListN.{length, getD}
+use lib.Ieee.{nan}
+use borrow.Author.Needs.{needs}
+use Rattle.numbers.proofs.Compare.{infinite}
+use Rattle.radii.specs.Squares.{Kept}
+use Rattle.radii.proofs.Deciding.{prepared-kept, kept-start, kept-then, enough}
+use Rattle.radii.proofs.nearest.find_squares.Statement.{statement}
+use Rattle.radii.proofs.nearest.find_squares.Tie as tie
+
+abbrev Inv-loop : tie.InvT-loop
+Inv-loop points n hash around i guess w₀ f₀ everywhere limit₀ tries₀ w f limit tries = (length w ≡ length w₀) × (length f ≡ length f₀) × (tries ≤ 3) × Kept n w₀ w f₀ f
+
+abbrev μ-loop : tie.MeasureT-loop
+μ-loop points n hash around i guess w₀ f₀ everywhere limit₀ tries₀ w f limit tries = 3 - tries
+
+loop-holds : tie.Need-loop-holds Inv-loop μ-loop
+loop-holds c = let s = c .before .before .before in (refl, refl, search needs, kept-start (s .args .n) (s .args .w .now) (s .args .f .now))
+
+look-within-requires : tie.Need-look-within-requires Inv-loop μ-loop
+look-within-requires c κs = let l = c .before .before .before .loop in prepared-kept (c .before .before .before .before .before .before .before .pre) (l .inv .0) (l .inv .1) (l .inv .3)
+
+is-enough-requires : tie.Need-is-enough-requires Inv-loop μ-loop
+is-enough-requires c κs =
+    let l = c .before .before .before .before .before .before .before .before .before .loop in
+    let s = c .before .before .before .before .before .before .before .before .before .before .before .before .before in
+    (s .pre .hashed .ready .few, omega (arith, s .pre .room, l .inv .1, c .before .before .before .before .before .look-within .kept .1 .1 .1 .1 .1 .1 .1 .0))
+
+same-length : tie.Need-same-length Inv-loop μ-loop
+same-length c = search needs
+
+same-length-2 : tie.Need-same-length-2 Inv-loop μ-loop
+same-length-2 c = search needs
+
+returns : tie.Need-returns Inv-loop μ-loop
+returns c =
+    let s = c .before .before .before .before .before .before .before .before .before .before .before .before .before .before .before in
+    let l = c .before .before .before .before .before .before .before .before .before .before .before .loop in
+    let q = c .before .before .before .before .before .before .before .look-within in
+    let t = enough (q .result) (getD (q .last .1 .1 .1 .1 .1 .1 .1 .0) (s .args .n + 9) nan) (l .limit) (sym (c .before .is-enough .ensures) ∙ c .if1 .taken) in
+    record { few = q .ensures .few; decided = q .ensures .full (t .0) (t .1); kept = kept-then (l .inv .3) (q .ensures .kept) }
+
+wider-requires : tie.Need-wider-requires Inv-loop μ-loop
+wider-requires c κs =
+    let l = c .before .before .before .before .before .before .before .before .before .before .before .before .loop in
+    let s = c .before .before .before .before .before .before .before .before .before .before .before .before .before .before .before .before in
+    (s .pre .hashed .ready .few, omega (arith, s .pre .room, l .inv .1, c .before .before .before .before .before .before .before .before .look-within .kept .1 .1 .1 .1 .1 .1 .1 .0))
+
+add-tries : tie.Need-add-tries Inv-loop μ-loop
+add-tries c = search needs
+
+loop-less : tie.Need-loop-less Inv-loop μ-loop
+loop-less c = let l = c .before .before .before .before .before .before .before .before .before .before .before .before .before .loop in omega (arith, c .before .before .before .before .before .before .before .before .before .before .before .before .loop-test .taken)
+
+loop-again : tie.Need-loop-again Inv-loop μ-loop
+loop-again c =
+    let l = c .before .before .before .before .before .before .before .before .before .before .before .before .before .loop in
+    let q = c .before .before .before .before .before .before .before .before .before .look-within in (
+      q .kept .1 .1 .1 .1 .1 .1 .0 ∙ l .inv .0,
+      q .kept .1 .1 .1 .1 .1 .1 .1 .0 ∙ l .inv .1,
+      omega (arith, c .before .before .before .before .before .before .before .before .before .before .before .before .loop-test .taken),
+      kept-then (l .inv .3) (q .ensures .kept),
+    )
+
+look-within-requires-2 : tie.Need-look-within-requires-2 Inv-loop μ-loop
+look-within-requires-2 c κs = let l = c .before .before .before .loop in prepared-kept (c .before .before .before .before .before .before .before .pre) (l .inv .0) (l .inv .1) (l .inv .3)
+
+same-length-3 : tie.Need-same-length-3 Inv-loop μ-loop
+same-length-3 c = search needs
+
+same-length-4 : tie.Need-same-length-4 Inv-loop μ-loop
+same-length-4 c = search needs
+
+returns-2 : tie.Need-returns-2 Inv-loop μ-loop
+returns-2 c =
+    let l = c .before .before .before .before .before .before .before .before .loop in
+    let q = c .before .before .before .before .look-within2 in
+    record { few = q .ensures .few; decided = q .ensures .everywhere infinite; kept = kept-then (l .inv .3) (q .ensures .kept) }
+
+pub find-squares-spec : {M : Type 1} → statement M
+find-squares-spec =
+    tie.close
+    (tie.spec
+    Inv-loop
+    μ-loop
+    loop-holds
+    look-within-requires
+    is-enough-requires
+    same-length
+    same-length-2
+    returns
+    wider-requires
+    add-tries
+    loop-less
+    loop-again
+    look-within-requires-2
+    same-length-3
+    same-length-4
+    returns-2)

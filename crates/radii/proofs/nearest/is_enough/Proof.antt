@@ -1,0 +1,25 @@
+-- `radii::nearest::is_enough` meets its contract. Assumes nothing.
+use borrow.Author.Needs.{needs}
+use borrow.Author.Tests.{eq-eqb, ne-eqb}
+use Rattle.radii.proofs.nearest.is_enough.Statement.{statement}
+use Rattle.radii.proofs.nearest.is_enough.Tie as tie
+
+add-result : tie.Need-add-result
+add-result c = search needs
+
+mul-result : tie.Need-mul-result
+mul-result c = search needs
+
+shared-slice-read-result : tie.Need-shared-slice-read-result
+shared-slice-read-result c = search needs
+
+returns : tie.Need-returns
+returns c = rw (eq-eqb (c .before .before .args .kept) 10 (c .before .if1 .taken))
+
+returns-2 : tie.Need-returns-2
+returns-2 c = rw (ne-eqb (c .before .args .kept) 10 (c .if1 .left))
+
+pub is-enough-spec : {M : Type 1} → statement M
+is-enough-spec =
+    tie.close
+    (tie.spec add-result mul-result shared-slice-read-result returns returns-2)

@@ -1,0 +1,104 @@
+-- What is in hand, with the points to come, always gives the ten least squares. Assumes nothing.
+use mathlib.Core.Path.{_≡_, refl, sym, _∙_}
+use Prim.Native.Nat.{_+_, _-_, _*_, _≤_}
+use native.Mathlib.Omega.{arith}
+use lib.ListN.{length, take, drop}
+use borrow.Author.Needs.{needs}
+use Rattle.sorting.specs.Sorted.{insertAll}
+use Rattle.spatial_hash.proofs.Nearby.{listed-point}
+use Rattle.radii.specs.Squares.{isNear, squaresTo, leastSquares}
+use Rattle.radii.proofs.Looking.{look-step, look-end}
+use Rattle.radii.proofs.nearest.least_squares.Statement.{statement}
+use Rattle.radii.proofs.nearest.least_squares.Tie as tie
+
+abbrev Inv-loop : tie.InvT-loop
+Inv-loop points n around i w found f₀ kept₀ k₀ f kept k =
+    (length f ≡ length f₀) × (k ≤ found) × (kept ≤ 10) × (leastSquares (isNear around w n) points i (take found (drop (4 * n) w)) ≡ take 10 (insertAll (take kept (drop n f)) (squaresTo (isNear around w n) points i (drop k (take found (drop (4 * n) w)))))) × (take n f ≡ take n f₀)
+
+abbrev μ-loop : tie.MeasureT-loop
+μ-loop points n around i w found f₀ kept₀ k₀ f kept k = found - k
+
+loop-holds : tie.Need-loop-holds Inv-loop μ-loop
+unfolding leastSquares
+loop-holds c = (refl, search needs, search needs, refl, refl)
+
+mul-look-at : tie.Need-mul-look-at Inv-loop μ-loop
+mul-look-at c = search needs
+
+add-look-at : tie.Need-add-look-at Inv-loop μ-loop
+add-look-at c = search needs
+
+mul-look-at-2 : tie.Need-mul-look-at-2 Inv-loop μ-loop
+mul-look-at-2 c = search needs
+
+shared-slice-read-look-at : tie.Need-shared-slice-read-look-at Inv-loop μ-loop
+shared-slice-read-look-at c = search needs
+
+cast-look-at : tie.Need-cast-look-at Inv-loop μ-loop
+cast-look-at c =
+    let l = c .before .before .loop in
+    let s = c .before .before .before .before .before .before in
+    omega (arith, c .shared-slice-known3 .given (4 * s .args .n + l .k))
+
+look-at-requires : tie.Need-look-at-requires Inv-loop μ-loop
+look-at-requires c κs =
+    let l = c .before .before .before .loop in
+    let s = c .before .before .before .before .before .before .before in (
+      s .pre .0,
+      listed-point (s .args .w .now) (4 * s .args .n) (s .args .n) (s .args .found) (l .k) (omega (arith, s .pre .2, s .pre .4)) (c .before .before .loop-test .taken) (s .pre .6),
+      s .pre .1,
+      s .pre .3,
+      omega (arith, s .pre .4),
+      omega (arith, l .inv .0, s .pre .5),
+      l .inv .2,
+    )
+
+add-k : tie.Need-add-k Inv-loop μ-loop
+add-k c = search needs
+
+loop-less : tie.Need-loop-less Inv-loop μ-loop
+loop-less c = search needs
+
+loop-again : tie.Need-loop-again Inv-loop μ-loop
+loop-again c =
+    let l = c .before .before .before .before .before .before .loop in
+    let s = c .before .before .before .before .before .before .before .before .before .before in
+    let e = c .before .before .look-at in (
+      (e .kept .1 .1 .1 .1 .1 .1 .0) ∙ l .inv .0,
+      search needs,
+      e .ensures .1,
+      l .inv .3
+          ∙ look-step (isNear (s .args .around) (s .args .w .now) (s .args .n)) (s .args .points .now) (s .args .i) (s .args .w .now) (4 * s .args .n) (s .args .found) (omega (arith, s .pre .2, s .pre .4)) (l .k) (take (l .kept) (drop (s .args .n) (l .f))) (take (e .result) (drop (s .args .n) (e .last .1 .1 .1 .1 .1 .1 .0))) (c .before .before .before .before .before .loop-test .taken) (e .ensures .0),
+      e .ensures .2 ∙ l .inv .4,
+    )
+
+same-length : tie.Need-same-length Inv-loop μ-loop
+same-length c = search needs
+
+returns : tie.Need-returns Inv-loop μ-loop
+returns c =
+    let l = c .before .loop in
+    let s = c .before .before .before .before .before in (
+      sym (l .inv .3 ∙ look-end (isNear (s .args .around) (s .args .w .now) (s .args .n)) (s .args .points .now) (s .args .i) (s .args .w .now) (4 * s .args .n) (s .args .found) (omega (arith, s .pre .2, s .pre .4)) (l .k) (drop (s .args .n) (l .f)) (l .kept) (c .loop-test .left) (l .inv .2)),
+      l .inv .2,
+      l .inv .4,
+    )
+
+pub least-squares-spec : {M : Type 1} → statement M
+least-squares-spec =
+    tie.close
+    (tie.spec
+    Inv-loop
+    μ-loop
+    loop-holds
+    mul-look-at
+    add-look-at
+    mul-look-at-2
+    shared-slice-read-look-at
+    cast-look-at
+    look-at-requires
+    add-k
+    loop-less
+    loop-again
+    same-length
+    returns)

@@ -1,0 +1,76 @@
+-- The least squared distances from a sample to its neighbours, and when those that were looked at decide. Definitions only.
+use Prim.Native.Nat.{ℕ, _+_, _*_, _≤_, _<_}
+use mathlib.Core.Path.{_≡_}
+use mathlib.Core.Bool.{Bool, false, cond, not, _&&_, _||_}
+use mathlib.Core.List.{List, [], _∷_}
+use lib.Dec.{T, eqb, ltb}
+use lib.ListN.{length, take, drop, getD}
+use lib.Ieee.{Float, nan, inf, le}
+use Rattle.numbers.specs.Rounded.{f32, _⊗_}
+use Rattle.triangle.specs.declared.Point3f.{Point3f}
+use Rattle.triangle.specs.Vector.{squared}
+use Rattle.points.specs.Points.{pointAt, upFrom}
+use Rattle.sorting.specs.Sorted.{insert, sorted}
+use Rattle.domain.specs.declared.BallPivotingConfig.{BallPivotingConfig}
+use Rattle.grid.specs.declared.SpatialGrid.{SpatialGrid}
+use Rattle.grid.specs.Grid.{cellOf, rangeOf, inRange}
+use Rattle.grid.specs.Index.{cellIn}
+use Rattle.patch.specs.Count.{count, bit}
+use Rattle.spatial_hash.specs.declared.Hash.{Hash}
+use Rattle.spatial_hash.specs.Near.{Hashed}
+use Rattle.radii.specs.declared.Around.{Around}
+
+-- the neighbours of a place at 3 × radius
+abbrev pub aroundOf : BallPivotingConfig → SpatialGrid → Point3f → Around
+aroundOf c g p = record { indexed = c .«use_spatial_index»; range = rangeOf g (c .radius ⊗ f32 0x40400000); cell = cellOf g p }
+
+-- whether point j is a neighbour, by its kept cell
+unfoldable pub isNear : Around → List ℕ → ℕ → ℕ → Bool
+isNear a w n j = not (a .indexed) || inRange (a .range) (a .cell) (cellIn w n j)
+
+-- the squared distances from point i to the others among js that are near
+unfoldable pub squaresTo : (ℕ → Bool) → List Float → ℕ → List ℕ → List Float
+squaresTo near pts i [] = []
+squaresTo near pts i (j ∷ js) =
+    let later = squaresTo near pts i js in
+    cond (not (eqb j i) && near j) (squared (pointAt pts j) (pointAt pts i) ∷ later) later
+
+-- the up to 10 least of them, in rising order
+unfoldable pub leastSquares : (ℕ → Bool) → List Float → ℕ → List ℕ → List Float
+leastSquares near pts i js = take 10 (sorted (squaresTo near pts i js))
+
+-- the least squares, once point j has been looked at
+unfoldable pub withSquare : (ℕ → Bool) → List Float → ℕ → ℕ → List Float → List Float
+withSquare near pts i j kept = cond (not (eqb j i) && near j) (take 10 (insert (squared (pointAt pts j) (pointAt pts i)) kept)) kept
+
+-- every point is listed, each once
+abbrev pub Whole : ℕ → List ℕ → Type 0
+Whole n js = (j : ℕ) → count (eqb j) js ≡ bit (ltb j n)
+
+-- what a search for the least squares of point i needs
+pub record Prepared (h : Hash) (pts : List Float) (n i : ℕ) (w : List ℕ) (f : List Float) : Type 0 where
+  pub inside : i < n
+  pub room : n + 10 ≤ length f
+  pub hashed : Hashed h pts n w
+
+-- the r numbers in the region of the least distances are the least squares from point i to its other neighbours, of all points
+abbrev pub Decided : Around → List Float → ℕ → ℕ → List ℕ → List Float → ℕ → Type 0
+Decided a pts n i w f r = take r (drop n f) ≡ leastSquares (isNear a w n) pts i (upFrom 0 n)
+
+-- what changes in the slices, w to u and f to g, while a sample's squares are looked for: the list of neighbours, and the region of the least distances
+pub record Kept (n : ℕ) (w u : List ℕ) (f g : List Float) : Type 0 where
+  pub front : take n g ≡ take n f
+  pub before : take (4 * n) u ≡ take (4 * n) w
+  pub after : drop (5 * n) u ≡ drop (5 * n) w
+
+-- a look from point i within a limit decides if it found ten squares and the last is not above the limit, or if there is no limit
+pub record Looked (a : Around) (pts : List Float) (n i : ℕ) (limit : Float) (w u : List ℕ) (f g : List Float) (r : ℕ) : Type 0 where
+  pub few : r ≤ 10
+  pub full : r ≡ 10 → T (le (getD g (n + 9) nan) limit) → Decided a pts n i u g r
+  pub everywhere : limit ≡ inf false → Decided a pts n i u g r
+  pub kept : Kept n w u f g
+
+pub record Found (a : Around) (pts : List Float) (n i : ℕ) (w u : List ℕ) (f g : List Float) (r : ℕ) : Type 0 where
+  pub few : r ≤ 10
+  pub decided : Decided a pts n i u g r
+  pub kept : Kept n w u f g

@@ -1,0 +1,161 @@
+-- Of points that were gathered: each whose squared distance is not above a limit that the bounds cover is among them (`near-gathered`),
+-- and a test that only such points pass is passed as often by those gathered as by all (`gathered-count`). Assumes nothing.
+use mathlib.Core.Path.{_≡_, refl, sym, ap, subst, _∙_}
+use mathlib.Core.Bool.{Bool, true, false, cond}
+use mathlib.Core.List.{List, [], _∷_}
+use Prim.Native.Nat.{ℕ, zero, suc, _+_, _≤_, _<_}
+use native.Mathlib.Omega.{arith}
+use borrow.Author.Tests.{eq-eqb, eqb-true, eqb-false, ltb-true, ltb-false}
+use lib.Dec.{T, eqb, ltb}
+use lib.ListN.{length, take, drop, getD, length-drop}
+use lib.Seq.{getD-take, getD-drop, length-take-le}
+use lib.Ieee.{Float, le}
+use Rattle.numbers.proofs.OrderLaws.{le-not-lt}
+use Rattle.triangle.specs.declared.Point3f.{Point3f}
+use Rattle.triangle.specs.Vector.{squared}
+use Rattle.points.specs.Points.{pointAt, upFrom}
+use Rattle.patch.specs.Count.{count, bit}
+use Rattle.patch.specs.Search.{Below}
+use Rattle.spatial_hash.specs.declared.Bounds.{Bounds}
+use Rattle.spatial_hash.specs.Near.{Finite, within, Covers, Gathers}
+
+-- ---- lists with the same members
+no-count : {k : ℕ} → (1 ≤ k → ⊥) → k ≡ 0
+no-count {k = zero} h = refl
+no-count {k = suc k} h = absurd (h (omega arith))
+
+-- x, taken out once
+unfoldable without : ℕ → List ℕ → List ℕ
+without x [] = []
+without x (y ∷ ys) = let later = without x ys in cond (eqb x y) ys (y ∷ later)
+
+apart : (test : ℕ → Bool) (y x : ℕ) → test y ≡ true → test x ≡ false → eqb y x ≡ false
+apart test y x t e = go (eqb y x) refl
+  where
+    go : (b : Bool) → eqb y x ≡ b → b ≡ false
+    go true q = sym t ∙ ap test (eqb-true y x q) ∙ e
+    go false q = refl
+
+module _ (test : ℕ → Bool) where
+  without-count : (x : ℕ) (ys : List ℕ) → 1 ≤ count (eqb x) ys → count test ys ≡ bit (test x) + count test (without x ys)
+  unfolding without
+  without-count x [] h = absurd (omega arith)
+  without-count x (y ∷ ys) h = go (eqb x y) refl (without-count x ys)
+    where
+      go : (b : Bool) → eqb x y ≡ b → (1 ≤ count (eqb x) ys → count test ys ≡ bit (test x) + count test (without x ys)) → count test (y ∷ ys) ≡ bit (test x) + count test (cond b ys (y ∷ without x ys))
+      go true e r = ap (λ (z : ℕ). bit (test z) + count test ys) (sym (eqb-true x y e))
+      go false e r =
+          let z : bit (eqb x y) ≡ 0 = ap bit e in
+          let i = r (omega arith) in omega arith
+
+module _ (test : ℕ → Bool) where
+  none-counted : (ys : List ℕ) → ((y : ℕ) → test y ≡ true → count (eqb y) ys ≡ 0) → count test ys ≡ 0
+  none-counted [] h = refl
+  none-counted (y ∷ ys) h = go (test y) refl (none-counted ys (λ (z : ℕ) (t : test z ≡ true). let c = h z t in omega arith))
+    where
+      go : (b : Bool) → test y ≡ b → count test ys ≡ 0 → count test (y ∷ ys) ≡ 0
+      go true e r = let c = h y e in let o : bit (eqb y y) ≡ 1 = ap bit (eq-eqb y y refl) in absurd (omega arith)
+      go false e r = let z : bit (test y) ≡ 0 = ap bit e in omega arith
+
+  -- lists that have each number that passes equally often
+  pub count-same : (xs ys : List ℕ) → ((x : ℕ) → test x ≡ true → count (eqb x) xs ≡ count (eqb x) ys) → count test xs ≡ count test ys
+  count-same [] ys h = sym (none-counted ys (λ (y : ℕ) (t : test y ≡ true). sym (h y t)))
+  count-same (x ∷ xs) ys h = go (test x) refl (count-same xs ys) (count-same xs (without x ys))
+    where
+      go : (b : Bool) → test x ≡ b → (((z : ℕ) → test z ≡ true → count (eqb z) xs ≡ count (eqb z) ys) → count test xs ≡ count test ys)
+          → (((z : ℕ) → test z ≡ true → count (eqb z) xs ≡ count (eqb z) (without x ys)) → count test xs ≡ count test (without x ys)) → count test (x ∷ xs) ≡ count test ys
+      go true e r s =
+          let o : bit (eqb x x) ≡ 1 = ap bit (eq-eqb x x refl) in
+          let some : 1 ≤ count (eqb x) ys = omega (arith, h x e) in
+          let rest = s (λ (z : ℕ) (t : test z ≡ true). omega (arith, h z t, without-count (eqb z) x ys some)) in
+          omega (arith, without-count test x ys some)
+      go false e r s =
+          let z : bit (test x) ≡ 0 = ap bit e in
+          let rest = r (λ (y : ℕ) (t : test y ≡ true). let d : bit (eqb y x) ≡ 0 = ap bit (apart test y x t e) in omega (arith, h y t)) in
+          omega arith
+
+-- ---- what was gathered
+pub near-gathered : (pts : List Float) (n : ℕ) (b : Bounds) (js : List ℕ) (p : Point3f) (t : Float) → ((j : ℕ) → j < n → Finite (pointAt pts j)) → Covers p t b → Gathers pts n b js
+    → (j : ℕ) → j < n → T (le (squared (pointAt pts j) p) t) → 1 ≤ count (eqb j) js
+near-gathered pts n b js p t numbers covers g j h l = go (within b (pointAt pts j)) refl
+  where
+    go : (x : Bool) → within b (pointAt pts j) ≡ x → 1 ≤ count (eqb j) js
+    go true e = g .complete j h e
+    go false e =
+        absurd (le-not-lt (squared (pointAt pts j) p) t l (covers (pointAt pts j) (numbers j h) e))
+
+-- ---- the numbers from i on, m of them
+pub up-in : (j i m : ℕ) → 1 ≤ count (eqb j) (upFrom i m) → (i ≤ j) × (j < i + m)
+unfolding upFrom
+up-in j i zero h = absurd (omega arith)
+up-in j i (suc m) h = go (eqb j i) refl (up-in j (i + 1) m)
+  where
+    go : (b : Bool) → eqb j i ≡ b → (1 ≤ count (eqb j) (upFrom (i + 1) m) → (i + 1 ≤ j) × (j < i + 1 + m)) → (i ≤ j) × (j < i + suc m)
+    go true e r = let s = eqb-true j i e in (omega arith, omega arith)
+    go false e r =
+        let z : bit (eqb j i) ≡ 0 = ap bit e in
+        let k = r (omega arith) in (omega arith, omega arith)
+
+pub up-has : (j i m : ℕ) → i ≤ j → j < i + m → 1 ≤ count (eqb j) (upFrom i m)
+unfolding upFrom
+up-has j i zero h k = absurd (omega arith)
+up-has j i (suc m) h k = go (eqb j i) refl (up-has j (i + 1) m)
+  where
+    go : (b : Bool) → eqb j i ≡ b → (i + 1 ≤ j → j < i + 1 + m → 1 ≤ count (eqb j) (upFrom (i + 1) m)) → 1 ≤ count (eqb j) (upFrom i (suc m))
+    go true e r = rw e (omega arith)
+    go false e r =
+        let d = eqb-false j i e in
+        let l = r (omega arith) (omega arith) in
+        omega arith
+
+up-once : (j i m : ℕ) → count (eqb j) (upFrom i m) ≤ 1
+unfolding upFrom
+up-once j i zero = omega arith
+up-once j i (suc m) = go (eqb j i) refl (up-once j (i + 1) m)
+  where
+    go : (b : Bool) → eqb j i ≡ b → count (eqb j) (upFrom (i + 1) m) ≤ 1 → count (eqb j) (upFrom i (suc m)) ≤ 1
+    go true e r =
+        let z : bit (eqb j i) ≡ 1 = ap bit e in
+        let s = eqb-true j i e in
+        let none : count (eqb j) (upFrom (i + 1) m) ≡ 0 = no-count (λ h. let k = up-in j (i + 1) m h in omega arith) in
+        omega arith
+    go false e r = let z : bit (eqb j i) ≡ 0 = ap bit e in omega arith
+
+-- ---- every point, each once
+pub up-whole : (n j : ℕ) → count (eqb j) (upFrom 0 n) ≡ bit (ltb j n)
+up-whole n j = go (ltb j n) refl
+  where
+    go : (b : Bool) → ltb j n ≡ b → count (eqb j) (upFrom 0 n) ≡ bit b
+    go true e =
+        let l = ltb-true j n e in
+        let h = up-has j 0 n (omega arith) (omega arith) in
+        let o = up-once j 0 n in omega arith
+    go false e = let l = ltb-false j n e in no-count (λ h. let k = up-in j 0 n h in omega arith)
+
+-- a test that only points pass whose squared distance is not above the limit is passed as often by those gathered as by all
+pub gathered-count : (pts : List Float) (n : ℕ) (b : Bounds) (js all : List ℕ) (p : Point3f) (t : Float) → ((j : ℕ) → j < n → Finite (pointAt pts j)) → Covers p t b → Gathers pts n b js → ((j : ℕ) → count (eqb j) all ≡ bit (ltb j n))
+    → (test : ℕ → Bool) → ((j : ℕ) → j < n → test j ≡ true → T (le (squared (pointAt pts j) p) t)) → count test js ≡ count test all
+gathered-count pts n b js all p t numbers covers g whole test near = count-same test js all (λ (j : ℕ) (h : test j ≡ true). go j h (ltb j n) refl)
+  where
+    go : (j : ℕ) → test j ≡ true → (x : Bool) → ltb j n ≡ x → count (eqb j) js ≡ count (eqb j) all
+    go j h true e =
+        let l = ltb-true j n e in
+        let m = near-gathered pts n b js p t numbers covers g j l (near j l h) in
+        let z : bit (ltb j n) ≡ 1 = ap bit e in
+        omega (arith, g .once j, whole j)
+    go j h false e =
+        let l = ltb-false j n e in
+        let z : bit (ltb j n) ≡ 0 = ap bit e in
+        let none : count (eqb j) js ≡ 0 = no-count (λ k. let m = g .below j k in omega arith) in
+        omega (arith, whole j)
+
+-- ---- the k-th of the points listed is a point
+counted-at : (js : List ℕ) (k : ℕ) → k < length js → 1 ≤ count (eqb (getD js k 0)) js
+counted-at [] k h = absurd (omega arith)
+counted-at (j ∷ js) zero h = rw (eq-eqb j j refl) (omega arith)
+counted-at (j ∷ js) (suc k) h = let r = counted-at js k (omega arith) in omega arith
+
+pub listed-point : (w : List ℕ) (at n found k : ℕ) → at + found ≤ length w → k < found → Below n (take found (drop at w)) → getD w (at + k) 0 < n
+listed-point w at n found k long h below =
+    let size : length (take found (drop at w)) ≡ found = length-take-le found (drop at w) (simp length-drop (omega arith)) in
+    subst (λ (j : ℕ). j < n) (getD-take found (drop at w) k 0 h ∙ getD-drop at w k 0) (below (getD (take found (drop at w)) k 0) (counted-at (take found (drop at w)) k (omega arith)))
