@@ -1,3 +1,4 @@
 pub mod Within
 pub mod Examples
 pub mod Scores
+pub mod Completed

@@ -42,18 +42,6 @@ pub fn is_close(points: &[f32], radius: f32, i: usize, j: usize) -> bool
     !(apart_at(points, i, j) > radius * 2.0)
 }
 
-// The quality of the triangle of points i, j and k.
-fn quality_at(points: &[f32], i: usize, j: usize, k: usize) -> TriangleQuality
-    requires { ⌜ (3 * i + 2 < length (now points)) × (3 * j + 2 < length (now points)) × (3 * k + 2 < length (now points)) ⌝ }
-    ensures { λ r. ⌜ r ≡ qualityAt (now (points .entry)) i j k ⌝ }
-{
-    triangle::compute_triangle_quality(
-        points::point_at(points, i),
-        points::point_at(points, j),
-        points::point_at(points, k),
-    )
-}
-
 // The area of the triangle of points i, j and k.
 fn area_at(points: &[f32], i: usize, j: usize, k: usize) -> f32
     requires { ⌜ (3 * i + 2 < length (now points)) × (3 * j + 2 < length (now points)) × (3 * k + 2 < length (now points)) ⌝ }
@@ -153,16 +141,42 @@ pub fn score_above(
     score_from(s, radius, side, to_b, to_a, area_at(points, a, b, k), top)
 }
 
+// Whether the settings accept the triangle of points i, j and k, `to_i` and `to_j` being the lengths of two edges.
+// The area is asked first, since it needs no other length and no angle.
+fn is_accepted_at(
+    s: Scene,
+    points: &[f32],
+    radius: f32,
+    i: usize,
+    j: usize,
+    k: usize,
+    to_i: f32,
+    to_j: f32,
+) -> bool
+    requires { ⌜ (3 * i + 2 < length (now points)) × (3 * j + 2 < length (now points)) × (3 * k + 2 < length (now points)) × («to_i» ≡ apart (now points) i k) × («to_j» ≡ apart (now points) j k) ⌝ }
+    ensures { λ r. ⌜ r ≡ accepts s radius (qualityAt (now (points .entry)) i j k) ⌝ }
+{
+    let area = area_at(points, i, j, k);
+    if area < s.min_triangle_area {
+        return false;
+    }
+    let side = apart_at(points, j, i);
+    let shape = triangle::shape_of(side, to_j, to_i, area);
+    is_accepted(s, radius, triangle::quality_of(side, to_j, to_i, shape))
+}
+
 // Whether k is near enough to i and j and makes an acceptable triangle with them.
 pub fn is_completed(s: Scene, points: &[f32], radius: f32, i: usize, j: usize, k: usize) -> bool
     requires { ⌜ (3 * i + 2 < length (now points)) × (3 * j + 2 < length (now points)) × (3 * k + 2 < length (now points)) ⌝ }
     ensures { λ r. ⌜ r ≡ completes s (now (points .entry)) radius i j k ⌝ }
 {
-    if !is_close(points, radius, i, k) {
+    let to_i = apart_at(points, i, k);
+    if to_i > radius * 2.0 {
         return false;
     }
-    if !is_close(points, radius, j, k) {
+    let to_j = apart_at(points, j, k);
+    if to_j > radius * 2.0 {
         return false;
     }
-    is_accepted(s, radius, quality_at(points, i, j, k))
+    is_accepted_at(s, points, radius, i, j, k, to_i, to_j)
 }
