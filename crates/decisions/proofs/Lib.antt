@@ -1,4 +1,5 @@
 pub mod Within
+pub mod Refusals
 pub mod Examples
 pub mod Scores
 pub mod Completed

@@ -1,3 +1,4 @@
 -- What the crate's contracts cite, leaves first.
 pub mod Decisions
 pub mod Found
+pub mod Refused

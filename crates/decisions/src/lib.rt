@@ -1,4 +1,6 @@
 // What the floats decide of points by their numbers: which are near enough to each other, which triangles are acceptable, and how good they are.
+pub mod refused;
+
 use grid::SpatialGrid;
 use triangle::Point3f;
 use triangle::TriangleQuality;

@@ -11,7 +11,10 @@ pub mod RoundedOrder
 pub mod SumOrder
 pub mod ProductOrder
 pub mod QuotientOrder
+pub mod Bounded
 pub mod Minimum
+pub mod Maximum
+pub mod AtLeastOne
 pub mod CutOrder
 pub mod RootExamples
 pub mod Compare

@@ -279,6 +279,10 @@ positive-unsigned (inf s) h = h
 positive-unsigned (fin true m e) h = h
 positive-unsigned (fin false m e) h = tt
 
+pub nothing-below : (d : ℤ) → T (lt (f32 0) (fin false 0 d)) → ⊥
+unfolding ofBits
+nothing-below d p = omega (arith, lt→side (f32 0) (fin false 0 d) tt tt p)
+
 -- ---- a format has one float for a number and a sign: how many of its smallest units it is gives the bits
 
 same-bits : (f : Format) (s : Bool) (m : ℕ) (e : ℤ) (n : ℕ) (d : ℤ) → m * up e * down d ≡ n * up d * down e → toBits f (fin s m e) ≡ toBits f (fin s n d)

@@ -78,6 +78,27 @@ mul-monotone (fin s m e) (fin t n d) c f h z i j = mul-monotone-finite (fin s m 
 pub mul-number : (x c : Float) → T (finite x) → T (finite c) → T (not (isNan (x ⊗ c)))
 mul-number = of-finite (λ x c. T (not (isNan (x ⊗ c)))) (λ s m e t n d. unfold mul in round-number (unlike s t) (m * up e * (n * up d)) (down e * down d) (mul-pos (down-pos e) (down-pos d)))
 
+unlike-swap : (s t : Bool) → unlike s t ≡ unlike t s
+unlike-swap true true = refl
+unlike-swap true false = refl
+unlike-swap false true = refl
+unlike-swap false false = refl
+
+pub mul-commutative : (x y : Float) → x ⊗ y ≡ y ⊗ x
+unfolding mul
+mul-commutative nan nan = refl
+mul-commutative nan (inf t) = refl
+mul-commutative nan (fin t n d) = refl
+mul-commutative (inf s) nan = refl
+mul-commutative (inf s) (inf t) = ap inf (unlike-swap s t)
+mul-commutative (inf s) (fin t n d) = ap (λ (b : Bool). cond (eqb n 0) nan (inf b)) (unlike-swap s t)
+mul-commutative (fin s m e) nan = refl
+mul-commutative (fin s m e) (inf t) = ap (λ (b : Bool). cond (eqb m 0) nan (inf b)) (unlike-swap s t)
+mul-commutative (fin s m e) (fin t n d) =
+    ap (λ (b : Bool). round binary32 b (m * up e * (n * up d)) (down e * down d)) (unlike-swap s t)
+    ∙ ap (λ (k : ℕ). round binary32 (unlike t s) k (down e * down d)) (mul-comm (m * up e) (n * up d))
+    ∙ ap (λ (k : ℕ). round binary32 (unlike t s) (n * up d * (m * up e)) k) (mul-comm (down e) (down d))
+
 -- ---- squares
 
 square-is : (x : Float) → T (finite x) → x ⊗ x ≡ round binary32 false (num x * num x) (den x * den x)

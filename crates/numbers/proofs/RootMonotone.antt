@@ -16,7 +16,7 @@ use lib.Ieee.Order.{le-of-values}
 use lib.Ieee.Positive.{positive, above, above-of-le, values-of-le, positive-of-value, positive-finite}
 use Rattle.numbers.specs.Rounded.{f32}
 use Rattle.numbers.specs.Root.{root}
-use Rattle.numbers.proofs.OrderLaws.{side, le→side, side→lt, lt-le, le-top, top-le, finite-number}
+use Rattle.numbers.proofs.OrderLaws.{side, le→side, side→lt, lt-le, le-top, top-le, finite-number, positive-unsigned, nothing-below}
 use Rattle.numbers.proofs.RootNearest.{root-nearest}
 
 -- ---- between numbers above zero
@@ -98,3 +98,14 @@ root-monotone (fin true (suc m) e) y f g z h = absurd (not-under false (pos 0) m
 root-monotone (fin false (suc m) e) y f g z h =
     let p = lt→ltb 0 (suc m) (zero-lt-suc m) in
     positive-le-root (fin false (suc m) e) y f g p (above-of-le (fin false (suc m) e) y p h) h
+
+-- above zero it is above zero, and an f32
+pub root-above : (x : Float) → T (fits binary32 x) → T (lt (f32 0) x) → T (lt (f32 0) (root x)) × T (fits binary32 (root x))
+root-above nan f p = absurd (positive-unsigned nan p)
+root-above (inf true) f p = absurd (positive-unsigned (inf true) p)
+root-above (inf false) f p = unfold root lt fits ofBits in (tt, tt)
+root-above (fin true m e) f p = absurd (positive-unsigned (fin true m e) p)
+root-above (fin false zero e) f p = absurd (nothing-below e p)
+root-above (fin false (suc m) e) f p =
+    let q = lt→ltb 0 (suc m) (zero-lt-suc m) in
+    (unfold ofBits in zero-lt-positive false (pos 0) (root (fin false (suc m) e)) (root-positive (fin false (suc m) e) f q), root-nearest (fin false (suc m) e) f q .held)

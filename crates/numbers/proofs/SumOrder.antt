@@ -64,7 +64,7 @@ add-monotone x x' y y' f f' g g' h k =
         rw (spread p c q d d' c', spread n c o d d' c', spread n' c' o' d' d c, spread p' c' q' d' d c, mul-comm c' c, mul-comm d' d)
         (joined (p * d' * (c * c')) (n' * d * (c * c')) (p' * d * (c * c')) (n * d' * (c * c')) (q * c' * (d * d')) (o' * c * (d * d')) (q' * c * (d * d')) (o * c' * (d * d')) i j)
 
-neg-finite : (x : Float) → T (finite x) → T (finite (neg x))
+pub neg-finite : (x : Float) → T (finite x) → T (finite (neg x))
 unfolding neg
 neg-finite nan f = f
 neg-finite (inf s) f = f

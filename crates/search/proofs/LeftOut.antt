@@ -117,7 +117,7 @@ and-nothing true false u c z h = refl
 and-nothing true true false c z h = refl
 and-nothing true true true c z h = rw h
 
-finite-point : {p : Point3f} → Finite p → FinitePoint p
+pub finite-point : {p : Point3f} → Finite p → FinitePoint p
 finite-point f = record { finite-x = f .x-finite; finite-y = f .y-finite; finite-z = f .z-finite }
 
 module _ (s : Scene) (pts : List Float) (r : Float) (used : List ℕ) where

@@ -6,3 +6,5 @@ pub mod Narrowing
 pub mod LeftOut
 pub mod Steps
 pub mod State
+pub mod Spread
+pub mod Nothing

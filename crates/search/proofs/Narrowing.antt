@@ -136,7 +136,7 @@ module _ {s : Scene} {pts : List Float} {f : Filter} {w₀ : List ℕ} {found : 
     }
 
 -- ---- what is left are the neighbours, without those that are used or beyond the limit
-in-reach : (pts : List Float) (used : List ℕ) (p : Point3f) (t : Float) (k : ℕ) → inReach pts used p t k ≡ true → lt t (squared (pointAt pts k) p) ≡ false
+pub in-reach : (pts : List Float) (used : List ℕ) (p : Point3f) (t : Float) (k : ℕ) → inReach pts used p t k ≡ true → lt t (squared (pointAt pts k) p) ≡ false
 unfolding inReach
 in-reach pts used p t k h = not-true (lt t (squared (pointAt pts k) p)) (and-both {p = unused used k} h .1)
 

@@ -1,3 +1,4 @@
 -- What the crate's contracts cite.
 pub mod Ready
 pub mod Narrow
+pub mod Spread

@@ -1,4 +1,5 @@
 // The two searches of ball pivoting: a seed triangle, and the point that the ball meets over an edge.
+mod areas;
 mod candidates;
 mod nearby;
 mod triples;
@@ -38,7 +39,11 @@ pub fn find_seed_triangle(s: Scene, points: &[f32], w: &mut [u32], radius: f32, 
     requires { ⌜ Held s (now points) (now w) × Indexed (s .grid) (s .indexed) (now points) (s .n) (now w) × Hashed hash (now points) (s .n) (now w) ⌝ }
     ensures { λ r. ⌜ (r ≡ seedFound (searching (floatsOf s (now (points .entry))) (s .n) .seedOf radius (usedIn s (now (w .entry))))) × Kept s (now (w .entry)) (now (w .exit)) ⌝ }
 {
-    triples::find_from(s, points, w, radius, hash)
+    if decisions::refused::is_hopeless(s, radius) {
+        return Seed::Nothing;
+    }
+    let limit = triangle::bound::area_limit(s.min_triangle_area);
+    triples::find_from(s, points, w, radius, hash, limit)
 }
 
 // The unused point that makes the best acceptable triangle with the edge a, b.

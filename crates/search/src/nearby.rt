@@ -33,7 +33,7 @@ fn passes(s: Scene, points: &[f32], w: &[u32], f: Filter, k: usize) -> bool
 }
 
 // Leaves those of the listed points that pass, in the order of the neighbours, and returns how many they are.
-fn narrow(s: Scene, points: &[f32], w: &mut [u32], f: Filter, found: usize) -> usize
+pub fn narrow(s: Scene, points: &[f32], w: &mut [u32], f: Filter, found: usize) -> usize
     requires { ⌜ Held s (now points) (now w) × Cells (s .grid) (now points) (s .n) (now w) × Listed s (now w) found ⌝ }
     ensures { λ r. ⌜ Narrowed s (now (points .entry)) f (now (w .entry)) (now (w .exit)) found r ⌝ }
 {
@@ -52,7 +52,7 @@ fn narrow(s: Scene, points: &[f32], w: &mut [u32], f: Filter, found: usize) -> u
 }
 
 // The filter for the neighbours of a place at a radius that are within the radius of a center.
-fn filter_of(s: Scene, center: Point3f, place: Point3f, radius: f32) -> Filter
+pub fn filter_of(s: Scene, center: Point3f, place: Point3f, radius: f32) -> Filter
     ensures { λ f. ⌜ Filters s center place radius f ⌝ }
 {
     let limit = spatial_hash::square_limit(radius);
@@ -67,7 +67,14 @@ fn filter_of(s: Scene, center: Point3f, place: Point3f, radius: f32) -> Filter
 }
 
 // Lists points, all within the filter's limit among them, and returns how many they are. The reach is a guess at how far they are.
-fn gather_near(s: Scene, points: &[f32], w: &mut [u32], f: Filter, reach: f32, hash: Hash) -> usize
+pub fn gather_near(
+    s: Scene,
+    points: &[f32],
+    w: &mut [u32],
+    f: Filter,
+    reach: f32,
+    hash: Hash,
+) -> usize
     requires { ⌜ Hashed hash (now points) (s .n) (now w) × Finite (f .center) ⌝ }
     ensures { λ r. ⌜ Collected s (now (points .entry)) f (now (w .entry)) (now (w .exit)) r ⌝ }
 {

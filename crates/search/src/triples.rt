@@ -1,14 +1,18 @@
 // The search for a seed: three loops, over i, j and k.
 use crate::Seed;
+use crate::nearby::Filter;
 use decisions::Scene;
 use spatial_hash::Hash;
+use triangle::Point3f;
 ghost use mathlib.Core.Path.{_≡_};
 ghost use Prim.Native.Nat.{_*_, _<_, _+_};
-ghost use Rattle.grid.specs.Index.{Indexed};
+ghost use Rattle.triangle.specs.AreaBound.{AreaLimit};
+ghost use Rattle.grid.specs.Index.{Cells, Indexed};
 ghost use Rattle.spatial_hash.specs.Near.{Hashed};
 ghost use Rattle.patch.specs.Search.{isSecond, isThird, thirdOf, secondOf, firstOf, numbers};
 ghost use Rattle.decisions.specs.Decisions.{floatsOf};
 ghost use Rattle.search.specs.Ready.{Held, Listed, usedIn, listed, Kept, seedFound, withSecond, withFirst};
+ghost use Rattle.search.specs.Spread.{Spans, Judged, Listing};
 
 // Whether j may be the second point after i.
 fn is_second(s: Scene, points: &[f32], w: &[u32], radius: f32, i: usize, j: usize) -> bool
@@ -25,8 +29,17 @@ fn is_second(s: Scene, points: &[f32], w: &[u32], radius: f32, i: usize, j: usiz
 }
 
 // Whether k may be the third point after i and j.
-fn is_third(s: Scene, points: &[f32], w: &[u32], radius: f32, i: usize, j: usize, k: usize) -> bool
-    requires { ⌜ Held s (now points) (now w) × (i < s .n) × (j < s .n) × (k < s .n) ⌝ }
+fn is_third(
+    s: Scene,
+    points: &[f32],
+    w: &[u32],
+    radius: f32,
+    limit: f32,
+    i: usize,
+    j: usize,
+    k: usize,
+) -> bool
+    requires { ⌜ Held s (now points) (now w) × (i < s .n) × (j < s .n) × (k < s .n) × Judged s (now points) limit ⌝ }
     ensures { λ r. ⌜ r ≡ isThird (floatsOf s (now (points .entry))) radius (usedIn s (now (w .entry))) i j k ⌝ }
 {
     if i == k {
@@ -36,6 +49,9 @@ fn is_third(s: Scene, points: &[f32], w: &[u32], radius: f32, i: usize, j: usize
         return false;
     }
     if !crate::is_unused(s, w, k) {
+        return false;
+    }
+    if decisions::refused::is_small(points, limit, i, j, k) {
         return false;
     }
     decisions::is_completed(s, points, radius, i, j, k)
@@ -48,17 +64,18 @@ fn find_third(
     w: &[u32],
     count: usize,
     radius: f32,
+    limit: f32,
     i: usize,
     j: usize,
 ) -> Seed
-    requires { ⌜ Held s (now points) (now w) × Listed s (now w) count × (i < s .n) × (j < s .n) ⌝ }
+    requires { ⌜ Held s (now points) (now w) × Listed s (now w) count × (i < s .n) × (j < s .n) × Judged s (now points) limit ⌝ }
     ensures { λ r. ⌜ r ≡ seedFound (thirdOf (floatsOf s (now (points .entry))) radius (usedIn s (now (w .entry))) i j (listed s (now (w .entry)) count)) ⌝ }
 {
     let at = 4 * s.n;
     let mut m: usize = 0;
     while m < count {
         let k = w[at + m] as usize;
-        if is_third(s, points, w, radius, i, j, k) {
+        if is_third(s, points, w, radius, limit, i, j, k) {
             return Seed::Triangle(i, j, k);
         }
         m += 1;
@@ -73,28 +90,42 @@ fn try_second(
     w: &[u32],
     count: usize,
     radius: f32,
+    limit: f32,
+    wide: Point3f,
     i: usize,
     j: usize,
 ) -> Seed
-    requires { ⌜ Held s (now points) (now w) × Listed s (now w) count × (i < s .n) × (j < s .n) ⌝ }
+    requires { ⌜ Held s (now points) (now w) × Listed s (now w) count × (i < s .n) × (j < s .n) × Judged s (now points) limit × Spans s (now points) i (listed s (now w) count) wide ⌝ }
     ensures { λ r. ⌜ r ≡ seedFound (withSecond (floatsOf s (now (points .entry))) radius (usedIn s (now (w .entry))) i (listed s (now (w .entry)) count) j) ⌝ }
 {
     if !is_second(s, points, w, radius, i, j) {
         return Seed::Nothing;
     }
-    find_third(s, points, w, count, radius, i, j)
+    if crate::areas::is_too_near(s, points, i, j, wide) {
+        return Seed::Nothing;
+    }
+    find_third(s, points, w, count, radius, limit, i, j)
 }
 
 // The seed of i and the first second point that has a third one, both among the listed neighbours.
-fn find_second(s: Scene, points: &[f32], w: &[u32], count: usize, radius: f32, i: usize) -> Seed
-    requires { ⌜ Held s (now points) (now w) × Listed s (now w) count × (i < s .n) ⌝ }
+fn find_second(
+    s: Scene,
+    points: &[f32],
+    w: &[u32],
+    count: usize,
+    radius: f32,
+    limit: f32,
+    wide: Point3f,
+    i: usize,
+) -> Seed
+    requires { ⌜ Held s (now points) (now w) × Listed s (now w) count × (i < s .n) × Judged s (now points) limit × Spans s (now points) i (listed s (now w) count) wide ⌝ }
     ensures { λ r. ⌜ r ≡ seedFound (secondOf (floatsOf s (now (points .entry))) radius (usedIn s (now (w .entry))) i (listed s (now (w .entry)) count) (listed s (now (w .entry)) count)) ⌝ }
 {
     let at = 4 * s.n;
     let mut m: usize = 0;
     while m < count {
         let j = w[at + m] as usize;
-        let found = try_second(s, points, w, count, radius, i, j);
+        let found = try_second(s, points, w, count, radius, limit, wide, i, j);
         if let Seed::Triangle(a, b, c) = found {
             return Seed::Triangle(a, b, c);
         }
@@ -103,19 +134,77 @@ fn find_second(s: Scene, points: &[f32], w: &[u32], count: usize, radius: f32, i
     Seed::Nothing
 }
 
+// The same, but without a look at each triangle in turn where all are small.
+fn find_large(
+    s: Scene,
+    points: &[f32],
+    w: &[u32],
+    count: usize,
+    radius: f32,
+    limit: f32,
+    wide: Point3f,
+    i: usize,
+) -> Seed
+    requires { ⌜ Held s (now points) (now w) × Listed s (now w) count × (i < s .n) × Judged s (now points) limit × Spans s (now points) i (listed s (now w) count) wide ⌝ }
+    ensures { λ r. ⌜ r ≡ seedFound (secondOf (floatsOf s (now (points .entry))) radius (usedIn s (now (w .entry))) i (listed s (now (w .entry)) count) (listed s (now (w .entry)) count)) ⌝ }
+{
+    if crate::areas::are_all_small(s, points, w, count, limit, i) {
+        return Seed::Nothing;
+    }
+    find_second(s, points, w, count, radius, limit, wide, i)
+}
+
+// What the unused point i gives as the first one, the points near it being listed.
+fn try_listed(
+    s: Scene,
+    points: &[f32],
+    w: &mut [u32],
+    found: usize,
+    radius: f32,
+    limit: f32,
+    f: Filter,
+    i: usize,
+) -> Seed
+    requires { ⌜ Held s (now points) (now w) × Cells (s .grid) (now points) (s .n) (now w) × Listing s (now points) radius i f (now w) found × (i < s .n) × Judged s (now points) limit ⌝ }
+    ensures { λ r. ⌜ (r ≡ seedFound (withFirst (floatsOf s (now (points .entry))) radius (usedIn s (now (w .entry))) i)) × Kept s (now (w .entry)) (now (w .exit)) ⌝ }
+{
+    let wide = crate::areas::spread(s, points, w, found, i);
+    if crate::areas::is_too_small(s, wide, wide) {
+        return Seed::Nothing;
+    }
+    let count = crate::nearby::narrow(s, points, w, f, found);
+    find_large(s, points, w, count, radius, limit, wide, i)
+}
+
 // What the unused point i gives as the first one.
-fn try_first(s: Scene, points: &[f32], w: &mut [u32], radius: f32, i: usize, hash: Hash) -> Seed
-    requires { ⌜ Held s (now points) (now w) × Indexed (s .grid) (s .indexed) (now points) (s .n) (now w) × Hashed hash (now points) (s .n) (now w) × (i < s .n) ⌝ }
+fn try_first(
+    s: Scene,
+    points: &[f32],
+    w: &mut [u32],
+    radius: f32,
+    i: usize,
+    hash: Hash,
+    limit: f32,
+) -> Seed
+    requires { ⌜ Held s (now points) (now w) × Indexed (s .grid) (s .indexed) (now points) (s .n) (now w) × Hashed hash (now points) (s .n) (now w) × (i < s .n) × AreaLimit (s .«min_triangle_area») limit ⌝ }
     ensures { λ r. ⌜ (r ≡ seedFound (withFirst (floatsOf s (now (points .entry))) radius (usedIn s (now (w .entry))) i)) × Kept s (now (w .entry)) (now (w .exit)) ⌝ }
 {
     let place = points::point_at(points, i);
-    let count = crate::nearby::find_near(s, points, w, i, place, radius * 2.0, hash);
-    find_second(s, points, w, count, radius, i)
+    let f = crate::nearby::filter_of(s, place, place, radius * 2.0);
+    let found = crate::nearby::gather_near(s, points, w, f, radius * 2.002, hash);
+    try_listed(s, points, w, found, radius, limit, f, i)
 }
 
 // The first seed; only the first 1,000 unused points are tried as i.
-pub fn find_from(s: Scene, points: &[f32], w: &mut [u32], radius: f32, hash: Hash) -> Seed
-    requires { ⌜ Held s (now points) (now w) × Indexed (s .grid) (s .indexed) (now points) (s .n) (now w) × Hashed hash (now points) (s .n) (now w) ⌝ }
+pub fn find_from(
+    s: Scene,
+    points: &[f32],
+    w: &mut [u32],
+    radius: f32,
+    hash: Hash,
+    limit: f32,
+) -> Seed
+    requires { ⌜ Held s (now points) (now w) × Indexed (s .grid) (s .indexed) (now points) (s .n) (now w) × Hashed hash (now points) (s .n) (now w) × AreaLimit (s .«min_triangle_area») limit ⌝ }
     ensures { λ r. ⌜ (r ≡ seedFound (firstOf (floatsOf s (now (points .entry))) radius (usedIn s (now (w .entry))) (numbers (s .n) 0) 1000)) × Kept s (now (w .entry)) (now (w .exit)) ⌝ }
 {
     let n = s.n;
@@ -129,7 +218,7 @@ pub fn find_from(s: Scene, points: &[f32], w: &mut [u32], radius: f32, hash: Has
             i += 1;
             continue;
         }
-        let found = try_first(s, points, w, radius, i, hash);
+        let found = try_first(s, points, w, radius, i, hash, limit);
         if let Seed::Triangle(a, b, c) = found {
             return Seed::Triangle(a, b, c);
         }

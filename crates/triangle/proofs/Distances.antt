@@ -90,20 +90,25 @@ module _ (p q : Point3f) (f : FinitePoint p) (g : FinitePoint q) where
   squared-swap = squared-turned p q
 
 -- whatever the points, it is not below 0 unless it is a NaN
-number-unsigned : (x y : Float) → T (not (isNan (square x y))) → T (unsigned (square x y))
-number-unsigned x y h = square-unsigned (x ⊖ y) (go (x ⊖ y) h)
-  where
-    go : (d : Float) → T (not (isNan (d ⊗ d))) → T (not (isNan d))
-    go nan k = unfold isNan mul in k
-    go (inf s) k = unfold isNan in tt
-    go (fin s m e) k = unfold isNan in tt
+number-unsigned : (d : Float) → T (not (isNan (d ⊗ d))) → T (unsigned (d ⊗ d))
+number-unsigned nan k = absurd (unfold isNan mul in k)
+number-unsigned (inf s) k = square-unsigned (inf s) (unfold isNan in tt)
+number-unsigned (fin s m e) k = square-unsigned (fin s m e) (unfold isNan in tt)
+
+pub magnitude-unsigned : (v : Point3f) → T (not (isNan (v .x))) → T (not (isNan (v .y))) → T (not (isNan (v .z))) → T (unsigned (magnitudeSquared v))
+unfolding magnitudeSquared
+magnitude-unsigned v f g h = three-unsigned _ _ _ (square-unsigned (v .x) f) (square-unsigned (v .y) g) (square-unsigned (v .z) h)
+
+pub magnitude-nonnegative : (v : Point3f) → T (not (isNan (magnitudeSquared v))) → T (le (f32 0) (magnitudeSquared v))
+unfolding magnitudeSquared
+magnitude-nonnegative v h =
+    let n = add-number (v .x ⊗ v .x ⊕ v .y ⊗ v .y) (v .z ⊗ v .z) h in
+    let m = add-number (v .x ⊗ v .x) (v .y ⊗ v .y) (n .0) in
+    unsigned-le _ (three-unsigned _ _ _ (number-unsigned (v .x) (m .0)) (number-unsigned (v .y) (m .1)) (number-unsigned (v .z) (n .1)))
 
 pub squared-nonnegative : (p q : Point3f) → T (not (isNan (squared p q))) → T (le (f32 0) (squared p q))
-squared-nonnegative p q h =
-    let n = add-number (square (p .x) (q .x) ⊕ square (p .y) (q .y)) (square (p .z) (q .z)) (rw (squared-is p q) at h) in
-    let m = add-number (square (p .x) (q .x)) (square (p .y) (q .y)) (n .0) in
-    rw (squared-is p q)
-    (unsigned-le _ (three-unsigned _ _ _ (number-unsigned (p .x) (q .x) (m .0)) (number-unsigned (p .y) (q .y) (m .1)) (number-unsigned (p .z) (q .z) (n .1))))
+unfolding squared
+squared-nonnegative p q h = magnitude-nonnegative (difference p q) h
 
 -- ---- the distance
 

@@ -9,10 +9,10 @@ use Rattle.triangle.specs.Vector.{difference, magnitude, cross, distance
 use Rattle.triangle.specs.declared.Point3f.{Point3f}
 use Rattle.triangle.specs.declared.TriangleQuality.{TriangleQuality}
 
-abbrev half : Float
+abbrev pub half : Float
 half = f32 0x3f000000
 
-abbrev one : Float
+abbrev pub one : Float
 one = f32 0x3f800000
 
 abbrev two : Float
@@ -31,7 +31,7 @@ abbrev pi : Float
 pi = f32 0x40490fdb
 
 -- 1e-10
-abbrev tiny : Float
+abbrev pub tiny : Float
 tiny = f32 0x2edbe6ff
 
 -- half the length of the cross product of two edges

@@ -1,4 +1,5 @@
 // A triangle of three points in space: its circumradius, its quality, and whether that is acceptable.
+pub mod bound;
 mod measure;
 
 ghost use mathlib.Core.Path.{_≡_};

@@ -1,17 +1,43 @@
--- `find_seed_triangle` meets its contract: it is the search from point 0. Assumes nothing.
+-- `find_seed_triangle` meets its contract: it is the search from point 0, and nothing where that is hopeless. Assumes nothing.
+use mathlib.Core.Path.{sym, ap}
+use borrow.Author.Needs.{needs}
 use Rattle.patch.specs.Search.{searching}
+use Rattle.search.specs.Ready.{usedIn, seedFound}
+use Rattle.search.proofs.Keeping.{kept-self}
+use Rattle.search.proofs.Nothing.{hopeless-nothing}
 use Rattle.search.proofs.find_seed_triangle.Statement.{statement}
 use Rattle.search.proofs.find_seed_triangle.Tie as tie
 
+is-hopeless-requires : tie.Need-is-hopeless-requires
+is-hopeless-requires c κs = search needs
+
+returns : tie.Need-returns
+unfolding searching
+returns c =
+    let a = c .before .before .before .before in
+    let x = a .args in
+    (sym (ap seedFound (hopeless-nothing (x .s) (x .points .now) (x .radius) (usedIn (x .s) (x .w .now)) 1000 (a .pre .2 .ready .numbers) (c .before .is-hopeless .ensures (c .if1 .taken)))), kept-self (x .s) (x .w .now))
+
+area-limit-requires : tie.Need-area-limit-requires
+area-limit-requires c κs = search needs
+
 find-from-requires : tie.Need-find-from-requires
-find-from-requires c κs = c .before .before .before .pre
+find-from-requires c κs = let a = c .before .before .before .before .before .before in (a .pre .0, a .pre .1, a .pre .2, c .before .area-limit .ensures)
 
 same-length : tie.Need-same-length
 same-length c = c .before .before .find-from .kept .1 .1 .0
 
-returns : tie.Need-returns
+returns-2 : tie.Need-returns-2
 unfolding searching
-returns c = c .before .before .find-from .ensures
+returns-2 c = c .before .before .find-from .ensures
 
 pub find-seed-triangle-spec : {M : Type 1} → statement M
-find-seed-triangle-spec = tie.close (tie.spec find-from-requires same-length returns)
+find-seed-triangle-spec =
+    tie.close
+    (tie.spec
+    is-hopeless-requires
+    returns
+    area-limit-requires
+    find-from-requires
+    same-length
+    returns-2)

@@ -10,10 +10,10 @@ use Rattle.search.proofs.triples.find_from.Statement.{statement}
 use Rattle.search.proofs.triples.find_from.Tie as tie
 
 abbrev Inv-loop : tie.InvT-loop
-Inv-loop s points w₀ radius hash n left₀ i₀ w left i = Seeking s points radius hash w₀ w left i
+Inv-loop s points w₀ radius hash limit n left₀ i₀ w left i = Seeking s points radius hash w₀ w left i
 
 abbrev μ-loop : tie.MeasureT-loop
-μ-loop s points w₀ radius hash n left₀ i₀ w left i = s .n - i
+μ-loop s points w₀ radius hash limit n left₀ i₀ w left i = s .n - i
 
 loop-holds : tie.Need-loop-holds Inv-loop μ-loop
 loop-holds c = let a = c .before .before in seek-start (a .pre .0) (a .pre .1) (a .pre .2)
@@ -41,7 +41,7 @@ loop-again c =
     seek-used (c .before .before .before .before .before .loop .inv) (c .before .before .before .before .loop-test .taken) (c .before .before .before .if1 .left) (sym (u .ensures) ∙ not-true (u .result) (c .if2 .taken))
 
 try-first-requires : tie.Need-try-first-requires Inv-loop μ-loop
-try-first-requires c κs = let l = c .before .before .before .before .before .before in (l .loop .inv .held, l .loop .inv .indexed, l .loop .inv .hashed, c .before .before .before .before .before .loop-test .taken)
+try-first-requires c κs = let l = c .before .before .before .before .before .before in (l .loop .inv .held, l .loop .inv .indexed, l .loop .inv .hashed, c .before .before .before .before .before .loop-test .taken, l .before .before .before .pre .3)
 
 enum-known-found : tie.Need-enum-known-found Inv-loop μ-loop
 enum-known-found c = search needs

@@ -1,0 +1,209 @@
+-- Where nothing is found: around a point whose near points lie in too small a spread (`small-nothing`) or make only small triangles (`all-small-nothing`), with a second point that is too near (`near-nothing`),
+-- and at a radius that is hopeless (`hopeless-nothing`). Assumes nothing.
+use Prim.Native.Nat.{ℕ, zero, suc, _+_, _≤_, _<_}
+use mathlib.Core.Path.{_≡_, refl, sym, ap, _∙_, subst}
+use mathlib.Core.Logic.{_⊎_, inl, inr, ⊎-elim}
+use mathlib.Core.Bool.{Bool, true, false, cond, not, _&&_}
+use mathlib.Core.List.{List, [], _∷_}
+use mathlib.Core.Option.{Option, none, some}
+use native.Mathlib.Omega.{arith}
+use lib.Dec.{eqb}
+use lib.Ieee.{Float, lt}
+use borrow.Author.Tests.{eq-eqb, eqb-true}
+use Rattle.triangle.specs.declared.Point3f.{Point3f}
+use Rattle.points.specs.Points.{pointAt}
+use Rattle.sorting.specs.Insertion.{insertBefore}
+use Rattle.grid.specs.Index.{earlier}
+use Rattle.spatial_hash.specs.Near.{Finite}
+use Rattle.patch.specs.Count.{bit, count}
+use Rattle.patch.specs.Search.{Floats, unused, isSecond, isThird, thirdOf, secondOf, firstOf, numbers, Below}
+use Rattle.patch.proofs.Counts.{either, not-true, true-not-false, and-both}
+use Rattle.decisions.specs.declared.Scene.{Scene}
+use Rattle.decisions.specs.Decisions.{reach, apart, isClose, accepts, qualityAt, floatsOf}
+use Rattle.decisions.specs.Refused.{isSmall, Hopeless}
+use Rattle.decisions.proofs.Within.{within}
+use Rattle.decisions.proofs.Refusals.{small-turned, small-accepts, hopeless-accepts}
+use Rattle.search.specs.declared.nearby.Filter.{Filter}
+use Rattle.search.specs.Ready.{usedIn, listed, withSecond, withFirst}
+use Rattle.search.specs.Narrow.{insertAll, inReach, cellAt, passes, Filters, Collected, Narrowed}
+use Rattle.search.specs.Spread.{spread, tooSmall, smallBeside, allSmall, Spans, Judged, Listing}
+use Rattle.search.proofs.Keeping.{kept-self}
+use Rattle.search.proofs.Ordered.{and-false, insert-count}
+use Rattle.search.proofs.Laws.{chosen, passed, orElse, third-miss, third-end, second-step, second-end, first-tried, first-used, first-spent, first-end}
+use Rattle.search.proofs.LeftOut.{finite-point, out-of-reach, second-out, third-out}
+use Rattle.search.proofs.Narrowing.{in-reach}
+use Rattle.search.proofs.Spread.{in-either, spread-accepts}
+
+-- ---- where no third point serves
+module _ {R : Type 0} (floats : Floats R) (r : R) (used : List ℕ) where
+  pub third-nothing : (i j : ℕ) (ks : List ℕ) → ((k : ℕ) → 1 ≤ count (eqb k) ks → isThird floats r used i j k ≡ false) → thirdOf floats r used i j ks ≡ none
+  third-nothing i j [] h = third-end floats r used i j
+  third-nothing i j (k ∷ ks) h =
+      let self : eqb k k ≡ true = eq-eqb k k refl in
+      third-miss floats r used i j k ks (h k (rw self (omega arith))) ∙ third-nothing i j ks (λ m c. h m (omega arith))
+
+  with-nothing : (i j : ℕ) (ks : List ℕ) → (isSecond floats r used i j ≡ true → (k : ℕ) → 1 ≤ count (eqb k) ks → isThird floats r used i j k ≡ false) → withSecond floats r used i ks j ≡ none
+  unfolding withSecond
+  with-nothing i j ks h = ⊎-elim
+      (λ (t : isSecond floats r used i j ≡ true). chosen (isSecond floats r used i j) (thirdOf floats r used i j ks) none t ∙ third-nothing i j ks (h t))
+      (λ (t : isSecond floats r used i j ≡ false). passed (isSecond floats r used i j) (thirdOf floats r used i j ks) none t)
+      (either (isSecond floats r used i j))
+
+  pub second-nothing : (i : ℕ) (ks js : List ℕ) → ((j : ℕ) → 1 ≤ count (eqb j) js → isSecond floats r used i j ≡ true → (k : ℕ) → 1 ≤ count (eqb k) ks → isThird floats r used i j k ≡ false) → secondOf floats r used i ks js ≡ none
+  second-nothing i ks [] h = second-end floats r used i ks
+  second-nothing i ks (j ∷ js) h =
+      let self : eqb j j ≡ true = eq-eqb j j refl in
+      second-step floats r used i ks j js
+      ∙ ap (λ (o : Option (ℕ × ℕ × ℕ)). orElse o (secondOf floats r used i ks js)) (with-nothing i j ks (h j (rw self (omega arith))))
+      ∙ second-nothing i ks js (λ m c. h m (omega arith))
+
+  first-nothing : (n : ℕ) → ((i : ℕ) → i < n → withFirst floats r used i ≡ none) → (m i tries : ℕ) → i + m ≤ n → firstOf floats r used (numbers m i) tries ≡ none
+  unfolding numbers
+  first-nothing n h zero i tries b = first-end floats r used tries
+  first-nothing n h (suc m) i zero b = first-spent floats r used i (numbers m (suc i))
+  first-nothing n h (suc m) i (suc tries) b = ⊎-elim
+      (λ (t : unused used i ≡ true).
+      first-tried floats r used i (numbers m (suc i)) tries t
+      ∙ ap (λ (o : Option (ℕ × ℕ × ℕ)). orElse o (firstOf floats r used (numbers m (suc i)) tries)) (h i (omega arith))
+      ∙ first-nothing n h m (suc i) tries (omega arith))
+      (λ (t : unused used i ≡ false). first-used floats r used i (numbers m (suc i)) tries t ∙ first-nothing n h m (suc i) (suc tries) (omega arith))
+      (either (unused used i))
+
+-- ---- a triangle that is refused
+module _ (s : Scene) (pts : List Float) (r : Float) (used : List ℕ) where
+  pub third-refused : (i j k : ℕ) → accepts s r (qualityAt pts i j k) ≡ false → isThird (floatsOf s pts) r used i j k ≡ false
+  unfolding isThird floatsOf
+  third-refused i j k h = rw h (nothing (not (eqb i k)) (not (eqb j k)) (unused used k) (isClose pts r i k) (isClose pts r j k))
+    where
+      nothing : (a b c d e : Bool) → (a && (b && (c && (d && (e && false))))) ≡ false
+      nothing a b c d e = rw (and-false e, and-false d, and-false c, and-false b, and-false a)
+
+  first-around : (i : ℕ) → ((j : ℕ) → j < s .n → isSecond (floatsOf s pts) r used i j ≡ true → (k : ℕ) → k < s .n → isThird (floatsOf s pts) r used i j k ≡ false) → withFirst (floatsOf s pts) r used i ≡ none
+  unfolding withFirst
+  first-around i h = second-nothing (floatsOf s pts) r used i (floatsOf s pts .near r i) (floatsOf s pts .near r i) (λ j hj t k hk. h j (near j hj) t k (near k hk))
+    where
+      near : Below (s .n) (floatsOf s pts .near r i)
+      near = within s pts .near-below r i
+
+-- ---- a spread that is too small
+
+pub listing : {s : Scene} {pts : List Float} {r : Float} {i : ℕ} {f : Filter} {w u : List ℕ} {found : ℕ} {p : Point3f} → p ≡ pointAt pts i → Filters s p p (reach r) f → Collected s pts f w u found → Listing s pts r i f u found
+listing {s} {pts} {r} {f = f} {u = u} e x c = record {
+  filters = subst (λ (q : Point3f). Filters s q q (reach r) f) e x;
+  collected = record { most = c .most; below = c .below; once = c .once; complete = c .complete; kept = kept-self s u };
+}
+
+-- a point that may be chosen is among the listed ones
+listed-near : {s : Scene} {pts : List Float} {r : Float} {i : ℕ} {f : Filter} {w : List ℕ} {found : ℕ} → Listing s pts r i f w found → (k : ℕ) → k < s .n
+    → inReach pts (usedIn s w) (pointAt pts i) (f .limit) k ≡ true → 1 ≤ count (eqb k) (listed s w found)
+listed-near {s} {pts} {i = i} {f = f} {w = w} l k h t =
+    l .collected .complete k h (rw (l .filters .center-is) (in-reach pts (usedIn s w) (pointAt pts i) (f .limit) k t))
+
+pub small-nothing : {s : Scene} {pts : List Float} {r limit : Float} {i : ℕ} {f : Filter} {w : List ℕ} {found : ℕ} {v : Point3f} → Judged s pts limit → i < s .n → Listing s pts r i f w found
+    → v ≡ spread pts (pointAt pts i) (listed s w found) → tooSmall s v v ≡ true → withFirst (floatsOf s pts) r (usedIn s w) i ≡ none
+small-nothing {s} {pts} {r} {i = i} {f = f} {w = w} {found = found} {v = v} g hi l e h = first-around s pts r (usedIn s w) i go
+  where
+    out : (k : ℕ) → inReach pts (usedIn s w) (pointAt pts i) (f .limit) k ≡ false → (unused (usedIn s w) k ≡ false) ⊎ (lt (reach r) (apart pts k i) ≡ true)
+    out k t = out-of-reach pts (usedIn s w) (reach r) i k (f .limit) (l .filters .limits) t
+
+    both : (j k : ℕ) → j < s .n → k < s .n → 1 ≤ count (eqb j) (listed s w found) → 1 ≤ count (eqb k) (listed s w found) → isThird (floatsOf s pts) r (usedIn s w) i j k ≡ false
+    both j k hj hk cj ck =
+        third-refused s pts r (usedIn s w) i j k
+        (spread-accepts s pts r i j k (finite-point (g .numbers i hi)) (finite-point (g .numbers j hj)) (finite-point (g .numbers k hk)) (listed s w found) (listed s w found) cj ck (ap (λ (x : Point3f). tooSmall s x x) (sym e) ∙ h))
+
+    go : (j : ℕ) → j < s .n → isSecond (floatsOf s pts) r (usedIn s w) i j ≡ true → (k : ℕ) → k < s .n → isThird (floatsOf s pts) r (usedIn s w) i j k ≡ false
+    go j hj second k hk = ⊎-elim
+        (λ (tk : inReach pts (usedIn s w) (pointAt pts i) (f .limit) k ≡ true). ⊎-elim
+        (λ (tj : inReach pts (usedIn s w) (pointAt pts i) (f .limit) j ≡ true). both j k hj hk (listed-near l j hj tj) (listed-near l k hk tk))
+        (λ (tj : inReach pts (usedIn s w) (pointAt pts i) (f .limit) j ≡ false). absurd (true-not-false second (second-out s pts r (usedIn s w) i j (g .numbers i hi) (g .numbers j hj) (out j tj))))
+        (either (inReach pts (usedIn s w) (pointAt pts i) (f .limit) j)))
+        (λ (tk : inReach pts (usedIn s w) (pointAt pts i) (f .limit) k ≡ false). third-out s pts r (usedIn s w) i k (g .numbers i hi) (g .numbers k hk) j (out k tk))
+        (either (inReach pts (usedIn s w) (pointAt pts i) (f .limit) k))
+
+-- ---- a radius that is hopeless
+
+close-second : (s : Scene) (pts : List Float) (r : Float) (used : List ℕ) (i j : ℕ) → isSecond (floatsOf s pts) r used i j ≡ true → isClose pts r i j ≡ true
+unfolding isSecond floatsOf
+close-second s pts r used i j h = and-both {p = unused used j} (and-both {p = not (eqb i j)} h .1) .1
+
+third-parts : (s : Scene) (pts : List Float) (r : Float) (used : List ℕ) (i j k : ℕ) → isThird (floatsOf s pts) r used i j k ≡ true → (isClose pts r i k ≡ true) × ((isClose pts r j k ≡ true) × (accepts s r (qualityAt pts i j k) ≡ true))
+unfolding isThird floatsOf
+third-parts s pts r used i j k h =
+    let a = and-both {p = unused used k} (and-both {p = not (eqb j k)} (and-both {p = not (eqb i k)} h .1) .1) .1 in
+    let b = and-both {p = isClose pts r i k} a in
+    let c = and-both {p = isClose pts r j k} (b .1) in
+    (b .0, (c .0, c .1))
+
+pub hopeless-nothing : (s : Scene) (pts : List Float) (r : Float) (used : List ℕ) (tries : ℕ) → ((k : ℕ) → k < s .n → Finite (pointAt pts k)) → Hopeless s r → firstOf (floatsOf s pts) r used (numbers (s .n) 0) tries ≡ none
+hopeless-nothing s pts r used tries numbers h = first-nothing (floatsOf s pts) r used (s .n) (λ i hi. first-around s pts r used i (none-of i hi)) (s .n) 0 tries (omega arith)
+  where
+    none-of : (i : ℕ) → i < s .n → (j : ℕ) → j < s .n → isSecond (floatsOf s pts) r used i j ≡ true → (k : ℕ) → k < s .n → isThird (floatsOf s pts) r used i j k ≡ false
+    none-of i hi j hj second k hk = not-true (λ third.
+        let p = third-parts s pts r used i j k third in
+        true-not-false (p .1 .1) (hopeless-accepts s pts r i j k h (finite-point (numbers i hi)) (finite-point (numbers j hj)) (finite-point (numbers k hk)) (close-second s pts r used i j second) (p .0) (p .1 .0)))
+
+-- ---- a second point that is too near
+
+pub near-nothing : {s : Scene} {pts : List Float} {limit : Float} {i j : ℕ} {ks : List ℕ} {u v : Point3f} (r : Float) (used : List ℕ) → Judged s pts limit → i < s .n → j < s .n → Spans s pts i ks v
+    → u ≡ spread pts (pointAt pts i) (j ∷ []) → tooSmall s u v ≡ true → thirdOf (floatsOf s pts) r used i j ks ≡ none
+near-nothing {s} {pts} {i = i} {j = j} {ks = ks} {u = u} {v = v} r used g hi hj x e h =
+    let self : eqb j j ≡ true = eq-eqb j j refl in
+    let one : 1 ≤ count (eqb j) (j ∷ []) = rw self (omega arith) in
+    third-nothing (floatsOf s pts) r used i j ks (λ k c.
+    third-refused s pts r used i j k
+    (spread-accepts s pts r i j k (finite-point (g .numbers i hi)) (finite-point (g .numbers j hj)) (finite-point (g .numbers k (x .below k (x .among k c)))) (j ∷ []) (x .all) one (x .among k c)
+    (ap (λ (z : Point3f). tooSmall s z (spread pts (pointAt pts i) (x .all))) (sym e) ∙ ap (tooSmall s u) (sym (x .is)) ∙ h)))
+
+-- ---- points all triangles of which are small
+
+beside-small : (pts : List Float) (t : Float) (i j : ℕ) (ks : List ℕ) → smallBeside pts t i j ks ≡ true → (k : ℕ) → 1 ≤ count (eqb k) ks → isSmall pts t i j k ≡ true
+unfolding smallBeside
+beside-small pts t i j [] h k c = absurd (omega arith)
+beside-small pts t i j (m ∷ ks) h k c =
+    let b = and-both {p = isSmall pts t i j m} h in
+    in-either (eqb k m) (λ e. ap (isSmall pts t i j) (eqb-true k m e) ∙ b .0) (beside-small pts t i j ks (b .1) k) c
+
+-- of two different ones one stands after the other
+pair-small : (pts : List Float) (t : Float) (i : ℕ) (ks : List ℕ) → allSmall pts t i ks ≡ true → (j k : ℕ) → 1 ≤ count (eqb j) ks → 1 ≤ count (eqb k) ks → (j ≡ k) ⊎ (isSmall pts t i j k ≡ true)
+unfolding allSmall
+pair-small pts t i [] h j k a c = absurd (omega arith)
+pair-small pts t i (m ∷ ks) h j k a c =
+    let b = and-both {p = smallBeside pts t i m ks} h in
+    let after = beside-small pts t i m ks (b .0) in
+    in-either (eqb j m)
+    (λ e.
+    let x = eqb-true j m e in
+    in-either (eqb k m) (λ f. inl (x ∙ sym (eqb-true k m f))) (λ d. inr (ap (λ (y : ℕ). isSmall pts t i y k) x ∙ after k d)) c)
+    (λ d. in-either (eqb k m) (λ f. inr (small-turned pts t i j k ∙ ap (λ (y : ℕ). isSmall pts t i y j) (eqb-true k m f) ∙ after j d)) (λ g. pair-small pts t i ks (b .1) j k d g) c)
+    a
+
+pub all-small-nothing : {s : Scene} {pts : List Float} {limit : Float} (r : Float) (used : List ℕ) (i : ℕ) (ks : List ℕ) → Judged s pts limit → allSmall pts limit i ks ≡ true → secondOf (floatsOf s pts) r used i ks ks ≡ none
+all-small-nothing {s} {pts} {limit} r used i ks g h =
+    second-nothing (floatsOf s pts) r used i ks ks (λ j hj t k hk. ⊎-elim (same-third s pts r used i j k) (λ (e : isSmall pts limit i j k ≡ true). third-refused s pts r used i j k (small-accepts s pts r i j k limit (g .limits) e)) (pair-small pts limit i ks h j k hj hk))
+  where
+    same-third : (s : Scene) (pts : List Float) (r : Float) (used : List ℕ) (i j k : ℕ) → j ≡ k → isThird (floatsOf s pts) r used i j k ≡ false
+    same-third s pts r used i j k e = unfold isThird in rw (eq-eqb j k e) (and-false (not (eqb i k)))
+
+-- ---- what is left of the listed points is among them
+
+insert-all-le : (less : ℕ → ℕ → Bool) (test : ℕ → Bool) (k : ℕ) (xs js : List ℕ) → count (eqb k) (insertAll less test xs js) ≤ count (eqb k) xs + count (eqb k) js
+unfolding insertAll
+insert-all-le less test k xs [] = omega arith
+insert-all-le less test k xs (j ∷ js) = go (test j) (insert-all-le less test k (insertBefore (less j) j xs) js) (insert-all-le less test k xs js)
+  where
+    go : (b : Bool) → count (eqb k) (insertAll less test (insertBefore (less j) j xs) js) ≤ count (eqb k) (insertBefore (less j) j xs) + count (eqb k) js → count (eqb k) (insertAll less test xs js) ≤ count (eqb k) xs + count (eqb k) js
+        → count (eqb k) (insertAll less test (cond b (insertBefore (less j) j xs) xs) js) ≤ count (eqb k) xs + (bit (eqb k j) + count (eqb k) js)
+    go true p q = omega (arith, insert-count (eqb k) (less j) j xs)
+    go false p q = omega arith
+
+pub spans-listed : {s : Scene} {pts : List Float} {r : Float} {i : ℕ} {f : Filter} {w u : List ℕ} {found count : ℕ} {v : Point3f} → Listing s pts r i f w found → v ≡ spread pts (pointAt pts i) (listed s w found) → Narrowed s pts f w u found count
+    → Spans s pts i (listed s u count) v
+spans-listed {s} {pts} {f = f} {w = w} {u = u} {found = found} {count = c} l e n = record {
+  all = listed s w found;
+  below = l .collected .below;
+  is = e;
+  among = λ k h.
+      let z = insert-all-le (earlier (s .indexed) (cellAt (s .grid) pts)) (passes s pts (usedIn s w) f) k [] (listed s w found) in
+      let q = ap (λ (ks : List ℕ). count (eqb k) ks) (n .same) in
+      omega arith;
+}

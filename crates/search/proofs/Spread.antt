@@ -1,0 +1,120 @@
+-- A spread bounds what lies in it, so that two spreads whose bound of the area is below the least hold no acceptable triangle (`spread-accepts`); and the loops over listed points that ask for areas. Assumes nothing.
+use Prim.Native.Nat.{ℕ, _+_, _≤_, _<_}
+use mathlib.Core.Path.{_≡_, refl, sym, ap, _∙_, subst}
+use mathlib.Core.Bool.{Bool, true, false, _&&_}
+use mathlib.Core.List.{List, [], _∷_}
+use native.Mathlib.Omega.{arith}
+use lib.Dec.{eqb}
+use lib.ListN.{length, take, drop, getD}
+use lib.Ieee.{Float}
+use borrow.Author.Tests.{eqb-true}
+use Rattle.numbers.specs.Rounded.{f32}
+use Rattle.triangle.specs.Vector.{point, difference}
+use Rattle.triangle.specs.AreaBound.{widen}
+use Rattle.triangle.specs.declared.Point3f.{Point3f}
+use Rattle.triangle.proofs.Distances.{FinitePoint}
+use Rattle.triangle.proofs.AreaBound.{Bounds, Unsigned, widen-unsigned, widen-keeps, widen-bounds, zero-unsigned}
+use Rattle.points.specs.Points.{pointAt}
+use Rattle.patch.specs.Count.{bit, count}
+use Rattle.decisions.specs.declared.Scene.{Scene}
+use Rattle.decisions.specs.Decisions.{accepts, qualityAt}
+use Rattle.decisions.specs.Refused.{isSmall}
+use Rattle.decisions.proofs.Refusals.{bounded-accepts}
+use Rattle.search.specs.Spread.{spreadFrom, spread, tooSmall, smallBeside, allSmall}
+use Rattle.search.proofs.Laws.{part-step, part-end}
+
+-- what is in a list is its head or in the rest
+pub in-either : {P : Type 0} {c : ℕ} (b : Bool) → (b ≡ true → P) → (1 ≤ c → P) → 1 ≤ bit b + c → P
+in-either true f g h = f refl
+in-either false f g h = g (omega arith)
+
+module _ (pts : List Float) (p : Point3f) where
+  spread-unsigned : (v : Point3f) (ks : List ℕ) → Unsigned v → Unsigned (spreadFrom pts p v ks)
+  unfolding spreadFrom
+  spread-unsigned v [] u = u
+  spread-unsigned v (k ∷ ks) u = let d = difference (pointAt pts k) p in spread-unsigned (widen v d) ks (widen-unsigned v d u)
+
+  spread-keeps : (e v : Point3f) (ks : List ℕ) → Unsigned v → Bounds e v → Bounds e (spreadFrom pts p v ks)
+  unfolding spreadFrom
+  spread-keeps e v [] u b = b
+  spread-keeps e v (k ∷ ks) u b = let d = difference (pointAt pts k) p in spread-keeps e (widen v d) ks (widen-unsigned v d u) (widen-keeps v d u e b)
+
+  spread-bounds : (k : ℕ) → FinitePoint (pointAt pts k) → FinitePoint p → (v : Point3f) (ks : List ℕ) → Unsigned v → 1 ≤ count (eqb k) ks → Bounds (difference (pointAt pts k) p) (spreadFrom pts p v ks)
+  unfolding spreadFrom
+  spread-bounds k f g v [] u h = absurd (omega arith)
+  spread-bounds k f g v (j ∷ js) u h =
+      let d = difference (pointAt pts j) p in
+      let x = widen-unsigned v d u in
+      in-either (eqb k j)
+      (λ e.
+      let z = eqb-true k j e in
+      subst (λ (m : ℕ). Bounds (difference (pointAt pts m) p) (spreadFrom pts p (widen v d) js)) (sym z) (spread-keeps d (widen v d) js x (widen-bounds v (pointAt pts j) p u (subst (λ (m : ℕ). FinitePoint (pointAt pts m)) z f) g)))
+      (spread-bounds k f g (widen v d) js x) h
+
+pub spread-accepts : (s : Scene) (pts : List Float) (r : Float) (i j k : ℕ) → FinitePoint (pointAt pts i) → FinitePoint (pointAt pts j) → FinitePoint (pointAt pts k)
+    → (js ks : List ℕ) → 1 ≤ count (eqb j) js → 1 ≤ count (eqb k) ks → tooSmall s (spread pts (pointAt pts i) js) (spread pts (pointAt pts i) ks) ≡ true → accepts s r (qualityAt pts i j k) ≡ false
+unfolding tooSmall
+spread-accepts s pts r i j k fi fj fk js ks hj hk h =
+    let p = pointAt pts i in
+    bounded-accepts s pts r i j k (spread pts p js) (spread pts p ks) (spread-unsigned pts p _ js zero-unsigned) (spread-unsigned pts p _ ks zero-unsigned) (spread-bounds pts p j fj fi _ js zero-unsigned hj) (spread-bounds pts p k fk fi _ ks zero-unsigned hk) h
+
+-- ---- the loop of `spread` at the m-th of the points that stand from `at` on
+
+pub record Spreading (pts : List Float) (w : List ℕ) (at count : ℕ) (p v : Point3f) (m : ℕ) : Type 0 where
+  pub long : at + count ≤ length w
+  pub inside : m ≤ count
+  pub same : spread pts p (take count (drop at w)) ≡ spreadFrom pts p v (drop m (take count (drop at w)))
+
+module _ {pts : List Float} {w : List ℕ} {at count : ℕ} {p v : Point3f} where
+  pub spread-start : at + count ≤ length w → v ≡ point (f32 0) (f32 0) (f32 0) → Spreading pts w at count p v 0
+  spread-start h e = record { long = h; inside = omega arith; same = rw e refl }
+
+  pub spread-on : {u : Point3f} {m : ℕ} → Spreading pts w at count p v m → m < count → u ≡ widen v (difference (pointAt pts (getD w (at + m) 0)) p) → Spreading pts w at count p u (m + 1)
+  spread-on {u} {m} k h e = record {
+    long = k .long;
+    inside = omega arith;
+    same = k .same ∙ ap (spreadFrom pts p v) (part-step w at count m (k .long) h) ∙ (unfold spreadFrom in ap (λ (x : Point3f). spreadFrom pts p x (drop (m + 1) (take count (drop at w)))) (sym e));
+  }
+
+  pub spread-end : {m : ℕ} → Spreading pts w at count p v m → count ≤ m → v ≡ spread pts p (take count (drop at w))
+  spread-end {m} k h = sym (k .same ∙ ap (spreadFrom pts p v) (part-end w at count m h) ∙ (unfold spreadFrom in refl))
+
+-- ---- the loops of `is_small_beside` and `are_all_small` at the m-th of the points that stand from `at` on: the answer is that of the rest
+
+pub record Rest (w : List ℕ) (at count : ℕ) (f : List ℕ → Bool) (answer : Bool) (m : ℕ) : Type 0 where
+  pub long : at + count ≤ length w
+  pub inside : m ≤ count
+  pub same : answer ≡ f (drop m (take count (drop at w)))
+
+module _ {w : List ℕ} {at count : ℕ} {f : List ℕ → Bool} {answer : Bool} {m : ℕ} (k : Rest w at count f answer m) where
+  -- where the m-th is asked first, and then the others
+  module _ {b : Bool} (g : List ℕ → Bool) (step : (xs : List ℕ) → f (getD w (at + m) 0 ∷ xs) ≡ (g xs && f xs)) (h : m < count) (e : b ≡ g (drop (m + 1) (take count (drop at w)))) where
+    turn : answer ≡ (b && f (drop (m + 1) (take count (drop at w))))
+    turn =
+        let xs = drop (m + 1) (take count (drop at w)) in
+        k .same ∙ ap f (part-step w at count m (k .long) h) ∙ step xs ∙ ap (λ (y : Bool). y && f xs) (sym e)
+
+    pub rest-on : b ≡ true → Rest w at count f answer (m + 1)
+    rest-on t = record { long = k .long; inside = omega arith; same = turn ∙ ap (λ (y : Bool). y && f (drop (m + 1) (take count (drop at w)))) t }
+
+    pub rest-off : b ≡ false → false ≡ answer
+    rest-off t = sym (turn ∙ ap (λ (y : Bool). y && f (drop (m + 1) (take count (drop at w)))) t)
+
+  pub rest-end : count ≤ m → answer ≡ f []
+  rest-end h = k .same ∙ ap f (part-end w at count m h)
+
+pub beside-step : (pts : List Float) (t : Float) (i j k : ℕ) (ks : List ℕ) → smallBeside pts t i j (k ∷ ks) ≡ (isSmall pts t i j k && smallBeside pts t i j ks)
+unfolding smallBeside
+beside-step pts t i j k ks = refl
+
+pub beside-end : (pts : List Float) (t : Float) (i j : ℕ) → smallBeside pts t i j [] ≡ true
+unfolding smallBeside
+beside-end pts t i j = refl
+
+pub all-step : (pts : List Float) (t : Float) (i j : ℕ) (js : List ℕ) → allSmall pts t i (j ∷ js) ≡ (smallBeside pts t i j js && allSmall pts t i js)
+unfolding allSmall
+all-step pts t i j js = refl
+
+pub all-end : (pts : List Float) (t : Float) (i : ℕ) → allSmall pts t i [] ≡ true
+unfolding allSmall
+all-end pts t i = refl

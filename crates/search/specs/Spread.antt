@@ -1,0 +1,60 @@
+-- How far points spread around a point, and what the search for a seed knows of areas. Definitions only.
+use Prim.Native.Nat.{ℕ, _≤_, _<_}
+use mathlib.Core.Path.{_≡_}
+use mathlib.Core.Bool.{Bool, true, _&&_}
+use mathlib.Core.List.{List, [], _∷_}
+use lib.Dec.{eqb}
+use lib.Ieee.{Float, lt}
+use Rattle.numbers.specs.Rounded.{f32}
+use Rattle.triangle.specs.Vector.{point, difference}
+use Rattle.triangle.specs.AreaBound.{widen, areaBound, AreaLimit}
+use Rattle.triangle.specs.declared.Point3f.{Point3f}
+use Rattle.points.specs.Points.{pointAt}
+use Rattle.spatial_hash.specs.Near.{Finite}
+use Rattle.patch.specs.Count.{count}
+use Rattle.patch.specs.Search.{Below}
+use Rattle.decisions.specs.declared.Scene.{Scene}
+use Rattle.decisions.specs.Decisions.{reach}
+use Rattle.decisions.specs.Refused.{isSmall}
+use Rattle.search.specs.declared.nearby.Filter.{Filter}
+use Rattle.search.specs.Narrow.{Filters, Collected}
+
+-- v, widened to bound the vectors from p to the points ks
+unfoldable pub spreadFrom : List Float → Point3f → Point3f → List ℕ → Point3f
+spreadFrom pts p v [] = v
+spreadFrom pts p v (k ∷ ks) = spreadFrom pts p (widen v (difference (pointAt pts k) p)) ks
+
+-- the bound of those vectors alone
+abbrev pub spread : List Float → Point3f → List ℕ → Point3f
+spread pts p ks = spreadFrom pts p (point (f32 0) (f32 0) (f32 0)) ks
+
+-- a triangle of point i, a point of spread v and one of spread w is too small
+unfoldable pub tooSmall : Scene → Point3f → Point3f → Bool
+tooSmall s v w = lt (areaBound v w) (s .«min_triangle_area»)
+
+-- the triangles of points i, j and each of the points ks are small
+unfoldable pub smallBeside : List Float → Float → ℕ → ℕ → List ℕ → Bool
+smallBeside pts t i j [] = true
+smallBeside pts t i j (k ∷ ks) = isSmall pts t i j k && smallBeside pts t i j ks
+
+-- those of point i and two of the points ks are
+unfoldable pub allSmall : List Float → Float → ℕ → List ℕ → Bool
+allSmall pts t i [] = true
+allSmall pts t i (j ∷ js) = smallBeside pts t i j js && allSmall pts t i js
+
+-- v is the spread, around point i, of points of the cloud that ks are among
+pub record Spans (s : Scene) (pts : List Float) (i : ℕ) (ks : List ℕ) (v : Point3f) : Type 0 where
+  pub all : List ℕ
+  pub below : Below (s .n) all
+  pub is : v ≡ spread pts (pointAt pts i) all
+  pub among : (k : ℕ) → 1 ≤ count (eqb k) ks → 1 ≤ count (eqb k) all
+
+-- coordinates are numbers, and a limit is one for the least area
+pub record Judged (s : Scene) (pts : List Float) (limit : Float) : Type 0 where
+  pub numbers : (k : ℕ) → k < s .n → Finite (pointAt pts k)
+  pub limits : AreaLimit (s .«min_triangle_area») limit
+
+-- the points near point i are listed, but not yet in order
+pub record Listing (s : Scene) (pts : List Float) (r : Float) (i : ℕ) (f : Filter) (w : List ℕ) (found : ℕ) : Type 0 where
+  pub filters : Filters s (pointAt pts i) (pointAt pts i) (reach r) f
+  pub collected : Collected s pts f w w found

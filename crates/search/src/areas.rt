@@ -1,0 +1,104 @@
+// What is too small for a seed: points in too small a spread, and lists of points all triangles of which are small.
+use decisions::Scene;
+use triangle::Point3f;
+ghost use mathlib.Core.Path.{_≡_};
+ghost use mathlib.Core.List.{[], _∷_};
+ghost use Prim.Native.Nat.{_*_, _<_, _≤_, _+_};
+ghost use lib.ListN.{length, drop};
+ghost use Rattle.triangle.specs.Vector.{difference};
+ghost use Rattle.triangle.specs.AreaBound.{widen};
+ghost use Rattle.points.specs.Points.{pointAt};
+ghost use Rattle.search.specs.Ready.{Held, Listed, listed};
+ghost use Rattle.search.specs.Spread.{spread, tooSmall, smallBeside, allSmall};
+
+// The largest of what v says and how far point k is from the center, on each axis.
+fn widened(points: &[f32], center: Point3f, v: Point3f, k: usize) -> Point3f
+    requires { ⌜ 3 * k + 2 < length (now points) ⌝ }
+    ensures { λ r. ⌜ r ≡ widen v (difference (pointAt (now (points .entry)) k) center) ⌝ }
+{
+    triangle::bound::widen(v, triangle::difference(points::point_at(points, k), center))
+}
+
+// How far the listed points spread around point i.
+pub fn spread(s: Scene, points: &[f32], w: &[u32], count: usize, i: usize) -> Point3f
+    requires { ⌜ Held s (now points) (now w) × Listed s (now w) count × (i < s .n) ⌝ }
+    ensures { λ r. ⌜ r ≡ spread (now (points .entry)) (pointAt (now (points .entry)) i) (listed s (now (w .entry)) count) ⌝ }
+{
+    let at = 4 * s.n;
+    let center = points::point_at(points, i);
+    let mut v = triangle::point(0.0, 0.0, 0.0);
+    let mut m: usize = 0;
+    while m < count {
+        let k = w[at + m] as usize;
+        v = widened(points, center, v, k);
+        m += 1;
+    }
+    v
+}
+
+// Whether two edges that v and w bound make no triangle that is large enough.
+pub fn is_too_small(s: Scene, v: Point3f, w: Point3f) -> bool
+    ensures { λ r. ⌜ r ≡ tooSmall s v w ⌝ }
+{
+    triangle::bound::area_bound(v, w) < s.min_triangle_area
+}
+
+// Whether i and j make no triangle that is large enough with any point of a spread.
+pub fn is_too_near(s: Scene, points: &[f32], i: usize, j: usize, wide: Point3f) -> bool
+    requires { ⌜ (3 * i + 2 < length (now points)) × (3 * j + 2 < length (now points)) ⌝ }
+    ensures { λ r. ⌜ r ≡ tooSmall s (spread (now (points .entry)) (pointAt (now (points .entry)) i) (j ∷ [])) wide ⌝ }
+{
+    let center = points::point_at(points, i);
+    let own = widened(points, center, triangle::point(0.0, 0.0, 0.0), j);
+    is_too_small(s, own, wide)
+}
+
+// Whether the triangles of i, j and each of the listed points from a place on are small.
+fn is_small_beside(
+    s: Scene,
+    points: &[f32],
+    w: &[u32],
+    count: usize,
+    limit: f32,
+    i: usize,
+    j: usize,
+    from: usize,
+) -> bool
+    requires { ⌜ Held s (now points) (now w) × Listed s (now w) count × (i < s .n) × (j < s .n) × (from ≤ count) ⌝ }
+    ensures { λ r. ⌜ r ≡ smallBeside (now (points .entry)) limit i j (drop from (listed s (now (w .entry)) count)) ⌝ }
+{
+    let at = 4 * s.n;
+    let mut m = from;
+    while m < count {
+        let k = w[at + m] as usize;
+        if !decisions::refused::is_small(points, limit, i, j, k) {
+            return false;
+        }
+        m += 1;
+    }
+    true
+}
+
+// Whether all triangles of i and two of the listed points are small.
+pub fn are_all_small(
+    s: Scene,
+    points: &[f32],
+    w: &[u32],
+    count: usize,
+    limit: f32,
+    i: usize,
+) -> bool
+    requires { ⌜ Held s (now points) (now w) × Listed s (now w) count × (i < s .n) ⌝ }
+    ensures { λ r. ⌜ r ≡ allSmall (now (points .entry)) limit i (listed s (now (w .entry)) count) ⌝ }
+{
+    let at = 4 * s.n;
+    let mut m: usize = 0;
+    while m < count {
+        let j = w[at + m] as usize;
+        m += 1;
+        if !is_small_beside(s, points, w, count, limit, i, j, m) {
+            return false;
+        }
+    }
+    true
+}
