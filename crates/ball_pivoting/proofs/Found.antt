@@ -31,7 +31,7 @@ shape-of c pts = laid-shape (sceneOf c pts) pts (radiiOf c pts)
 
 -- ---- the points are indexed and hashed
 
-pub grounded : {s : Scene} {hash : Hash} {pts : List Float} {w u v : List ℕ} → s .n ≡ pointCount pts → Sized pts w → Indexed (s .grid) (s .indexed) pts (s .n) u → Built hash pts (s .n) u v → Ground s hash pts v
+pub grounded : {s : Scene} {hash : Hash} {pts : List Float} {w u v : List ℕ} → s .n ≡ pointCount pts → Sized pts w → Indexed (s .grid) pts (s .n) u → Built hash pts (s .n) u v → Ground s hash pts v
 grounded {s = s} {u = u} {v = v} e z x b = record {
   some = omega (arith, z .some);
   held = record { few = x .few; points-long = omega (arith, z .threes); work-long = omega (arith, x .room, b .length-same) };

@@ -29,7 +29,7 @@ fn index_points(points: &[f32], settings: BallPivotingConfig, words: &mut [u32])
     let n = points.len() / 3;
     let indexed = settings.use_spatial_index;
     let size = settings.radius * settings.spatial_cell_factor;
-    let grid = grid::build_spatial_grid(points, n, size, indexed, words);
+    let grid = grid::build_spatial_grid(points, n, size, words);
     let hash = spatial_hash::build(points, n, settings.radius, words);
     let scene = Scene {
         n: n,

@@ -49,8 +49,8 @@ neighbors-below true g pts n p r = keep-below g pts (rangeOf g r) (cellOf g p) n
 neighbors-below false g pts n p r = order-of-below false g pts n
 
 -- ---- what is kept survives any change of the slice from 4n on
-pub indexed-kept : {g : SpatialGrid} {indexed : Bool} {pts : List Float} {n : ℕ} {w : List ℕ} (u : List ℕ) → Indexed g indexed pts n w → length u ≡ length w → take (4 * n) u ≡ take (4 * n) w → Indexed g indexed pts n u
-indexed-kept {g} {indexed} {pts} {n} {w} u x l e =
+pub indexed-kept : {g : SpatialGrid} {pts : List Float} {n : ℕ} {w : List ℕ} (u : List ℕ) → Indexed g pts n w → length u ≡ length w → take (4 * n) u ≡ take (4 * n) w → Indexed g pts n u
+indexed-kept {g} {pts} {n} {w} u x l e =
     record {
       few = x .few;
       room = omega (arith, x .room);

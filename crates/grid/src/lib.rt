@@ -1,14 +1,13 @@
-// The spatial index. Everything that it keeps stands in the u32 work slice, in the regions of the order and of the cells; see specs/Index.antt.
+// The spatial index. What it keeps stands in the u32 work slice, in the region of the cells; see specs/Index.antt.
 mod cells;
 pub mod order;
 pub mod search;
 
 use triangle::Point3f;
 ghost use mathlib.Core.Path.{_≡_};
-ghost use mathlib.Core.Bool.{cond};
 ghost use Prim.Native.Nat.{_+_, _*_, _≤_, _<_};
-ghost use lib.ListN.{length, take, drop};
-ghost use Rattle.grid.specs.Grid.{boundsMin, gridOf, cellOf, neighbors};
+ghost use lib.ListN.{length, drop};
+ghost use Rattle.grid.specs.Grid.{boundsMin, gridOf, cellOf};
 ghost use Rattle.grid.specs.Index.{Indexed};
 
 // Cells are cubes of side cell_size, counted from the cloud's least coordinates.
@@ -44,17 +43,16 @@ pub fn cell_of(grid: SpatialGrid, p: Point3f) -> Cell
     Cell { x: x, y: y, z: z }
 }
 
-// Indexes n points: their cells, and the order in which they are looked through.
+// Indexes n points: keeps the cell of each.
 pub fn build_spatial_grid(
     points: &[f32],
     n: usize,
     cell_size: f32,
-    indexed: bool,
     w: &mut [u32],
 ) -> SpatialGrid
     requires { ⌜ (n ≤ 4096) × (3 * n ≤ length (now points)) × (24 * n + 64 ≤ length (now w)) ⌝ }
     ensures { λ r. ⌜ (r ≡ gridOf «cell_size» (now (points .entry)) n)
-        × Indexed r indexed (now (points .entry)) n (now (w .exit))
+        × Indexed r (now (points .entry)) n (now (w .exit))
         × (drop (4 * n) (now (w .exit)) ≡ drop (4 * n) (now (w .entry))) ⌝ }
 {
     let grid = SpatialGrid {

@@ -24,7 +24,7 @@ use Rattle.frontier.specs.Work.{Holds, Takes, OnlyIn}
 pub record Ground (s : Scene) (hash : Hash) (pts : List Float) (w : List ℕ) : Type 0 where
   pub some : 0 < s .n
   pub held : Held s pts w
-  pub indexed : Indexed (s .grid) (s .indexed) pts (s .n) w
+  pub indexed : Indexed (s .grid) pts (s .n) w
   pub hashed : Hashed hash pts (s .n) w
 
 -- the choices of seeds and pivots

@@ -241,7 +241,7 @@ unfolding orderOf
 order-whole false g pts n = up-whole n
 order-whole true g pts n = by-cell-whole g pts n
 
-pub nearest-is : (c : BallPivotingConfig) (g : SpatialGrid) (pts : List Float) (n i : ℕ) (w : List ℕ) → i < n → ((j : ℕ) → j < n → Finite (pointAt pts j)) → Indexed g (c .«use_spatial_index») pts n w
+pub nearest-is : (c : BallPivotingConfig) (g : SpatialGrid) (pts : List Float) (n i : ℕ) (w : List ℕ) → i < n → ((j : ℕ) → j < n → Finite (pointAt pts j)) → Indexed g pts n w
     → map root (leastSquares (isNear (aroundOf c g (pointAt pts i)) w n) pts i (upFrom 0 n)) ≡ nearest c g pts n i
 unfolding leastSquares nearest nearOf
 nearest-is c g pts n i w inside numbers x =

@@ -19,7 +19,7 @@ use Rattle.radii.specs.Radii.{average}
 -- what `compute_adaptive_radii` needs
 pub record Ready (c : BallPivotingConfig) (g : SpatialGrid) (h : Hash) (pts : List Float) (n : ℕ) (w : List ℕ) (f : List Float) : Type 0 where
   pub some : 0 < n
-  pub indexed : Indexed g (c .«use_spatial_index») pts n w
+  pub indexed : Indexed g pts n w
   pub hashed : Hashed h pts n w
   pub room : 4 * n + 64 ≤ length f
   pub percentiles : c .«percentile_count» ≤ 8

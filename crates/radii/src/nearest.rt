@@ -183,7 +183,7 @@ pub fn find_nearest(
     w: &mut [u32],
     f: &mut [f32],
 ) -> usize
-    requires { ⌜ (i < n) × (n + 10 ≤ length (now f)) × Hashed hash (now points) n (now w) × Indexed grid (config .«use_spatial_index») (now points) n (now w) ⌝ }
+    requires { ⌜ (i < n) × (n + 10 ≤ length (now f)) × Hashed hash (now points) n (now w) × Indexed grid (now points) n (now w) ⌝ }
     ensures { λ r. ⌜ (take r (drop n (now (f .exit))) ≡ nearest config grid (now (points .entry)) n i)
         × (r ≤ 10)
         × (take n (now (f .exit)) ≡ take n (now (f .entry)))

@@ -72,7 +72,7 @@ firsts s pts r w is left = firstOf (floatsOf s pts) r (usedIn s w) is left
 pub record Seeking (s : Scene) (pts : List Float) (r : Float) (hash : Hash) (w₀ w : List ℕ) (left i : ℕ) : Type 0 where
   pub held : Held s pts w
   pub hashed : Hashed hash pts (s .n) w
-  pub indexed : Indexed (s .grid) (s .indexed) pts (s .n) w
+  pub indexed : Indexed (s .grid) pts (s .n) w
   pub kept : Kept s w₀ w
   pub same : length w ≡ length w₀
   pub most : left ≤ 1000
@@ -80,7 +80,7 @@ pub record Seeking (s : Scene) (pts : List Float) (r : Float) (hash : Hash) (w�
   pub rest : firsts s pts r w₀ (numbers (s .n) 0) 1000 ≡ firsts s pts r w₀ (numbers (s .n - i) i) left
 
 module _ {s : Scene} {pts : List Float} {r : Float} {hash : Hash} {w₀ : List ℕ} where
-  pub seek-start : Held s pts w₀ → Indexed (s .grid) (s .indexed) pts (s .n) w₀ → Hashed hash pts (s .n) w₀ → Seeking s pts r hash w₀ w₀ 1000 0
+  pub seek-start : Held s pts w₀ → Indexed (s .grid) pts (s .n) w₀ → Hashed hash pts (s .n) w₀ → Seeking s pts r hash w₀ w₀ 1000 0
   seek-start h x d =
       let e : s .n ≡ s .n - 0 = omega arith in
       record { held = h; hashed = d; indexed = x; kept = kept-self s w₀; same = refl; most = omega arith; inside = omega arith; rest = ap (λ (m : ℕ). firsts s pts r w₀ (numbers m 0) 1000) e }

@@ -36,7 +36,7 @@ pub fn is_unused(s: Scene, w: &[u32], k: usize) -> bool
 
 // The first triangle of unused points at a radius that is acceptable, in the order of their numbers and neighbours.
 pub fn find_seed_triangle(s: Scene, points: &[f32], w: &mut [u32], radius: f32, hash: Hash) -> Seed
-    requires { ⌜ Held s (now points) (now w) × Indexed (s .grid) (s .indexed) (now points) (s .n) (now w) × Hashed hash (now points) (s .n) (now w) ⌝ }
+    requires { ⌜ Held s (now points) (now w) × Indexed (s .grid) (now points) (s .n) (now w) × Hashed hash (now points) (s .n) (now w) ⌝ }
     ensures { λ r. ⌜ (r ≡ seedFound (searching (floatsOf s (now (points .entry))) (s .n) .seedOf radius (usedIn s (now (w .entry))))) × Kept s (now (w .entry)) (now (w .exit)) ⌝ }
 {
     if decisions::refused::is_hopeless(s, radius) {
@@ -56,7 +56,7 @@ pub fn try_ball_pivot(
     b: usize,
     hash: Hash,
 ) -> Pivot
-    requires { ⌜ Held s (now points) (now w) × Indexed (s .grid) (s .indexed) (now points) (s .n) (now w) × Hashed hash (now points) (s .n) (now w) × (a < s .n) × (b < s .n) ⌝ }
+    requires { ⌜ Held s (now points) (now w) × Indexed (s .grid) (now points) (s .n) (now w) × Hashed hash (now points) (s .n) (now w) × (a < s .n) × (b < s .n) ⌝ }
     ensures { λ r. ⌜ (r ≡ pivotFound (searching (floatsOf s (now (points .entry))) (s .n) .pivotOf radius (usedIn s (now (w .entry))) (edge a b))) × Kept s (now (w .entry)) (now (w .exit)) ⌝ }
 {
     if !decisions::is_pivotable(points, radius, a, b) {

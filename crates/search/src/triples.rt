@@ -186,7 +186,7 @@ fn try_first(
     hash: Hash,
     limit: f32,
 ) -> Seed
-    requires { ⌜ Held s (now points) (now w) × Indexed (s .grid) (s .indexed) (now points) (s .n) (now w) × Hashed hash (now points) (s .n) (now w) × (i < s .n) × AreaLimit (s .«min_triangle_area») limit ⌝ }
+    requires { ⌜ Held s (now points) (now w) × Indexed (s .grid) (now points) (s .n) (now w) × Hashed hash (now points) (s .n) (now w) × (i < s .n) × AreaLimit (s .«min_triangle_area») limit ⌝ }
     ensures { λ r. ⌜ (r ≡ seedFound (withFirst (floatsOf s (now (points .entry))) radius (usedIn s (now (w .entry))) i)) × Kept s (now (w .entry)) (now (w .exit)) ⌝ }
 {
     let place = points::point_at(points, i);
@@ -204,7 +204,7 @@ pub fn find_from(
     hash: Hash,
     limit: f32,
 ) -> Seed
-    requires { ⌜ Held s (now points) (now w) × Indexed (s .grid) (s .indexed) (now points) (s .n) (now w) × Hashed hash (now points) (s .n) (now w) × AreaLimit (s .«min_triangle_area») limit ⌝ }
+    requires { ⌜ Held s (now points) (now w) × Indexed (s .grid) (now points) (s .n) (now w) × Hashed hash (now points) (s .n) (now w) × AreaLimit (s .«min_triangle_area») limit ⌝ }
     ensures { λ r. ⌜ (r ≡ seedFound (firstOf (floatsOf s (now (points .entry))) radius (usedIn s (now (w .entry))) (numbers (s .n) 0) 1000)) × Kept s (now (w .entry)) (now (w .exit)) ⌝ }
 {
     let n = s.n;
