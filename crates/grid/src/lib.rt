@@ -44,12 +44,7 @@ pub fn cell_of(grid: SpatialGrid, p: Point3f) -> Cell
 }
 
 // Indexes n points: keeps the cell of each.
-pub fn build_spatial_grid(
-    points: &[f32],
-    n: usize,
-    cell_size: f32,
-    w: &mut [u32],
-) -> SpatialGrid
+pub fn build_spatial_grid(points: &[f32], n: usize, cell_size: f32, w: &mut [u32]) -> SpatialGrid
     requires { ⌜ (n ≤ 4096) × (3 * n ≤ length (now points)) × (24 * n + 64 ≤ length (now w)) ⌝ }
     ensures { λ r. ⌜ (r ≡ gridOf «cell_size» (now (points .entry)) n)
         × Indexed r (now (points .entry)) n (now (w .exit))
