@@ -69,19 +69,7 @@ abbrev listing-points : List Float
 listing-points = map f32 (0 ∷ 0 ∷ 0 ∷ 0x3f800000 ∷ 0 ∷ 0 ∷ 0 ∷ 0x3f800000 ∷ 0 ∷ [])
 
 abbrev two-points-settings : BallPivotingConfig
-two-points-settings = record {
-  radius = f32 0x3f800000;
-  «additional_radii» = map f32 (0x3d4ccccd ∷ 0x3e19999a ∷ 0x3e4ccccd ∷ 0 ∷ 0 ∷ 0 ∷ 0 ∷ 0 ∷ []);
-  «additional_count» = 3;
-  «adaptive_radius» = true;
-  «adaptive_percentiles» = map f32 (0x3e800000 ∷ 0x3f000000 ∷ 0x3f400000 ∷ 0x3f666666 ∷ 0 ∷ 0 ∷ 0 ∷ 0 ∷ []);
-  «percentile_count» = 4;
-  «quality_threshold» = f32 0x3dcccccd;
-  «max_edge_factor» = f32 0x40400000;
-  «min_triangle_area» = f32 0x322bcc77;
-  «use_spatial_index» = true;
-  «spatial_cell_factor» = f32 0x40000000;
-}
+two-points-settings = listing-settings
 
 abbrev two-points-points : List Float
 two-points-points = map f32 (0 ∷ 0 ∷ 0 ∷ 0x3f800000 ∷ 0 ∷ 0 ∷ [])
