@@ -8,11 +8,11 @@ use lib.Dec.{T}
 use lib.Ieee.{Float, lt, le}
 use lib.Ieee.Scale.{finite}
 use Rattle.triangle.specs.Vector.{difference, distance}
-use Rattle.triangle.specs.AreaBound.{areaBound, AreaLimit}
+use Rattle.area_bounds.specs.AreaBound.{areaBound, AreaLimit}
 use Rattle.triangle.specs.declared.Point3f.{Point3f}
 use Rattle.triangle.proofs.Distances.{FinitePoint, distance-turned}
-use Rattle.triangle.proofs.AreaBound.{Bounds, Unsigned, area-bounded, area-limited, cross-squared-turned}
-use Rattle.triangle.proofs.Refused.{small-refused, long-refused, near-finite, area-number}
+use Rattle.area_bounds.proofs.AreaBound.{Bounds, Unsigned, area-bounded, area-limited, cross-squared-turned}
+use Rattle.area_bounds.proofs.Refused.{small-refused, long-refused, near-finite, area-number}
 use Rattle.points.specs.Points.{pointAt}
 use Rattle.decisions.specs.declared.Scene.{Scene}
 use Rattle.decisions.specs.Decisions.{reach, apart, isClose, qualityAt, accepts}

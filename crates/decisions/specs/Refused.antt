@@ -4,7 +4,7 @@ use mathlib.Core.Bool.{Bool, false}
 use mathlib.Core.List.{List}
 use lib.Dec.{T}
 use lib.Ieee.{Float, inf, lt, le}
-use Rattle.triangle.specs.AreaBound.{crossSquared, TooLong}
+use Rattle.area_bounds.specs.AreaBound.{crossSquared, TooLong}
 use Rattle.points.specs.Points.{pointAt}
 use Rattle.decisions.specs.declared.Scene.{Scene}
 use Rattle.decisions.specs.Decisions.{reach}

@@ -11,7 +11,7 @@ pub fn is_small(points: &[f32], limit: f32, i: usize, j: usize, k: usize) -> boo
     requires { ⌜ (3 * i + 2 < length (now points)) × (3 * j + 2 < length (now points)) × (3 * k + 2 < length (now points)) ⌝ }
     ensures { λ r. ⌜ r ≡ isSmall (now (points .entry)) limit i j k ⌝ }
 {
-    let square = triangle::bound::cross_squared(
+    let square = area_bounds::cross_squared(
         points::point_at(points, i),
         points::point_at(points, j),
         points::point_at(points, k),
@@ -26,5 +26,5 @@ pub fn is_hopeless(s: Scene, radius: f32) -> bool
     if !(radius * 2.0 < 1.0 / 0.0) {
         return false;
     }
-    triangle::bound::is_too_long(radius, s.min_triangle_area, s.max_edge_factor)
+    area_bounds::is_too_long(radius, s.min_triangle_area, s.max_edge_factor)
 }

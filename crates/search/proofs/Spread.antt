@@ -10,10 +10,10 @@ use lib.Ieee.{Float}
 use borrow.Author.Tests.{eqb-true}
 use Rattle.numbers.specs.Rounded.{f32}
 use Rattle.triangle.specs.Vector.{point, difference}
-use Rattle.triangle.specs.AreaBound.{widen}
+use Rattle.area_bounds.specs.AreaBound.{widen}
 use Rattle.triangle.specs.declared.Point3f.{Point3f}
 use Rattle.triangle.proofs.Distances.{FinitePoint}
-use Rattle.triangle.proofs.AreaBound.{Bounds, Unsigned, widen-unsigned, widen-keeps, widen-bounds, zero-unsigned}
+use Rattle.area_bounds.proofs.AreaBound.{Bounds, Unsigned, widen-unsigned, widen-keeps, widen-bounds, zero-unsigned}
 use Rattle.points.specs.Points.{pointAt}
 use Rattle.patch.specs.Count.{bit, count}
 use Rattle.decisions.specs.declared.Scene.{Scene}

@@ -7,7 +7,7 @@ use lib.Dec.{eqb}
 use lib.Ieee.{Float, lt}
 use Rattle.numbers.specs.Rounded.{f32}
 use Rattle.triangle.specs.Vector.{point, difference}
-use Rattle.triangle.specs.AreaBound.{widen, areaBound, AreaLimit}
+use Rattle.area_bounds.specs.AreaBound.{widen, areaBound, AreaLimit}
 use Rattle.triangle.specs.declared.Point3f.{Point3f}
 use Rattle.points.specs.Points.{pointAt}
 use Rattle.spatial_hash.specs.Near.{Finite}

@@ -6,7 +6,7 @@ ghost use mathlib.Core.List.{[], _∷_};
 ghost use Prim.Native.Nat.{_*_, _<_, _≤_, _+_};
 ghost use lib.ListN.{length, drop};
 ghost use Rattle.triangle.specs.Vector.{difference};
-ghost use Rattle.triangle.specs.AreaBound.{widen};
+ghost use Rattle.area_bounds.specs.AreaBound.{widen};
 ghost use Rattle.points.specs.Points.{pointAt};
 ghost use Rattle.search.specs.Ready.{Held, Listed, listed};
 ghost use Rattle.search.specs.Spread.{spread, tooSmall, smallBeside, allSmall};
@@ -16,7 +16,7 @@ fn widened(points: &[f32], center: Point3f, v: Point3f, k: usize) -> Point3f
     requires { ⌜ 3 * k + 2 < length (now points) ⌝ }
     ensures { λ r. ⌜ r ≡ widen v (difference (pointAt (now (points .entry)) k) center) ⌝ }
 {
-    triangle::bound::widen(v, triangle::difference(points::point_at(points, k), center))
+    area_bounds::widen(v, triangle::difference(points::point_at(points, k), center))
 }
 
 // How far the listed points spread around point i.
@@ -40,7 +40,7 @@ pub fn spread(s: Scene, points: &[f32], w: &[u32], count: usize, i: usize) -> Po
 pub fn is_too_small(s: Scene, v: Point3f, w: Point3f) -> bool
     ensures { λ r. ⌜ r ≡ tooSmall s v w ⌝ }
 {
-    triangle::bound::area_bound(v, w) < s.min_triangle_area
+    area_bounds::area_bound(v, w) < s.min_triangle_area
 }
 
 // Whether i and j make no triangle that is large enough with any point of a spread.

@@ -42,7 +42,7 @@ pub fn find_seed_triangle(s: Scene, points: &[f32], w: &mut [u32], radius: f32, 
     if decisions::refused::is_hopeless(s, radius) {
         return Seed::Nothing;
     }
-    let limit = triangle::bound::area_limit(s.min_triangle_area);
+    let limit = area_bounds::area_limit(s.min_triangle_area);
     triples::find_from(s, points, w, radius, hash, limit)
 }
 

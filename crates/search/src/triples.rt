@@ -6,7 +6,7 @@ use spatial_hash::Hash;
 use triangle::Point3f;
 ghost use mathlib.Core.Path.{_≡_};
 ghost use Prim.Native.Nat.{_*_, _<_, _+_};
-ghost use Rattle.triangle.specs.AreaBound.{AreaLimit};
+ghost use Rattle.area_bounds.specs.AreaBound.{AreaLimit};
 ghost use Rattle.grid.specs.Index.{Cells, Indexed};
 ghost use Rattle.spatial_hash.specs.Near.{Hashed};
 ghost use Rattle.patch.specs.Search.{isSecond, isThird, thirdOf, secondOf, firstOf, numbers};

@@ -1,6 +1,4 @@
 -- Laws of the definitions, and what they give at outside values.
 pub mod Distances
-pub mod AreaBound
-pub mod Refused
 pub mod Bounds
 pub mod Examples

@@ -1,5 +1,4 @@
 -- What the crate's contracts cite, leaves first.
 pub mod Vector
 pub mod Quality
-pub mod AreaBound
 pub mod Bound

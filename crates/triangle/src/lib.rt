@@ -1,5 +1,4 @@
 // A triangle of three points in space: its circumradius, its quality, and whether that is acceptable.
-pub mod bound;
 mod measure;
 
 ghost use mathlib.Core.Path.{_≡_};
@@ -51,7 +50,8 @@ pub fn difference(p: Point3f, q: Point3f) -> Point3f
     }
 }
 
-fn magnitude_squared(v: Point3f) -> f32
+// The length of v, squared.
+pub fn magnitude_squared(v: Point3f) -> f32
     ensures { λ r. ⌜ r ≡ magnitudeSquared v ⌝ }
 {
     (v.x * v.x + v.y * v.y) + v.z * v.z

@@ -1,0 +1,3 @@
+-- Laws of the definitions, and what they refuse.
+pub mod AreaBound
+pub mod Refused

@@ -1,0 +1,71 @@
+// Bounds of a triangle's area, by which triangles that are too small are known without measuring them.
+use triangle::Point3f;
+ghost use mathlib.Core.Path.{_≡_};
+ghost use mathlib.Core.Bool.{true};
+ghost use Rattle.area_bounds.specs.AreaBound.{wider, widen, crossBound, areaBound, crossSquared, AreaLimit, TooLong};
+
+// The largest of w, d and -d.
+fn wider(w: f32, d: f32) -> f32
+    ensures { λ r. ⌜ r ≡ wider w d ⌝ }
+{
+    numbers::max(numbers::max(w, d), -d)
+}
+
+// w, made to bound the vector d too.
+pub fn widen(w: Point3f, d: Point3f) -> Point3f
+    ensures { λ r. ⌜ r ≡ widen w d ⌝ }
+{
+    Point3f {
+        x: wider(w.x, d.x),
+        y: wider(w.y, d.y),
+        z: wider(w.z, d.z),
+    }
+}
+
+fn cross_bound(v: Point3f, w: Point3f) -> Point3f
+    ensures { λ r. ⌜ r ≡ crossBound v w ⌝ }
+{
+    Point3f {
+        x: v.y * w.z + v.z * w.y,
+        y: v.z * w.x + v.x * w.z,
+        z: v.x * w.y + v.y * w.x,
+    }
+}
+
+// What the area is at most, where v bounds an edge and w another.
+pub fn area_bound(v: Point3f, w: Point3f) -> f32
+    ensures { λ r. ⌜ r ≡ areaBound v w ⌝ }
+{
+    triangle::magnitude(cross_bound(v, w)) * 0.5
+}
+
+// The square of twice the area.
+pub fn cross_squared(p1: Point3f, p2: Point3f, p3: Point3f) -> f32
+    ensures { λ r. ⌜ r ≡ crossSquared p1 p2 p3 ⌝ }
+{
+    triangle::magnitude_squared(triangle::cross(
+        triangle::difference(p2, p1),
+        triangle::difference(p3, p1),
+    ))
+}
+
+// A number that the square of twice the area exceeds if the area is not below the least one. -1 says nothing, and stands where the guess is no such number.
+pub fn area_limit(least: f32) -> f32
+    ensures { λ t. ⌜ AreaLimit least t ⌝ }
+{
+    let t = (2.0 * least) * (2.0 * least) * 0.999999;
+    if numbers::sqrt(t) * 0.5 < least {
+        return t;
+    }
+    -1.0
+}
+
+// Whether the edges of every triangle with the least area or more are too long for a radius.
+pub fn is_too_long(radius: f32, least: f32, factor: f32) -> bool
+    ensures { λ r. ⌜ (r ≡ true → TooLong radius least factor) ⌝ }
+{
+    if !(least >= 1e-10) {
+        return false;
+    }
+    numbers::sqrt(least) > radius * factor
+}
