@@ -80,6 +80,14 @@ fn with(name: impl Into<String>, cloud: Cloud, reach: f64) -> Race {
     Race { name: name.into(), settings: at(cloud.spacing, 2.5), points: cloud.points, reach }
 }
 
+/// How many points a wall has around, and how many rings.
+const WALLS: [[usize; 2]; 4] = [[32, 16], [64, 16], [64, 32], [128, 32]];
+
+/// A scan whose jitter is a fifth of the spacing.
+fn wall([around, rings]: [usize; 2]) -> Cloud {
+    clouds::wall(&mut Random::new(1, 0), around, rings, 0.2)
+}
+
 /// 512 points on whole coordinates, at even steps.
 fn straight(along: [f64; 3]) -> Vec<f32> {
     (0..512).flat_map(|i| along.map(|x| (x * f64::from(i)) as f32)).collect()
@@ -105,10 +113,10 @@ fn hopeless(random: &mut Random) -> Vec<Race> {
 
 fn races(random: &mut Random) -> Vec<Race> {
     let mut races = Vec::new();
-    for size in [512, 1_024, 2_048, 4_096] {
-        races.push(with("bell wall", clouds::bell(random, size), 10.0));
+    for size in WALLS {
+        races.push(with("bell wall", wall(size), 10.0));
     }
-    races.push(with("jittered plane", clouds::plane(random, 2_048), 10.0));
+    races.push(with("jittered plane", clouds::sheet(random, 2_048, 0.2), 10.0));
     races.push(with("sphere", clouds::sphere(random, 2_048), 10.0));
     races.push(with("random volume", clouds::volume(random, 2_048), 20.0));
     for seed in 1..=3 {
@@ -117,7 +125,7 @@ fn races(random: &mut Random) -> Vec<Race> {
     let wide = Settings::at_radius(1_000.0);
     races.push(Race { name: "line on an axis".into(), points: straight([1.0, 0.0, 0.0]), settings: wide, reach: 20.0 });
     races.push(Race { name: "skew line".into(), points: straight([1.0, 2.0, 3.0]), settings: wide, reach: 4.0 });
-    let mut strict = with("bell wall, no index, threshold 1", clouds::bell(random, 1_000), 8.0);
+    let mut strict = with("bell wall, no index, threshold 1", wall([50, 20]), 8.0);
     strict.settings.use_spatial_index = false;
     strict.settings.quality_threshold = 1.0;
     races.push(strict);
@@ -125,10 +133,10 @@ fn races(random: &mut Random) -> Vec<Race> {
     races
 }
 
-fn estimates(random: &mut Random) -> bool {
+fn estimates() -> bool {
     let mut reached = true;
-    for (size, reach) in [(512, 2.0), (2_048, 5.0), (4_096, 10.0)] {
-        let cloud = clouds::bell(random, size);
+    for (size, reach) in [(WALLS[0], 2.0), (WALLS[2], 5.0), (WALLS[3], 10.0)] {
+        let cloud = wall(size);
         let mut lent = lend(cloud.points.len() / 3);
         let times = race(
             || _ = std::hint::black_box(oracle::estimate(&cloud.points, 0.5, UNLIMITED)),
@@ -173,7 +181,7 @@ pub fn bench() -> bool {
         reached &= line(&name, points.len() / 3, &faces.to_string(), times, reach);
         walls.push(times.port);
     }
-    reached &= estimates(random);
+    reached &= estimates();
     let growth = walls[3] / walls[1];
     println!("bell walls from 1,024 to 4,096 points: {growth:.1} times the time (to reach: below 5)");
     comparison(1_000) && reached && growth < 5.0

@@ -43,12 +43,11 @@ fn size(random: &mut Random) -> usize {
     }
 }
 
-/// A bell's wall: a surface of revolution, narrow at the shoulder, wide at the lip, scanned in rings with jitter.
-pub fn bell(random: &mut Random, size: usize) -> Cloud {
-    let around = ((size as f64 * 2.5).sqrt() as usize).clamp(3, size);
-    let rings = (size / around).max(1);
+/// A bell's wall: a surface of revolution, narrow at the shoulder, wide at the lip, scanned in rings with jitter, which is
+/// told in spacings.
+pub fn wall(random: &mut Random, around: usize, rings: usize, jitter: f64) -> Cloud {
     let spacing = 4.0 / around as f64;
-    let jitter = random.pick(&[0.0, 0.02, 0.2, 0.4]) * spacing;
+    let jitter = jitter * spacing;
     let mut points = Vec::new();
     for ring in 0..rings {
         let height = ring as f64 * spacing;
@@ -62,15 +61,26 @@ pub fn bell(random: &mut Random, size: usize) -> Cloud {
     Cloud { kind: "bell", points: flat(points), spacing }
 }
 
-pub fn plane(random: &mut Random, size: usize) -> Cloud {
+pub fn bell(random: &mut Random, size: usize) -> Cloud {
+    let around = ((size as f64 * 2.5).sqrt() as usize).clamp(3, size);
+    let jitter = random.pick(&[0.0, 0.02, 0.2, 0.4]);
+    wall(random, around, (size / around).max(1), jitter)
+}
+
+/// A plane scanned in rows, with jitter.
+pub fn sheet(random: &mut Random, size: usize, jitter: f64) -> Cloud {
     let width = (size as f64).sqrt().ceil() as usize;
-    let jitter = random.pick(&[0.0, 0.05, 0.3]);
     let mut points = Vec::new();
     for i in 0..size {
         let step = |whole: usize, random: &mut Random| whole as f64 + random.within(-jitter, jitter);
         points.push([step(i % width, random), step(i / width, random), random.within(-jitter, jitter)]);
     }
     Cloud { kind: "plane", points: flat(points), spacing: 1.0 }
+}
+
+pub fn plane(random: &mut Random, size: usize) -> Cloud {
+    let jitter = random.pick(&[0.0, 0.05, 0.3]);
+    sheet(random, size, jitter)
 }
 
 fn direction(random: &mut Random) -> [f64; 3] {
