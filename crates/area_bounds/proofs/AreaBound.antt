@@ -15,11 +15,11 @@ use Rattle.numbers.proofs.SumOrder.{add-unsigned, sub-number}
 use Rattle.numbers.proofs.ProductOrder.{mul-number, mul-monotone, mul-commutative, square-turned}
 use Rattle.numbers.proofs.Bounded.{Bounded, bounded-above, neg-neg, add-bounded, sub-bounded, mul-bounded, mul-unsigned, add-finite, mul-finite}
 use Rattle.numbers.proofs.Maximum.{maximum-left, maximum-right, maximum-unsigned}
-use Rattle.triangle.specs.Vector.{point, difference, magnitudeSquared, magnitude, cross}
+use Rattle.vector.specs.Vector.{point, difference, magnitudeSquared, magnitude, cross}
 use Rattle.triangle.specs.Quality.{half, area}
 use Rattle.area_bounds.specs.AreaBound.{wider, widen, crossBound, areaBound, crossSquared, AreaLimit}
-use Rattle.triangle.specs.declared.Point3f.{Point3f}
-use Rattle.triangle.proofs.Distances.{FinitePoint, magnitude-nonnegative}
+use Rattle.vector.specs.declared.Point3f.{Point3f}
+use Rattle.vector.proofs.Distances.{FinitePoint, magnitude-nonnegative}
 
 -- v bounds d on each axis
 pub record Bounds (d v : Point3f) : Type 0 where

@@ -17,11 +17,11 @@ use Rattle.numbers.proofs.Bounded.{root-finite, product-finite}
 use Rattle.numbers.proofs.Minimum.{minimum-le}
 use Rattle.numbers.proofs.Maximum.{maximum-right, minimum-finite, maximum-finite}
 use Rattle.numbers.proofs.AtLeastOne.{ratio-above, mul-above}
-use Rattle.triangle.specs.Vector.{difference, magnitudeSquared, magnitude, cross, squared, distance}
+use Rattle.vector.specs.Vector.{difference, magnitudeSquared, magnitude, cross, squared, distance}
 use Rattle.triangle.specs.Quality.{half, one, tiny, area, least, largest, edgeRatio, measures, degenerate, circumradius, quality, acceptable}
 use Rattle.area_bounds.specs.AreaBound.{TooLong}
-use Rattle.triangle.specs.declared.Point3f.{Point3f}
-use Rattle.triangle.proofs.Distances.{FinitePoint, squared-fits, squared-unsigned, magnitude-unsigned}
+use Rattle.vector.specs.declared.Point3f.{Point3f}
+use Rattle.vector.proofs.Distances.{FinitePoint, squared-fits, squared-unsigned, magnitude-unsigned}
 use Rattle.area_bounds.proofs.AreaBound.{squares-finite, halved-number, magnitude-fits}
 
 -- ---- too small

@@ -4,9 +4,9 @@ use lib.Ieee.{Float, binary32, neg, lt, le, fits}
 use Rattle.numbers.specs.Rounded.{f32, _⊕_, _⊗_}
 use Rattle.numbers.specs.Root.{root}
 use Rattle.numbers.specs.Order.{maximum}
-use Rattle.triangle.specs.Vector.{point, difference, magnitudeSquared, magnitude, cross}
+use Rattle.vector.specs.Vector.{point, difference, magnitudeSquared, magnitude, cross}
 use Rattle.triangle.specs.Quality.{half, one, tiny}
-use Rattle.triangle.specs.declared.Point3f.{Point3f}
+use Rattle.vector.specs.declared.Point3f.{Point3f}
 
 -- the largest of w, d and -d
 unfoldable pub wider : Float → Float → Float

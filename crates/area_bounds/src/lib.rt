@@ -1,5 +1,5 @@
 // Bounds of a triangle's area, by which triangles that are too small are known without measuring them.
-use triangle::Point3f;
+use vector::Point3f;
 ghost use mathlib.Core.Path.{_≡_};
 ghost use mathlib.Core.Bool.{true};
 ghost use Rattle.area_bounds.specs.AreaBound.{wider, widen, crossBound, areaBound, crossSquared, AreaLimit, TooLong};
@@ -36,17 +36,14 @@ fn cross_bound(v: Point3f, w: Point3f) -> Point3f
 pub fn area_bound(v: Point3f, w: Point3f) -> f32
     ensures { λ r. ⌜ r ≡ areaBound v w ⌝ }
 {
-    triangle::magnitude(cross_bound(v, w)) * 0.5
+    vector::magnitude(cross_bound(v, w)) * 0.5
 }
 
 // The square of twice the area.
 pub fn cross_squared(p1: Point3f, p2: Point3f, p3: Point3f) -> f32
     ensures { λ r. ⌜ r ≡ crossSquared p1 p2 p3 ⌝ }
 {
-    triangle::magnitude_squared(triangle::cross(
-        triangle::difference(p2, p1),
-        triangle::difference(p3, p1),
-    ))
+    vector::magnitude_squared(vector::cross(vector::difference(p2, p1), vector::difference(p3, p1)))
 }
 
 // A number that the square of twice the area exceeds if the area is not below the least one. -1 says nothing, and stands where the guess is no such number.

@@ -19,7 +19,7 @@ use Rattle.numbers.specs.Cut.{ceil}
 use Rattle.numbers.specs.Order.{minimum, maximum, clamp}
 use Rattle.numbers.specs.Root.{isqrt, nearestRoot, rootOfUnits, root}
 use Rattle.triangle.specs.Quality.{area, radiusOf, circumradius, angle, least, largest, aspectRatio, edgeRatio, score, measures, degenerate, quality, acceptable}
-use Rattle.triangle.specs.Vector.{difference, magnitudeSquared, magnitude, cross, squared, distance}
+use Rattle.vector.specs.Vector.{difference, magnitudeSquared, magnitude, cross, squared, distance}
 use Rattle.points.specs.Points.{pointAt, upFrom}
 use Rattle.sorting.specs.Insertion.{insertBefore, place}
 use Rattle.sorting.specs.Sorted.{insertAll, percentileOf}

@@ -5,11 +5,11 @@ use mathlib.Core.Bool.{Bool, true, false, cond}
 use mathlib.Core.List.{List}
 use lib.Ieee.{Float, lt}
 use Rattle.numbers.specs.Rounded.{f32}
-use Rattle.triangle.specs.Vector.{distance}
+use Rattle.vector.specs.Vector.{distance}
 use Rattle.triangle.specs.Quality.{area, radiusOf, measures, degenerate, acceptable}
 use Rattle.triangle.specs.Bound.{qualityOf}
 use Rattle.triangle.specs.declared.TriangleQuality.{TriangleQuality}
-use Rattle.triangle.proofs.Distances.{distance-turned}
+use Rattle.vector.proofs.Distances.{distance-turned}
 use Rattle.triangle.proofs.Bounds.{quality-is}
 use Rattle.points.specs.Points.{pointAt}
 use Rattle.decisions.specs.declared.Scene.{Scene}

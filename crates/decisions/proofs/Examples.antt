@@ -10,7 +10,7 @@ use Rattle.numbers.specs.Root.{root}
 use Rattle.numbers.specs.Order.{minimum, maximum, clamp}
 use Rattle.numbers.specs.Cut.{ceil}
 use Rattle.numbers.specs.Acos.{R, abs, cleared, acosMiddle, acosLow, acosHigh, acosInside, acos}
-use Rattle.triangle.specs.Vector.{point, difference, magnitudeSquared, magnitude, cross, squared, distance}
+use Rattle.vector.specs.Vector.{point, difference, magnitudeSquared, magnitude, cross, squared, distance}
 use Rattle.triangle.specs.Quality.{area, radiusOf, circumradius, angle, least, largest, aspectRatio, edgeRatio, score, measures, degenerate, quality, acceptable}
 use Rattle.points.specs.Points.{pointAt, upFrom}
 use Rattle.sorting.specs.Insertion.{insertBefore}

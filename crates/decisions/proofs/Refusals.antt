@@ -7,10 +7,10 @@ use mathlib.Core.List.{List}
 use lib.Dec.{T}
 use lib.Ieee.{Float, lt, le}
 use lib.Ieee.Scale.{finite}
-use Rattle.triangle.specs.Vector.{difference, distance}
+use Rattle.vector.specs.Vector.{difference, distance}
 use Rattle.area_bounds.specs.AreaBound.{areaBound, AreaLimit}
-use Rattle.triangle.specs.declared.Point3f.{Point3f}
-use Rattle.triangle.proofs.Distances.{FinitePoint, distance-turned}
+use Rattle.vector.specs.declared.Point3f.{Point3f}
+use Rattle.vector.proofs.Distances.{FinitePoint, distance-turned}
 use Rattle.area_bounds.proofs.AreaBound.{Bounds, Unsigned, area-bounded, area-limited, cross-squared-turned}
 use Rattle.area_bounds.proofs.Refused.{small-refused, long-refused, near-finite, area-number}
 use Rattle.points.specs.Points.{pointAt}

@@ -5,9 +5,9 @@ use mathlib.Core.List.{List}
 use mathlib.Core.Option.{Option, none, some}
 use lib.Ieee.{Float, lt, le}
 use Rattle.numbers.specs.Rounded.{f32, _⊕_, _⊗_}
-use Rattle.triangle.specs.Vector.{distance}
+use Rattle.vector.specs.Vector.{distance}
 use Rattle.triangle.specs.Quality.{quality, acceptable}
-use Rattle.triangle.specs.declared.Point3f.{Point3f}
+use Rattle.vector.specs.declared.Point3f.{Point3f}
 use Rattle.triangle.specs.declared.TriangleQuality.{TriangleQuality}
 use Rattle.points.specs.Points.{pointAt}
 use Rattle.grid.specs.Grid.{neighbors}

@@ -2,8 +2,8 @@
 pub mod refused;
 
 use grid::SpatialGrid;
-use triangle::Point3f;
 use triangle::TriangleQuality;
+use vector::Point3f;
 ghost use mathlib.Core.Path.{_≡_};
 ghost use Prim.Native.Nat.{_*_, _<_, _+_};
 ghost use lib.ListN.{length};
@@ -33,7 +33,7 @@ pub fn apart_at(points: &[f32], i: usize, j: usize) -> f32
     requires { ⌜ (3 * i + 2 < length (now points)) × (3 * j + 2 < length (now points)) ⌝ }
     ensures { λ r. ⌜ r ≡ apart (now (points .entry)) i j ⌝ }
 {
-    triangle::distance(points::point_at(points, i), points::point_at(points, j))
+    vector::distance(points::point_at(points, i), points::point_at(points, j))
 }
 
 // Whether points i and j are not farther apart than twice the radius.

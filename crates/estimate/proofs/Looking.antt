@@ -11,8 +11,8 @@ use lib.Seq.{drop-cons}
 use lib.Ieee.{Float, inf, lt, le}
 use Rattle.numbers.specs.Root.{root}
 use Rattle.numbers.proofs.OrderLaws.{unsigned-number, le-top}
-use Rattle.triangle.specs.declared.Point3f.{Point3f}
-use Rattle.triangle.specs.Vector.{squared, distance}
+use Rattle.vector.specs.declared.Point3f.{Point3f}
+use Rattle.vector.specs.Vector.{squared, distance}
 use Rattle.points.specs.Points.{pointAt, upFrom}
 use Rattle.sorting.proofs.Insertion.{part-length, part-at}
 use Rattle.patch.specs.Count.{count}

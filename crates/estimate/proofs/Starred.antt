@@ -5,7 +5,7 @@ use lib.Count.{trailingZeros}
 use lib.Ieee.{Float, ofBits, ofFields, ofInt, odd, size, span, climb, units, round, neg, sum, add, sub, mul, lt, eq, le, toUnsigned}
 use Rattle.numbers.specs.Rounded.{f32}
 use Rattle.numbers.specs.Root.{isqrt, nearestRoot, rootOfUnits, root}
-use Rattle.triangle.specs.Vector.{difference, magnitudeSquared, magnitude, squared, distance}
+use Rattle.vector.specs.Vector.{difference, magnitudeSquared, magnitude, squared, distance}
 use Rattle.points.specs.Points.{pointAt}
 use Rattle.sorting.specs.Insertion.{insertBefore}
 use Rattle.sorting.specs.Sorted.{insertAll, percentileOf}

@@ -7,7 +7,7 @@ use lib.Dec.{eqb}
 use lib.ListN.{length, replicate}
 use lib.Ieee.{Float, inf, lt}
 use Rattle.numbers.specs.Rounded.{f32, _⊗_}
-use Rattle.triangle.specs.Vector.{distance}
+use Rattle.vector.specs.Vector.{distance}
 use Rattle.points.specs.Points.{pointAt, stepsFrom}
 use Rattle.sorting.specs.Sorted.{sorted, percentileOf}
 use Rattle.domain.specs.Refusals.{estimateRefusal}

@@ -6,7 +6,7 @@ use mathlib.Core.List.{List, [], _∷_}
 use lib.Dec.{T, eqb}
 use lib.Ieee.{Float, inf, lt, le}
 use Rattle.numbers.specs.Root.{root}
-use Rattle.triangle.specs.Vector.{squared}
+use Rattle.vector.specs.Vector.{squared}
 use Rattle.points.specs.Points.{pointAt}
 use Rattle.spatial_hash.specs.declared.Hash.{Hash}
 use Rattle.spatial_hash.specs.Near.{Hashed}

@@ -25,7 +25,7 @@ fn lesser(points: &[f32], i: usize, j: usize, s: f32) -> f32
     if i == j {
         return s;
     }
-    let e = triangle::distance_squared(points::point_at(points, j), points::point_at(points, i));
+    let e = vector::distance_squared(points::point_at(points, j), points::point_at(points, i));
     if e < s { e } else { s }
 }
 
@@ -95,7 +95,7 @@ pub fn guess_spacing(points: &[f32], n: usize) -> f32
     while i < n {
         far = numbers::max(
             far,
-            triangle::distance_squared(points::point_at(points, i), points::point_at(points, 0)),
+            vector::distance_squared(points::point_at(points, i), points::point_at(points, 0)),
         );
         i += 1;
     }

@@ -5,7 +5,7 @@ ghost use Rattle.numbers.specs.Root.{root};
 ghost use Rattle.numbers.specs.Order.{minimum, maximum, clamp};
 ghost use Rattle.numbers.specs.Cut.{cut, ceil};
 ghost use Rattle.numbers.specs.Acos.{acos};
-ghost use Rattle.triangle.specs.Vector.{point};
+ghost use Rattle.vector.specs.Vector.{point};
 ghost use Rattle.triangle.specs.Quality.{circumradius, quality, acceptable};
 ghost use Rattle.estimate.specs.Estimate.{Estimated};
 ghost use Rattle.cloud.specs.Answers.{Answered, outcome};
@@ -80,9 +80,9 @@ pub extern "C" fn yb_compute_circumradius(
     ensures { λ r. ⌜ r ≡ circumradius (point x1 y1 z1) (point x2 y2 z2) (point x3 y3 z3) ⌝ }
 {
     triangle::compute_circumradius(
-        triangle::point(x1, y1, z1),
-        triangle::point(x2, y2, z2),
-        triangle::point(x3, y3, z3),
+        vector::point(x1, y1, z1),
+        vector::point(x2, y2, z2),
+        vector::point(x3, y3, z3),
     )
 }
 
@@ -101,9 +101,9 @@ pub extern "C" fn yb_compute_triangle_quality(
     ensures { λ r. ⌜ r ≡ quality (point x1 y1 z1) (point x2 y2 z2) (point x3 y3 z3) ⌝ }
 {
     triangle::compute_triangle_quality(
-        triangle::point(x1, y1, z1),
-        triangle::point(x2, y2, z2),
-        triangle::point(x3, y3, z3),
+        vector::point(x1, y1, z1),
+        vector::point(x2, y2, z2),
+        vector::point(x3, y3, z3),
     )
 }
 

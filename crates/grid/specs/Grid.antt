@@ -8,7 +8,7 @@ use lib.Ieee.{Float, nan, inf}
 use Rattle.numbers.specs.Rounded.{_⊖_, _⊘_}
 use Rattle.numbers.specs.Order.{minimum}
 use Rattle.numbers.specs.Cut.{cut, ceil}
-use Rattle.triangle.specs.declared.Point3f.{Point3f}
+use Rattle.vector.specs.declared.Point3f.{Point3f}
 use Rattle.points.specs.Points.{pointAt, upFrom}
 use Rattle.sorting.specs.Insertion.{insertBefore}
 use Rattle.grid.specs.declared.SpatialGrid.{SpatialGrid}

@@ -7,9 +7,9 @@ use mathlib.Core.List.{List, [], _∷_, _++_}
 use lib.ListN.{length, take}
 use lib.Ieee.{Float, le, lt}
 use Rattle.numbers.specs.Rounded.{f32, _⊗_}
-use Rattle.triangle.specs.Vector.{difference, magnitude, cross, distance}
+use Rattle.vector.specs.Vector.{difference, magnitude, cross, distance}
 use Rattle.triangle.specs.Quality.{circumradius}
-use Rattle.triangle.specs.declared.Point3f.{Point3f}
+use Rattle.vector.specs.declared.Point3f.{Point3f}
 use Rattle.points.specs.Points.{pointAt, upFrom}
 use Rattle.patch.specs.Lay.{Face, face}
 

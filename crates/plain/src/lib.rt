@@ -1,12 +1,12 @@
 // The plain path: faces among near points, where there are no radii to pivot at.
-use triangle::Point3f;
+use vector::Point3f;
 ghost use mathlib.Core.Path.{_≡_};
 ghost use mathlib.Core.Bool.{cond, _&&_};
 ghost use mathlib.Core.List.{[], _∷_};
 ghost use Prim.Native.Nat.{_-_, _+_, _*_, _/_, _≤_, _<_};
 ghost use lib.ListN.{length};
 ghost use Rattle.points.specs.Points.{pointAt, upFrom};
-ghost use Rattle.triangle.specs.Vector.{difference, cross, magnitude};
+ghost use Rattle.vector.specs.Vector.{difference, cross, magnitude};
 ghost use Rattle.patch.specs.Lay.{face};
 ghost use Rattle.patch.specs.View.{written};
 ghost use Rattle.plain.specs.Plain.{candidate, candidates, sound, valid, facesOver, facesAt, plainFaces};
@@ -21,16 +21,16 @@ fn is_candidate(points: &[f32], radius: f32, i: usize, j: usize) -> bool
 {
     let p = points::point_at(points, i);
     let q = points::point_at(points, j);
-    triangle::distance(p, q) <= radius * 2.0
+    vector::distance(p, q) <= radius * 2.0
 }
 
 // The length of the cross product of two edges.
 fn normal_length(p1: Point3f, p2: Point3f, p3: Point3f) -> f32
     ensures { λ r. ⌜ r ≡ magnitude (cross (difference p2 p1) (difference p3 p1)) ⌝ }
 {
-    let v1 = triangle::difference(p2, p1);
-    let v2 = triangle::difference(p3, p1);
-    triangle::magnitude(triangle::cross(v1, v2))
+    let v1 = vector::difference(p2, p1);
+    let v2 = vector::difference(p3, p1);
+    vector::magnitude(vector::cross(v1, v2))
 }
 
 // Whether a triangle is neither too thin nor too wide.

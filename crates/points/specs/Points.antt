@@ -3,7 +3,7 @@ use Prim.Native.Nat.{ℕ, zero, suc, _+_, _-_, _*_, _/_}
 use mathlib.Core.List.{List, [], _∷_}
 use lib.ListN.{getD}
 use lib.Ieee.{Float, nan}
-use Rattle.triangle.specs.declared.Point3f.{Point3f}
+use Rattle.vector.specs.declared.Point3f.{Point3f}
 
 -- point number i, from 0
 unfoldable pub pointAt : List Float → ℕ → Point3f

@@ -1,5 +1,5 @@
 // A cloud's points in a slice of coordinates, three to a point.
-use triangle::Point3f;
+use vector::Point3f;
 ghost use mathlib.Core.Path.{_≡_};
 ghost use Prim.Native.Nat.{_+_, _*_, _<_};
 ghost use lib.ListN.{length};

@@ -14,8 +14,8 @@ use lib.Ieee.Bits.{is-true}
 use Rattle.numbers.specs.Rounded.{f32, _⊗_}
 use Rattle.numbers.specs.Root.{root}
 use Rattle.numbers.proofs.OrderLaws.{le-refl, le-trans, le-right, le-top, lt-le, le-not-lt, not-le-lt}
-use Rattle.triangle.specs.declared.Point3f.{Point3f}
-use Rattle.triangle.specs.Vector.{squared}
+use Rattle.vector.specs.declared.Point3f.{Point3f}
+use Rattle.vector.specs.Vector.{squared}
 use Rattle.points.specs.Points.{pointAt, upFrom}
 use Rattle.sorting.specs.Sorted.{sorted}
 use Rattle.domain.specs.declared.BallPivotingConfig.{BallPivotingConfig}

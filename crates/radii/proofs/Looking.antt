@@ -10,8 +10,8 @@ use lib.Seq.{drop-cons, take-set-le, drop-set-lt, drop-set-add, take-suc, take-s
 use lib.Ieee.{Float, nan}
 use Rattle.numbers.specs.Rounded.{_⊕_}
 use Rattle.numbers.specs.Root.{root}
-use Rattle.triangle.specs.declared.Point3f.{Point3f}
-use Rattle.triangle.specs.Vector.{squared}
+use Rattle.vector.specs.declared.Point3f.{Point3f}
+use Rattle.vector.specs.Vector.{squared}
 use Rattle.points.specs.Points.{pointAt}
 use Rattle.sorting.specs.Sorted.{insert, insertAll}
 use Rattle.sorting.proofs.Insertion.{part-length, part-at}

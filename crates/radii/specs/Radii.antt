@@ -6,7 +6,7 @@ use lib.Dec.{eqb}
 use lib.ListN.{length, take, getD}
 use lib.Ieee.{Float, lt}
 use Rattle.numbers.specs.Rounded.{f32, _⊕_, _⊖_, _⊗_, _⊘_}
-use Rattle.triangle.specs.Vector.{distance}
+use Rattle.vector.specs.Vector.{distance}
 use Rattle.points.specs.Points.{pointAt, stepsFrom}
 use Rattle.sorting.specs.Sorted.{sorted, whole, percentileOf}
 use Rattle.domain.specs.declared.BallPivotingConfig.{BallPivotingConfig}

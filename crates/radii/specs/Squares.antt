@@ -7,8 +7,8 @@ use lib.Dec.{T, eqb, ltb}
 use lib.ListN.{length, take, drop, getD}
 use lib.Ieee.{Float, nan, inf, le}
 use Rattle.numbers.specs.Rounded.{f32, _⊗_}
-use Rattle.triangle.specs.declared.Point3f.{Point3f}
-use Rattle.triangle.specs.Vector.{squared}
+use Rattle.vector.specs.declared.Point3f.{Point3f}
+use Rattle.vector.specs.Vector.{squared}
 use Rattle.points.specs.Points.{pointAt, upFrom}
 use Rattle.sorting.specs.Sorted.{insert, sorted}
 use Rattle.domain.specs.declared.BallPivotingConfig.{BallPivotingConfig}

@@ -4,7 +4,7 @@ use crate::Around;
 use domain::BallPivotingConfig;
 use grid::SpatialGrid;
 use spatial_hash::Hash;
-use triangle::Point3f;
+use vector::Point3f;
 ghost use mathlib.Core.Path.{_≡_};
 ghost use mathlib.Core.Bool.{not, _&&_};
 ghost use mathlib.Core.List.{map};
@@ -62,7 +62,7 @@ fn look_at(
     if is_other(w, n, around, i, j) {
         let p = points::point_at(points, j);
         let q = points::point_at(points, i);
-        let s = triangle::distance_squared(p, q);
+        let s = vector::distance_squared(p, q);
         return sorting::insert_least(f, n, kept, 10, s);
     }
     kept

@@ -3,8 +3,8 @@ use super::bits;
 use super::estimates;
 use super::patches;
 ghost use Prim.Native.Nat.{_<_};
-use triangle::Point3f;
 use triangle::TriangleQuality;
+use vector::Point3f;
 
 pub enum Verdict {
     Equal,

@@ -10,9 +10,9 @@ use lib.Dec.{T, eqb}
 use lib.Ieee.{Float, lt, le}
 use lib.Ieee.Bits.{is-true}
 use Rattle.numbers.proofs.OrderLaws.{le-not-lt}
-use Rattle.triangle.specs.Vector.{squared, distance}
-use Rattle.triangle.specs.declared.Point3f.{Point3f}
-use Rattle.triangle.proofs.Distances.{FinitePoint, squared-fits, distance-is, distance-swap}
+use Rattle.vector.specs.Vector.{squared, distance}
+use Rattle.vector.specs.declared.Point3f.{Point3f}
+use Rattle.vector.proofs.Distances.{FinitePoint, squared-fits, distance-is, distance-swap}
 use Rattle.points.specs.Points.{pointAt}
 use Rattle.spatial_hash.specs.Near.{Finite, Limit}
 use Rattle.grid.specs.Index.{Below}

@@ -10,8 +10,8 @@ use lib.Dec.{eqb}
 use lib.Ieee.{Float, lt}
 use lib.Ieee.Bits.{is-true}
 use borrow.Author.Tests.{not-true}
-use Rattle.triangle.specs.Vector.{squared}
-use Rattle.triangle.specs.declared.Point3f.{Point3f}
+use Rattle.vector.specs.Vector.{squared}
+use Rattle.vector.specs.declared.Point3f.{Point3f}
 use Rattle.points.specs.Points.{pointAt}
 use Rattle.sorting.specs.Insertion.{insertBefore, Written}
 use Rattle.sorting.proofs.Insertion.{part-length, part-at}

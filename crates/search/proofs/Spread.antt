@@ -9,10 +9,10 @@ use lib.ListN.{length, take, drop, getD}
 use lib.Ieee.{Float}
 use borrow.Author.Tests.{eqb-true}
 use Rattle.numbers.specs.Rounded.{f32}
-use Rattle.triangle.specs.Vector.{point, difference}
+use Rattle.vector.specs.Vector.{point, difference}
 use Rattle.area_bounds.specs.AreaBound.{widen}
-use Rattle.triangle.specs.declared.Point3f.{Point3f}
-use Rattle.triangle.proofs.Distances.{FinitePoint}
+use Rattle.vector.specs.declared.Point3f.{Point3f}
+use Rattle.vector.proofs.Distances.{FinitePoint}
 use Rattle.area_bounds.proofs.AreaBound.{Bounds, Unsigned, widen-unsigned, widen-keeps, widen-bounds, zero-unsigned}
 use Rattle.points.specs.Points.{pointAt}
 use Rattle.patch.specs.Count.{bit, count}

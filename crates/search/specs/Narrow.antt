@@ -5,8 +5,8 @@ use mathlib.Core.Bool.{Bool, false, cond, not, _&&_, _||_}
 use mathlib.Core.List.{List, [], _∷_}
 use lib.Dec.{eqb}
 use lib.Ieee.{Float, lt}
-use Rattle.triangle.specs.Vector.{squared}
-use Rattle.triangle.specs.declared.Point3f.{Point3f}
+use Rattle.vector.specs.Vector.{squared}
+use Rattle.vector.specs.declared.Point3f.{Point3f}
 use Rattle.points.specs.Points.{pointAt}
 use Rattle.sorting.specs.Insertion.{insertBefore}
 use Rattle.grid.specs.declared.SpatialGrid.{SpatialGrid}

@@ -6,9 +6,9 @@ use mathlib.Core.List.{List, [], _∷_}
 use lib.Dec.{eqb}
 use lib.Ieee.{Float, lt}
 use Rattle.numbers.specs.Rounded.{f32}
-use Rattle.triangle.specs.Vector.{point, difference}
+use Rattle.vector.specs.Vector.{point, difference}
 use Rattle.area_bounds.specs.AreaBound.{widen, areaBound, AreaLimit}
-use Rattle.triangle.specs.declared.Point3f.{Point3f}
+use Rattle.vector.specs.declared.Point3f.{Point3f}
 use Rattle.points.specs.Points.{pointAt}
 use Rattle.spatial_hash.specs.Near.{Finite}
 use Rattle.patch.specs.Count.{count}

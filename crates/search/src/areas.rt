@@ -1,11 +1,11 @@
 // What is too small for a seed: points in too small a spread, and lists of points all triangles of which are small.
 use decisions::Scene;
-use triangle::Point3f;
+use vector::Point3f;
 ghost use mathlib.Core.Path.{_≡_};
 ghost use mathlib.Core.List.{[], _∷_};
 ghost use Prim.Native.Nat.{_*_, _<_, _≤_, _+_};
 ghost use lib.ListN.{length, drop};
-ghost use Rattle.triangle.specs.Vector.{difference};
+ghost use Rattle.vector.specs.Vector.{difference};
 ghost use Rattle.area_bounds.specs.AreaBound.{widen};
 ghost use Rattle.points.specs.Points.{pointAt};
 ghost use Rattle.search.specs.Ready.{Held, Listed, listed};
@@ -16,7 +16,7 @@ fn widened(points: &[f32], center: Point3f, v: Point3f, k: usize) -> Point3f
     requires { ⌜ 3 * k + 2 < length (now points) ⌝ }
     ensures { λ r. ⌜ r ≡ widen v (difference (pointAt (now (points .entry)) k) center) ⌝ }
 {
-    area_bounds::widen(v, triangle::difference(points::point_at(points, k), center))
+    area_bounds::widen(v, vector::difference(points::point_at(points, k), center))
 }
 
 // How far the listed points spread around point i.
@@ -26,7 +26,7 @@ pub fn spread(s: Scene, points: &[f32], w: &[u32], count: usize, i: usize) -> Po
 {
     let at = 4 * s.n;
     let center = points::point_at(points, i);
-    let mut v = triangle::point(0.0, 0.0, 0.0);
+    let mut v = vector::point(0.0, 0.0, 0.0);
     let mut m: usize = 0;
     while m < count {
         let k = w[at + m] as usize;
@@ -49,7 +49,7 @@ pub fn is_too_near(s: Scene, points: &[f32], i: usize, j: usize, wide: Point3f) 
     ensures { λ r. ⌜ r ≡ tooSmall s (spread (now (points .entry)) (pointAt (now (points .entry)) i) (j ∷ [])) wide ⌝ }
 {
     let center = points::point_at(points, i);
-    let own = widened(points, center, triangle::point(0.0, 0.0, 0.0), j);
+    let own = widened(points, center, vector::point(0.0, 0.0, 0.0), j);
     is_too_small(s, own, wide)
 }
 

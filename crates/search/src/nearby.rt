@@ -2,7 +2,7 @@
 use decisions::Scene;
 use grid::Cell;
 use spatial_hash::Hash;
-use triangle::Point3f;
+use vector::Point3f;
 ghost use mathlib.Core.Path.{_≡_};
 ghost use Prim.Native.Nat.{_<_};
 ghost use Rattle.grid.specs.Index.{Cells};
@@ -26,7 +26,7 @@ fn passes(s: Scene, points: &[f32], w: &[u32], f: Filter, k: usize) -> bool
     if !crate::is_unused(s, w, k) {
         return false;
     }
-    if triangle::distance_squared(points::point_at(points, k), f.center) > f.limit {
+    if vector::distance_squared(points::point_at(points, k), f.center) > f.limit {
         return false;
     }
     grid::search::is_near(w, s.n, s.indexed, f.range, f.cell, k)

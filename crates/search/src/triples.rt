@@ -3,7 +3,7 @@ use crate::Seed;
 use crate::nearby::Filter;
 use decisions::Scene;
 use spatial_hash::Hash;
-use triangle::Point3f;
+use vector::Point3f;
 ghost use mathlib.Core.Path.{_≡_};
 ghost use Prim.Native.Nat.{_*_, _<_, _+_};
 ghost use Rattle.area_bounds.specs.AreaBound.{AreaLimit};

@@ -11,9 +11,9 @@ use Rattle.numbers.specs.Root.{root}
 use Rattle.numbers.proofs.OrderLaws.{lt-le, lt-le-trans, not-le-lt, bottom-le, le-top, top-le, finite-number}
 use Rattle.numbers.proofs.ProductOrder.{square-beyond}
 use Rattle.numbers.proofs.RootMonotone.{root-monotone}
-use Rattle.triangle.specs.Vector.{squared}
-use Rattle.triangle.specs.declared.Point3f.{Point3f}
-use Rattle.triangle.proofs.Distances.{FinitePoint, squared-x, squared-y, squared-z}
+use Rattle.vector.specs.Vector.{squared}
+use Rattle.vector.specs.declared.Point3f.{Point3f}
+use Rattle.vector.proofs.Distances.{FinitePoint, squared-x, squared-y, squared-z}
 use Rattle.spatial_hash.specs.declared.Interval.{Interval}
 use Rattle.spatial_hash.specs.Cover.{between, isCovering, CoversOn}
 use Rattle.spatial_hash.specs.Near.{Finite, within, Limit, Covers}

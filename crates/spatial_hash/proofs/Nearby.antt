@@ -11,8 +11,8 @@ use lib.ListN.{length, take, drop, getD, length-drop}
 use lib.Seq.{getD-take, getD-drop, length-take-le}
 use lib.Ieee.{Float, le}
 use Rattle.numbers.proofs.OrderLaws.{le-not-lt}
-use Rattle.triangle.specs.declared.Point3f.{Point3f}
-use Rattle.triangle.specs.Vector.{squared}
+use Rattle.vector.specs.declared.Point3f.{Point3f}
+use Rattle.vector.specs.Vector.{squared}
 use Rattle.points.specs.Points.{pointAt, upFrom}
 use Rattle.patch.specs.Count.{count, bit}
 use Rattle.patch.specs.Search.{Below}

@@ -9,9 +9,9 @@ use lib.Ieee.Exact.{HasValue}
 use Rattle.numbers.specs.Root.{root}
 use Rattle.numbers.proofs.OrderLaws.{unsigned}
 use Rattle.numbers.proofs.RootNearest.{root-nearest}
-use Rattle.triangle.specs.declared.Point3f.{Point3f}
-use Rattle.triangle.specs.Vector.{squared, distance}
-use Rattle.triangle.proofs.Distances.{FinitePoint, squared-fits, squared-unsigned, squared-swap, distance-is}
+use Rattle.vector.specs.declared.Point3f.{Point3f}
+use Rattle.vector.specs.Vector.{squared, distance}
+use Rattle.vector.proofs.Distances.{FinitePoint, squared-fits, squared-unsigned, squared-swap, distance-is}
 use Rattle.spatial_hash.specs.Near.{Finite}
 
 abbrev pub Good : Float → Type 0

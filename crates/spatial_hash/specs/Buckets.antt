@@ -8,7 +8,7 @@ use lib.ListN.{length, take, drop, getD}
 use lib.Ieee.{Float}
 use Rattle.numbers.specs.Rounded.{_⊖_, _⊗_}
 use Rattle.numbers.specs.Cut.{cut}
-use Rattle.triangle.specs.declared.Point3f.{Point3f}
+use Rattle.vector.specs.declared.Point3f.{Point3f}
 use Rattle.points.specs.Points.{pointAt}
 use Rattle.regions.specs.Regions.{neighborsAt, usedAt, linksAt, headsAt}
 use Rattle.patch.specs.Count.{count}

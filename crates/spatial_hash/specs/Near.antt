@@ -9,8 +9,8 @@ use lib.Ieee.{Float, binary32, lt, fits}
 use lib.Ieee.Scale.{finite}
 use Rattle.numbers.specs.Rounded.{f32}
 use Rattle.numbers.specs.Root.{root}
-unfoldable pub use Rattle.triangle.specs.Vector.{squared}
-use Rattle.triangle.specs.declared.Point3f.{Point3f}
+unfoldable pub use Rattle.vector.specs.Vector.{squared}
+use Rattle.vector.specs.declared.Point3f.{Point3f}
 use Rattle.points.specs.Points.{pointAt}
 use Rattle.regions.specs.Regions.{neighborsAt, usedAt, linksAt, headsAt}
 use Rattle.patch.specs.Count.{count}

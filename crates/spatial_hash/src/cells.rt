@@ -1,7 +1,7 @@
 // From coordinates to cells, and from cells to buckets.
 use crate::Hash;
 use crate::Span;
-use triangle::Point3f;
+use vector::Point3f;
 ghost use mathlib.Core.Path.{_≡_};
 ghost use Prim.Native.Nat.{_+_, _*_, _%_, _≤_, _<_};
 ghost use lib.Dec.{T};

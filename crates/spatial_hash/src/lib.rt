@@ -5,7 +5,7 @@ mod cover;
 mod links;
 mod walk;
 
-use triangle::Point3f;
+use vector::Point3f;
 ghost use Prim.Native.Nat.{_*_, _≤_};
 ghost use Rattle.spatial_hash.specs.Near.{Finite, Limit, Covers, Ready, Hashed, Gathered, Built};
 

@@ -1,7 +1,7 @@
 // Chaining the points into buckets. A bucket's word and a point's have the number of the next point plus 1, or 0.
 use super::cells;
 use crate::Hash;
-use triangle::Point3f;
+use vector::Point3f;
 ghost use mathlib.Core.Path.{_≡_};
 ghost use Prim.Native.Nat.{ℕ, _+_, _*_, _≤_, _<_};
 ghost use Rattle.points.specs.Points.{pointAt};

@@ -12,13 +12,13 @@ use Rattle.numbers.proofs.OrderLaws.{le-left, le-right, lt-le, le-trans, le-not
 use Rattle.numbers.proofs.SumOrder.{add-number, add-monotone-left}
 use Rattle.numbers.proofs.QuotientOrder.{div-number-back, div-monotone}
 use Rattle.numbers.proofs.Minimum.{minimum-le}
-use Rattle.triangle.specs.Vector.{distance}
+use Rattle.vector.specs.Vector.{distance}
 use Rattle.triangle.specs.Quality.{area, radiusOf, circumradius, score, measures, degenerate, quality}
 use Rattle.triangle.specs.Bound.{shape, flat, shapeOf, scoreBound, qualityOf}
-use Rattle.triangle.specs.declared.Point3f.{Point3f}
+use Rattle.vector.specs.declared.Point3f.{Point3f}
 use Rattle.triangle.specs.declared.Shape.{Shape}
 use Rattle.triangle.specs.declared.TriangleQuality.{TriangleQuality}
-use Rattle.triangle.proofs.Distances.{distance-turned}
+use Rattle.vector.proofs.Distances.{distance-turned}
 
 -- ---- from the lengths and the area
 

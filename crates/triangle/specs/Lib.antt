@@ -1,4 +1,3 @@
 -- What the crate's contracts cite, leaves first.
-pub mod Vector
 pub mod Quality
 pub mod Bound

@@ -5,8 +5,8 @@ use Rattle.numbers.specs.Rounded.{f32, _⊕_, _⊖_, _⊗_, _⊘_}
 use Rattle.numbers.specs.Root.{root}
 use Rattle.numbers.specs.Order.{minimum, maximum, clamp}
 use Rattle.numbers.specs.Acos.{acos}
-use Rattle.triangle.specs.Vector.{difference, magnitude, cross, distance}
-use Rattle.triangle.specs.declared.Point3f.{Point3f}
+use Rattle.vector.specs.Vector.{difference, magnitude, cross, distance}
+use Rattle.vector.specs.declared.Point3f.{Point3f}
 use Rattle.triangle.specs.declared.TriangleQuality.{TriangleQuality}
 
 abbrev pub half : Float

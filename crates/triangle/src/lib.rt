@@ -1,18 +1,10 @@
 // A triangle of three points in space: its circumradius, its quality, and whether that is acceptable.
 mod measure;
 
+use vector::Point3f;
 ghost use mathlib.Core.Path.{_≡_};
-ghost use Rattle.triangle.specs.Vector.{point, difference, magnitudeSquared, magnitude, cross, squared, distance};
 ghost use Rattle.triangle.specs.Quality.{area, circumradius, quality, acceptable};
 ghost use Rattle.triangle.specs.Bound.{shapeOf, scoreBound, qualityOf};
-
-// A point, or the vector between two.
-#[repr(C)]
-pub struct Point3f {
-    pub x: f32,
-    pub y: f32,
-    pub z: f32,
-}
 
 // Quality metrics for triangle evaluation.
 #[repr(C)]
@@ -32,65 +24,10 @@ pub struct Shape {
     pub edge_ratio: f32,
 }
 
-// The point (x, y, z).
-pub fn point(x: f32, y: f32, z: f32) -> Point3f
-    ensures { λ r. ⌜ r ≡ point x y z ⌝ }
-{
-    Point3f { x, y, z }
-}
-
-// p - q
-pub fn difference(p: Point3f, q: Point3f) -> Point3f
-    ensures { λ r. ⌜ r ≡ difference p q ⌝ }
-{
-    Point3f {
-        x: p.x - q.x,
-        y: p.y - q.y,
-        z: p.z - q.z,
-    }
-}
-
-// The length of v, squared.
-pub fn magnitude_squared(v: Point3f) -> f32
-    ensures { λ r. ⌜ r ≡ magnitudeSquared v ⌝ }
-{
-    (v.x * v.x + v.y * v.y) + v.z * v.z
-}
-
-pub fn magnitude(v: Point3f) -> f32
-    ensures { λ r. ⌜ r ≡ magnitude v ⌝ }
-{
-    numbers::sqrt(magnitude_squared(v))
-}
-
-pub fn cross(v: Point3f, w: Point3f) -> Point3f
-    ensures { λ r. ⌜ r ≡ cross v w ⌝ }
-{
-    Point3f {
-        x: v.y * w.z - v.z * w.y,
-        y: v.z * w.x - v.x * w.z,
-        z: v.x * w.y - v.y * w.x,
-    }
-}
-
-// The length of p - q, squared.
-pub fn distance_squared(p: Point3f, q: Point3f) -> f32
-    ensures { λ r. ⌜ r ≡ squared p q ⌝ }
-{
-    magnitude_squared(difference(p, q))
-}
-
-// The length of p - q.
-pub fn distance(p: Point3f, q: Point3f) -> f32
-    ensures { λ r. ⌜ r ≡ distance p q ⌝ }
-{
-    numbers::sqrt(distance_squared(p, q))
-}
-
 pub fn area_of(p1: Point3f, p2: Point3f, p3: Point3f) -> f32
     ensures { λ r. ⌜ r ≡ area p1 p2 p3 ⌝ }
 {
-    magnitude(cross(difference(p2, p1), difference(p3, p1))) * 0.5
+    vector::magnitude(vector::cross(vector::difference(p2, p1), vector::difference(p3, p1))) * 0.5
 }
 
 pub fn compute_circumradius(p1: Point3f, p2: Point3f, p3: Point3f) -> f32
@@ -100,7 +37,12 @@ pub fn compute_circumradius(p1: Point3f, p2: Point3f, p3: Point3f) -> f32
     if area < 1e-10 {
         return 1.0 / 0.0;
     }
-    measure::radius_of(distance(p2, p1), distance(p3, p2), distance(p1, p3), area)
+    measure::radius_of(
+        vector::distance(p2, p1),
+        vector::distance(p3, p2),
+        vector::distance(p1, p3),
+        area,
+    )
 }
 
 // The shape of a triangle, from the lengths of its edges and its area.
@@ -135,9 +77,9 @@ pub fn quality_of(a: f32, b: f32, c: f32, shape: Shape) -> TriangleQuality
 pub fn compute_triangle_quality(p1: Point3f, p2: Point3f, p3: Point3f) -> TriangleQuality
     ensures { λ r. ⌜ r ≡ quality p1 p2 p3 ⌝ }
 {
-    let a = distance(p2, p1);
-    let b = distance(p3, p2);
-    let c = distance(p1, p3);
+    let a = vector::distance(p2, p1);
+    let b = vector::distance(p3, p2);
+    let c = vector::distance(p1, p3);
     quality_of(a, b, c, shape_of(a, b, c, area_of(p1, p2, p3)))
 }
 

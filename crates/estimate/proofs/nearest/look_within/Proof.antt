@@ -1,6 +1,6 @@
 -- The points gathered within bounds that cover the limit decide. Assumes nothing.
 use mathlib.Core.Path.{sym, subst}
-use Rattle.triangle.specs.declared.Point3f.{Point3f}
+use Rattle.vector.specs.declared.Point3f.{Point3f}
 use Rattle.spatial_hash.specs.Near.{Finite}
 use Rattle.estimate.proofs.Looking.{looked}
 use borrow.Author.Needs.{needs}

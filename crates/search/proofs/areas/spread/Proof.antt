@@ -3,7 +3,7 @@ use Prim.Native.Nat.{_-_}
 use mathlib.Core.Path.{ap, _∙_}
 use native.Mathlib.Omega.{arith}
 use borrow.Author.Needs.{needs}
-use Rattle.triangle.specs.declared.Point3f.{Point3f}
+use Rattle.vector.specs.declared.Point3f.{Point3f}
 use Rattle.search.specs.Ready.{listed}
 use Rattle.search.specs.Spread.{spread}
 use Rattle.search.proofs.Spread.{Spreading, spread-start, spread-on, spread-end}

@@ -4,8 +4,8 @@ use mathlib.Core.Bool.{not, _||_}
 use lib.Ieee.{lt}
 use borrow.Author.Needs.{needs}
 use borrow.Author.Tests.{not-true, not-false}
-use Rattle.triangle.specs.declared.Point3f.{Point3f}
-use Rattle.triangle.specs.Vector.{squared}
+use Rattle.vector.specs.declared.Point3f.{Point3f}
+use Rattle.vector.specs.Vector.{squared}
 use Rattle.grid.specs.declared.Cell.{Cell}
 use Rattle.grid.specs.Grid.{inRange}
 use Rattle.search.specs.Narrow.{passes, inReach, inCells}

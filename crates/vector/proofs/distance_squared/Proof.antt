@@ -1,8 +1,8 @@
 -- `distance_squared` meets its contract.
-use Rattle.triangle.specs.Vector.{squared}
+use Rattle.vector.specs.Vector.{squared}
 use borrow.Author.Needs.{needs}
-use Rattle.triangle.proofs.distance_squared.Statement.{statement}
-use Rattle.triangle.proofs.distance_squared.Tie as tie
+use Rattle.vector.proofs.distance_squared.Statement.{statement}
+use Rattle.vector.proofs.distance_squared.Tie as tie
 
 difference-requires : tie.Need-difference-requires
 difference-requires c κs = search needs

@@ -1,8 +1,8 @@
 -- `magnitude` meets its contract.
-use Rattle.triangle.specs.Vector.{magnitude}
+use Rattle.vector.specs.Vector.{magnitude}
 use borrow.Author.Needs.{needs}
-use Rattle.triangle.proofs.magnitude.Statement.{statement}
-use Rattle.triangle.proofs.magnitude.Tie as tie
+use Rattle.vector.proofs.magnitude.Statement.{statement}
+use Rattle.vector.proofs.magnitude.Tie as tie
 
 magnitude-squared-requires : tie.Need-magnitude-squared-requires
 magnitude-squared-requires c κs = search needs

@@ -1,7 +1,7 @@
 -- `difference` meets its contract.
-use Rattle.triangle.specs.Vector.{difference}
-use Rattle.triangle.proofs.difference.Statement.{statement}
-use Rattle.triangle.proofs.difference.Tie as tie
+use Rattle.vector.specs.Vector.{difference}
+use Rattle.vector.proofs.difference.Statement.{statement}
+use Rattle.vector.proofs.difference.Tie as tie
 
 returns : tie.Need-returns
 unfolding difference

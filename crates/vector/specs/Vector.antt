@@ -2,7 +2,7 @@
 use lib.Ieee.{Float}
 use Rattle.numbers.specs.Rounded.{_⊕_, _⊖_, _⊗_}
 use Rattle.numbers.specs.Root.{root}
-use Rattle.triangle.specs.declared.Point3f.{Point3f}
+use Rattle.vector.specs.declared.Point3f.{Point3f}
 
 abbrev pub point : Float → Float → Float → Point3f
 point x y z = record { x = x; y = y; z = z }

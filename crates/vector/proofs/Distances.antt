@@ -12,8 +12,8 @@ use Rattle.numbers.proofs.OrderLaws.{le-left, le-trans, lt-le-trans, unsigned, 
 use Rattle.numbers.proofs.RootMonotone.{root-monotone}
 use Rattle.numbers.proofs.SumOrder.{add-unsigned, add-above-left, add-above-right, add-number, sub-number}
 use Rattle.numbers.proofs.ProductOrder.{square-unsigned, square-turned}
-use Rattle.triangle.specs.Vector.{difference, magnitudeSquared, squared, distance}
-use Rattle.triangle.specs.declared.Point3f.{Point3f}
+use Rattle.vector.specs.Vector.{difference, magnitudeSquared, squared, distance}
+use Rattle.vector.specs.declared.Point3f.{Point3f}
 
 -- a point with finite coordinates
 pub record FinitePoint (p : Point3f) : Type 0 where

@@ -1,8 +1,8 @@
 -- `distance` meets its contract.
-use Rattle.triangle.specs.Vector.{distance}
+use Rattle.vector.specs.Vector.{distance}
 use borrow.Author.Needs.{needs}
-use Rattle.triangle.proofs.distance.Statement.{statement}
-use Rattle.triangle.proofs.distance.Tie as tie
+use Rattle.vector.proofs.distance.Statement.{statement}
+use Rattle.vector.proofs.distance.Tie as tie
 
 distance-squared-requires : tie.Need-distance-squared-requires
 distance-squared-requires c κs = search needs
