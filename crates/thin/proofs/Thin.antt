@@ -1,0 +1,181 @@
+-- The limit is one (`limit-is`, `no-limit`), and a triangle that passes the test is thin in each order of its lengths (`all-thin`). Assumes nothing.
+use mathlib.Core.Path.{_≡_, refl, ap, subst}
+use Prim.Native.Nat.{ℕ, _+_, _*_, _^_, _≤_, _<_}
+use native.Mathlib.Nat.{mul-pos, mul-le-mul-right, le-of-mul-le-mul-right, one-le-pow}
+use native.Mathlib.Omega.{arith}
+use native.Mathlib.Bridge.{IsLe, le-by-compare}
+use lib.Dec.{T}
+use lib.Pow.{pow-pos}
+use lib.Ieee.{Float, binary32, neg, le, fits, ofBits}
+use lib.Ieee.Fits.{and-l, and-r}
+use lib.Ieee.Order.{le-of-values}
+use lib.Ieee.Positive.{num, den, value→cross}
+use Rattle.numbers.specs.Rounded.{f32, _⊗_}
+use Rattle.triangle.specs.Quality.{one}
+use Rattle.thin.specs.Thin.{between, isPlain, spread, Quartered, ThinLimit, Thin, AllThin}
+use Rattle.thin.proofs.Near.{Near, near-eq, near-trans, near-mul, near-add, near-self, near-more, near-times, near-cancel}
+use Rattle.thin.proofs.Rounding.{Units}
+use Rattle.thin.proofs.Operations.{between-units, units-le, minimum-units, mul-units, add-units}
+use Rattle.thin.proofs.Squares.{test-near}
+use Rattle.thin.proofs.Aspect.{two-units, four-units, bound-units, times-below, Passed, passed-turned, passed-swapped, Edge, Cross, aspect-below}
+
+-- ---- the limit
+
+-- 1/4 - 2 ^ -18
+factor-units : Units (f32 0x3e7fff00) (65535 * 2 ^ 131) 146 147
+unfolding ofBits IsLe
+factor-units = record { value = (refl, refl); low = le-by-compare (2 ^ 146) (65535 * 2 ^ 131) tt; high = le-by-compare (65535 * 2 ^ 131) (2 ^ 147) tt }
+
+quarter : (w v p q t : ℕ) → 0 < w → v * 262144 ≡ 65535 * w → Near 1 (q * w) (p * p) → Near 1 (t * w) (q * v) → 524288 * t * w ≤ 131071 * (p * p)
+unfolding IsLe
+quarter w v p q t W e a b =
+    let c : Near 2 (t * w * w) (p * p * v) = near-trans (near-times w b) (near-eq (moved q w v) refl (near-times v a)) in
+    let d : Near 2 (t * w * 262144) (65535 * (p * p)) = near-cancel w W (near-eq (left t w) (right (p * p) v w e) (near-times 262144 c)) in
+    subst (λ (z : ℕ). z ≤ 131071 * (p * p)) (grouped t w) (margin (t * w) (p * p) (16777215 ^ 2) (16777216 ^ 2) (one-le-pow 2 16777215 (omega arith)) (le-by-compare (131070 * 16777216 ^ 2) (131071 * 16777215 ^ 2) tt) (d .near))
+  where
+    moved : (q w v : ℕ) → q * w * v ≡ q * v * w
+    moved q w v = omega arith
+
+    grouped : (t w : ℕ) → 524288 * (t * w) ≡ 524288 * t * w
+    grouped t w = omega arith
+
+    left : (t w : ℕ) → t * w * w * 262144 ≡ t * w * 262144 * w
+    left t w = omega arith
+
+    right : (s v w : ℕ) → v * 262144 ≡ 65535 * w → s * v * 262144 ≡ 65535 * s * w
+    right s v w e = let i = ap (λ (z : ℕ). s * z) e in omega arith
+
+    margin : (a s l u : ℕ) → 0 < l → 131070 * u ≤ 131071 * l → a * 262144 * l ≤ 65535 * s * u → 524288 * a ≤ 131071 * s
+    margin a s l u L m h =
+        let k : 131070 * u * s ≤ 131071 * l * s = mul-le-mul-right s m in
+        let i : 524288 * a * l ≤ 131071 * s * l = omega arith in
+        le-of-mul-le-mul-right i L
+
+limit-of : {α t : Float} {p q i j k l : ℕ} → Units α p i j → Units t q k l → 524288 * q * 2 ^ 149 ≤ 131071 * (p * p) → 2 ^ 19 * num t * (den α * den α) ≤ 131071 * (num α * num α) * den t
+limit-of {α} {t} {p} {q} u v s =
+    let w : ℕ = 2 ^ 149 in
+    crossed w (num α) (den α) (num t) (den t) (pow-pos 149) (value→cross α p w (u .value)) (value→cross t q w (v .value)) s
+  where
+    crossed : (w a d b e : ℕ) → 0 < w → a * w ≡ p * d → b * w ≡ q * e → 524288 * q * w ≤ 131071 * (p * p) → 524288 * b * (d * d) ≤ 131071 * (a * a) * e
+    crossed w a d b e W g h s =
+        let i : 524288 * q * w * (d * d * e) ≤ 131071 * (p * p) * (d * d * e) = mul-le-mul-right (d * d * e) s in
+        let j = ap (λ (z : ℕ). z * (d * d * w)) h in
+        let k = ap (λ (z : ℕ). z * (a * w) * e) g in
+        let l = ap (λ (z : ℕ). p * d * z * e) g in
+        let m : 524288 * b * (d * d) * (w * w) ≤ 131071 * (a * a) * e * (w * w) = omega arith in
+        le-of-mul-le-mul-right m (mul-pos W W)
+
+pub limit-is : (α : Float) → T (fits binary32 α) → T (between α (f32 0x3b000000) (f32 0x40800000)) → ThinLimit α (α ⊗ α ⊗ f32 0x3e7fff00)
+unfolding between
+limit-is α f h =
+    let w : ℕ = 2 ^ 149 in
+    let lo = and-l (le (f32 0x3b000000) α) (le α (f32 0x40800000)) h in
+    let hi = and-r (le (f32 0x3b000000) α) (le α (f32 0x40800000)) h in
+    let u = bound-units α f lo hi in
+    let q = mul-units 131 153 (u .1) (u .1) tt in
+    let t = mul-units 128 151 (q .is) factor-units tt in
+    record {
+      quartered =
+          λ _.
+          record {
+            held = f;
+            low = lo;
+            high = hi;
+            bounded = le-of-values (α ⊗ α ⊗ f32 0x3e7fff00) (f32 0x40800000) (t .n) w (2 ^ 151) w (pow-pos 149) (pow-pos 149) (t .is .value) (four-units .value) (mul-le-mul-right w (t .is .high));
+            short = limit-of (u .1) (t .is) (quarter w (65535 * 2 ^ 131) (u .0) (q .n) (t .n) (pow-pos 149) refl (q .below) (t .below));
+          };
+    }
+
+pub no-limit : (α : Float) → ThinLimit α (neg one)
+no-limit α = record { quartered = λ h. absurd (none h) }
+  where
+    none : T (le (f32 0x35800000) (neg one)) → ⊥
+    none h = unfold le neg ofBits in h
+
+-- ---- the test
+
+edge : (x : Float) → T (fits binary32 x) → T (between x (f32 0x32800000) (f32 0x4c800000)) → Edge x
+unfolding between ofBits
+edge x f h =
+    let u = between-units x (f32 0x32800000) (f32 0x4c800000) 123 175 f (refl, refl) (refl, refl) (and-l (le (f32 0x32800000) x) _ h) (and-r (le (f32 0x32800000) x) _ h) in
+    record { n = u .0; held = f; is = u .1 }
+
+cross : (x : Float) → T (fits binary32 x) → T (between x (f32 0x21800000) (f32 0x5d800000)) → Cross x
+unfolding between ofBits
+cross x f h =
+    let u = between-units x (f32 0x21800000) (f32 0x5d800000) 89 209 f (refl, refl) (refl, refl) (and-l (le (f32 0x21800000) x) _ h) (and-r (le (f32 0x21800000) x) _ h) in
+    record { n = u .0; held = f; is = u .1 }
+
+limit-units : (α t : Float) → T (fits binary32 t) → T (le (f32 0x35800000) t) → Quartered α t → (n : ℕ) × Units t n 129 151
+limit-units α t f l k = between-units t (f32 0x35800000) (f32 0x40800000) 129 151 f (unfold ofBits in (refl, refl)) (four-units .value) l (k .bounded)
+
+module _ (a b c x t : Float) (ea : Edge a) (eb : Edge b) (ec : Edge c) (ex : Cross x) where
+  test-passed : {q : ℕ} → Units t q 129 151 → T (le (x ⊗ x) (t ⊗ spread a b c ⊗ (a ⊗ b ⊗ c))) → Passed (ea .n) (eb .n) (ec .n) (ex .n) q
+  unfolding spread
+  test-passed {q} ut h =
+      let w : ℕ = 2 ^ 149 in
+      let W : 0 < w = pow-pos 149 in
+      let l = minimum-units (ea .is) (eb .is) in
+      let m = minimum-units (eb .is) (ec .is) in
+      let n = minimum-units (ec .is) (ea .is) in
+      let s1 = add-units 123 176 (ea .is) (eb .is) tt tt in
+      let s2 = add-units 123 177 (s1 .is) (ec .is) tt tt in
+      let d1 = add-units 123 176 (l .is) (m .is) tt tt in
+      let d2 = add-units 123 177 (d1 .is) (n .is) tt tt in
+      let d = mul-units 124 178 two-units (d2 .is) tt in
+      let s = add-units 123 179 (s2 .is) (d .is) tt tt in
+      let k = mul-units 103 181 ut (s .is) tt in
+      let p1 = mul-units 97 201 (ea .is) (eb .is) tt in
+      let p = mul-units 71 227 (p1 .is) (ec .is) tt in
+      let N = mul-units 25 259 (k .is) (p .is) tt in
+      let e = mul-units 29 269 (ex .is) (ex .is) tt in
+      let sums : Near 2 (s2 .n) (ea .n + eb .n + ec .n) = near-trans (s2 .below) (near-add (s1 .below) (near-self 1 (ec .n))) in
+      let twos : Near 3 (d .n) (2 * (l .k + m .k + n .k)) =
+      near-trans (times-below w (2 ^ 150) 2 (d .n) (d2 .n) W refl (d .below)) (near-mul (near-self 0 2) (near-trans (d2 .below) (near-add (d1 .below) (near-self 1 (n .k))))) in
+      record {
+        l = l .k;
+        m = m .k;
+        n = n .k;
+        l-first = l .first;
+        l-second = l .second;
+        m-first = m .first;
+        m-second = m .second;
+        n-first = n .first;
+        n-second = n .second;
+        near =
+            test-near w (ex .n) (e .n) (N .n) (k .n) (p .n) (p1 .n) q (s .n) (ea .n + eb .n + ec .n + 2 * (l .k + m .k + n .k)) (ea .n) (eb .n) (ec .n) (e .above) (units-le (e .is) (N .is) h) (N .below) (k .below) (p .below) (p1 .below)
+            (near-trans (s .below) (near-add (near-more 1 sums) twos));
+      }
+
+-- what the test says of every bound that the limit is for
+abbrev Passes : {a b c x : Float} (t : Float) → Edge a → Edge b → Edge c → Cross x → Type 0
+Passes t ea eb ec ex = (q : ℕ) → Units t q 129 151 → Passed (ea .n) (eb .n) (ec .n) (ex .n) q
+
+thin-of : (a b c x t : Float) (ea : Edge a) (eb : Edge b) (ec : Edge c) (ex : Cross x) → T (fits binary32 t) → T (le (f32 0x35800000) t) → Passes t ea eb ec ex → Thin t a b c x
+thin-of a b c x t ea eb ec ex f l h = record {
+  below =
+      λ α z.
+      let k = z .quartered l in
+      let u = limit-units α t f l k in
+      aspect-below a b c x t α ea eb ec ex (u .1) (h (u .0) (u .1)) k;
+}
+
+pub all-thin : (a b c x t : Float) → T (fits binary32 a) → T (fits binary32 b) → T (fits binary32 c) → T (fits binary32 x) → T (fits binary32 t) → T (le (f32 0x35800000) t) → T (isPlain a b c x)
+    → T (le (x ⊗ x) (t ⊗ spread a b c ⊗ (a ⊗ b ⊗ c))) → AllThin t a b c x
+unfolding isPlain
+all-thin a b c x t fa fb fc fx f l p h =
+    let p1 = and-r (between a (f32 0x32800000) (f32 0x4c800000)) _ p in
+    let p2 = and-r (between b (f32 0x32800000) (f32 0x4c800000)) _ p1 in
+    let ea = edge a fa (and-l (between a (f32 0x32800000) (f32 0x4c800000)) _ p) in
+    let eb = edge b fb (and-l (between b (f32 0x32800000) (f32 0x4c800000)) _ p1) in
+    let ec = edge c fc (and-l (between c (f32 0x32800000) (f32 0x4c800000)) _ p2) in
+    let ex = cross x fx (and-r (between c (f32 0x32800000) (f32 0x4c800000)) _ p2) in
+    let abc : Passes t ea eb ec ex = λ q u. test-passed a b c x t ea eb ec ex u h in
+    record {
+      abc = thin-of a b c x t ea eb ec ex f l abc;
+      acb = thin-of a c b x t ea ec eb ex f l (λ q u. passed-swapped (passed-turned (passed-turned (abc q u))));
+      bac = thin-of b a c x t eb ea ec ex f l (λ q u. passed-swapped (abc q u));
+      bca = thin-of b c a x t eb ec ea ex f l (λ q u. passed-turned (abc q u));
+      cab = thin-of c a b x t ec ea eb ex f l (λ q u. passed-turned (passed-turned (abc q u)));
+      cba = thin-of c b a x t ec eb ea ex f l (λ q u. passed-swapped (passed-turned (abc q u)));
+    }
