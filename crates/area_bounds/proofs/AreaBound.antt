@@ -1,4 +1,4 @@
--- The area of a triangle is at most `areaBound` of what bounds two of its edges (`area-bounded`), and below what `AreaLimit` says (`area-limited`). Assumes nothing.
+-- The area of a triangle is at most `areaBound` of what bounds two of its edges (`area-bounded`), below what `AreaLimit` says (`area-limited`), and too long for its edges where `LargeLimit` says so (`area-too-long`). Assumes nothing.
 use mathlib.Core.Path.{_≡_, ap, _∙_, subst}
 use mathlib.Core.Bool.{true, false, not}
 use lib.Dec.{T}
@@ -17,7 +17,7 @@ use Rattle.numbers.proofs.Bounded.{Bounded, bounded-above, neg-neg, add-bounded
 use Rattle.numbers.proofs.Maximum.{maximum-left, maximum-right, maximum-unsigned}
 use Rattle.vector.specs.Vector.{point, difference, magnitudeSquared, magnitude, cross}
 use Rattle.triangle.specs.Quality.{half, area}
-use Rattle.area_bounds.specs.AreaBound.{wider, widen, crossBound, areaBound, crossSquared, AreaLimit}
+use Rattle.area_bounds.specs.AreaBound.{wider, widen, crossBound, areaBound, crossSquared, AreaLimit, TooLong, LargeLimit}
 use Rattle.vector.specs.declared.Point3f.{Point3f}
 use Rattle.vector.proofs.Distances.{FinitePoint, magnitude-nonnegative}
 
@@ -143,6 +143,10 @@ unfolding area magnitude crossSquared
 area-limited p1 p2 p3 m t l h =
     let x = cross (difference p2 p1) (difference p3 p1) in
     l .below (magnitudeSquared x) (magnitude-fits x) (magnitude-nonnegative x (le-left (magnitudeSquared x) t h)) h
+
+pub area-too-long : (p1 p2 p3 : Point3f) (r factor t : Float) → LargeLimit r factor t → T (le t (crossSquared p1 p2 p3)) → TooLong r (area p1 p2 p3) factor
+unfolding area magnitude crossSquared
+area-too-long p1 p2 p3 r factor t l h = let x = cross (difference p2 p1) (difference p3 p1) in l .long (magnitudeSquared x) (magnitude-fits x) h
 
 -- the points after the first in the other order
 pub cross-squared-turned : (p1 p2 p3 : Point3f) → crossSquared p1 p2 p3 ≡ crossSquared p1 p3 p2

@@ -1,4 +1,5 @@
--- Triangles that are not acceptable: one whose area is below the least (`small-refused`), and one with finite edges where all edges are `TooLong` (`long-refused`).
+-- Triangles that are not acceptable: one whose area is below the least (`small-refused`), one with finite edges that are `TooLong` for its area (`large-refused`), and any with finite edges where those of the least area are (`long-refused`).
+-- What is too long for an area is for a larger one, so that one test gives a limit (`large-limit-is`).
 -- That the edges are finite follows from their being near each other (`near-finite`, `area-number`). Assumes nothing.
 use mathlib.Core.Path.{_≡_, refl, sym, subst}
 use mathlib.Core.Bool.{Bool, true, false, not, cond}
@@ -19,10 +20,10 @@ use Rattle.numbers.proofs.Maximum.{maximum-right, minimum-finite, maximum-finit
 use Rattle.numbers.proofs.AtLeastOne.{ratio-above, mul-above}
 use Rattle.vector.specs.Vector.{difference, magnitudeSquared, magnitude, cross, squared, distance}
 use Rattle.triangle.specs.Quality.{half, one, tiny, area, least, largest, edgeRatio, measures, degenerate, circumradius, quality, acceptable}
-use Rattle.area_bounds.specs.AreaBound.{TooLong}
+use Rattle.area_bounds.specs.AreaBound.{TooLong, LargeLimit}
 use Rattle.vector.specs.declared.Point3f.{Point3f}
 use Rattle.vector.proofs.Distances.{FinitePoint, squared-fits, squared-unsigned, magnitude-unsigned}
-use Rattle.area_bounds.proofs.AreaBound.{squares-finite, halved-number, magnitude-fits}
+use Rattle.area_bounds.proofs.AreaBound.{half-root-monotone, squares-finite, halved-number, magnitude-fits}
 
 -- ---- too small
 
@@ -72,10 +73,16 @@ edge-ratio-above a b c f g h = go (lt tiny (least a b c)) refl
     go true e = ratio-above (largest a b c) (least a b c) longest shortest (lt-le-trans (f32 0) tiny (least a b c) tiny-positive (lt-le tiny (least a b c) (rw e tt))) between
     go false e = unfold le ofBits in tt
 
-measures-refused : (a b c s t r m threshold factor : Float) → T (finite a) → T (finite b) → T (finite c) → T (fits binary32 s) → T (le m s) → TooLong r m factor → acceptable (measures a b c s t) r m threshold factor ≡ false
+pub too-long-above : (r m s factor : Float) → T (le m s) → TooLong r m factor → TooLong r s factor
+too-long-above r m s factor h l = record {
+  some = le-trans tiny m s (l .some) h;
+  long = λ ratio a f i j. l .long ratio a f i (le-trans m s a h j);
+}
+
+measures-refused : (a b c s t r m threshold factor : Float) → T (finite a) → T (finite b) → T (finite c) → T (fits binary32 s) → TooLong r s factor → acceptable (measures a b c s t) r m threshold factor ≡ false
 unfolding acceptable measures
-measures-refused a b c s t r m threshold factor f g h i j l =
-    let e = is-true (lt (r ⊗ factor) (edgeRatio a b c ⊗ root s)) (l .long (edgeRatio a b c) s i (edge-ratio-above a b c f g h) j) in
+measures-refused a b c s t r m threshold factor f g h i l =
+    let e = is-true (lt (r ⊗ factor) (edgeRatio a b c ⊗ root s)) (l .long (edgeRatio a b c) s i (edge-ratio-above a b c f g h) (le-refl s (le-right tiny s (l .some)))) in
     rw e (neither (lt s m) (lt (measures a b c s t .«quality_score») threshold))
   where
     neither : (x y : Bool) → cond x false (cond y false false) ≡ false
@@ -83,19 +90,34 @@ measures-refused a b c s t r m threshold factor f g h i j l =
     neither false true = refl
     neither false false = refl
 
-pub long-refused : (p1 p2 p3 : Point3f) (r m threshold factor : Float) → T (finite (distance p2 p1)) → T (finite (distance p3 p2)) → T (finite (distance p1 p3)) → T (not (isNan (area p1 p2 p3)))
-    → TooLong r m factor → acceptable (quality p1 p2 p3) r m threshold factor ≡ false
-unfolding quality
-long-refused p1 p2 p3 r m threshold factor f g h n l = go (lt (area p1 p2 p3) m) refl
-  where
-    large : T (le m (area p1 p2 p3)) → lt (area p1 p2 p3) tiny ≡ false
-    large k = is-false (lt (area p1 p2 p3) tiny) (not-T (lt (area p1 p2 p3) tiny) (λ i. le-not-lt tiny (area p1 p2 p3) (le-trans tiny m (area p1 p2 p3) (l .some) k) i))
+module _ (p1 p2 p3 : Point3f) (r m threshold factor : Float) (f : T (finite (distance p2 p1))) (g : T (finite (distance p3 p2))) (h : T (finite (distance p1 p3))) where
+  pub large-refused : TooLong r (area p1 p2 p3) factor → acceptable (quality p1 p2 p3) r m threshold factor ≡ false
+  unfolding quality
+  large-refused l =
+      let some = is-false (lt (area p1 p2 p3) tiny) (not-T (lt (area p1 p2 p3) tiny) (λ i. le-not-lt tiny (area p1 p2 p3) (l .some) i)) in
+      rw some
+      (measures-refused (distance p2 p1) (distance p3 p2) (distance p1 p3) (area p1 p2 p3) (circumradius p1 p2 p3) r m threshold factor f g h (unfold area in mul-fits binary32 (magnitude (cross (difference p2 p1) (difference p3 p1))) half) l)
 
-    go : (b : Bool) → lt (area p1 p2 p3) m ≡ b → acceptable (quality p1 p2 p3) r m threshold factor ≡ false
-    go true e = small-refused p1 p2 p3 r m threshold factor (rw e tt)
-    go false e =
-        let k = not-lt-le (area p1 p2 p3) m n (le-right tiny m (l .some)) (rw e tt) in
-        rw (large k) (measures-refused (distance p2 p1) (distance p3 p2) (distance p1 p3) (area p1 p2 p3) (circumradius p1 p2 p3) r m threshold factor f g h (unfold area in mul-fits binary32 (magnitude (cross (difference p2 p1) (difference p3 p1))) half) k l)
+  pub long-refused : T (not (isNan (area p1 p2 p3))) → TooLong r m factor → acceptable (quality p1 p2 p3) r m threshold factor ≡ false
+  long-refused n l = go (lt (area p1 p2 p3) m) refl
+    where
+      go : (b : Bool) → lt (area p1 p2 p3) m ≡ b → acceptable (quality p1 p2 p3) r m threshold factor ≡ false
+      go true e = small-refused p1 p2 p3 r m threshold factor (rw e tt)
+      go false e = large-refused (too-long-above r m (area p1 p2 p3) factor (not-lt-le (area p1 p2 p3) m n (le-right tiny m (l .some)) (rw e tt)) l)
+
+-- ---- limits
+
+pub large-limit-is : (r factor t : Float) → T (fits binary32 t) → T (le (f32 0) t) → T (lt (r ⊗ f32 0x40000000) (inf false)) → TooLong r (root t ⊗ half) factor → LargeLimit r factor t
+large-limit-is r factor t f z b l = record {
+  bounded = λ a h. b;
+  long = λ a g h. too-long-above r (root t ⊗ half) (root a ⊗ half) factor (half-root-monotone t a f g z h) l;
+}
+
+pub no-large-limit : (r factor : Float) → LargeLimit r factor nan
+no-large-limit r factor = record { bounded = λ a h. absurd (none a h); long = λ a g h. absurd (none a h) }
+  where
+    none : (a : Float) → T (le nan a) → ⊥
+    none a h = unfold isNan in le-left nan a h
 
 -- ---- edges of points that are near each other
 

@@ -1,6 +1,7 @@
 -- What bounds the area of triangles: bounds of two edges on each axis, and the square of the edges' cross product. Definitions only.
+use mathlib.Core.Bool.{false}
 use lib.Dec.{T}
-use lib.Ieee.{Float, binary32, neg, lt, le, fits}
+use lib.Ieee.{Float, binary32, inf, neg, lt, le, fits}
 use Rattle.numbers.specs.Rounded.{f32, _⊕_, _⊗_}
 use Rattle.numbers.specs.Root.{root}
 use Rattle.numbers.specs.Order.{maximum}
@@ -36,3 +37,8 @@ pub record AreaLimit (m t : Float) : Type 0 where
 pub record TooLong (r m factor : Float) : Type 0 where
   pub some : T (le tiny m)
   pub long : (ratio a : Float) → T (fits binary32 a) → T (le one ratio) → T (le m a) → T (lt (r ⊗ factor) (ratio ⊗ root a))
+
+-- such a square is that of an area whose edges are too long for a radius if it is at least t, and twice the radius is finite
+pub record LargeLimit (r factor t : Float) : Type 0 where
+  pub bounded : (a : Float) → T (le t a) → T (lt (r ⊗ f32 0x40000000) (inf false))
+  pub long : (a : Float) → T (fits binary32 a) → T (le t a) → TooLong r (root a ⊗ half) factor

@@ -1,8 +1,8 @@
-// Bounds of a triangle's area, by which triangles that are too small are known without measuring them.
+// Bounds of a triangle's area, by which triangles that are too small or too large are known without measuring them.
 use vector::Point3f;
 ghost use mathlib.Core.Path.{_≡_};
 ghost use mathlib.Core.Bool.{true};
-ghost use Rattle.area_bounds.specs.AreaBound.{wider, widen, crossBound, areaBound, crossSquared, AreaLimit, TooLong};
+ghost use Rattle.area_bounds.specs.AreaBound.{wider, widen, crossBound, areaBound, crossSquared, AreaLimit, TooLong, LargeLimit};
 
 // The largest of w, d and -d.
 fn wider(w: f32, d: f32) -> f32
@@ -65,4 +65,20 @@ pub fn is_too_long(radius: f32, least: f32, factor: f32) -> bool
         return false;
     }
     numbers::sqrt(least) > radius * factor
+}
+
+// A number that the square of twice the area is below unless the edges are too long for the radius. Where the guess is none it is not a number, and nothing is at least that.
+pub fn large_limit(radius: f32, factor: f32) -> f32
+    ensures { λ t. ⌜ LargeLimit radius factor t ⌝ }
+{
+    let side = radius * factor;
+    let t = side * side * side * side * 4.0001 + 4.0001e-20;
+    if radius * 2.0 < 1.0 / 0.0 {
+        if t >= 0.0 {
+            if is_too_long(radius, numbers::sqrt(t) * 0.5, factor) {
+                return t;
+            }
+        }
+    }
+    0.0 / 0.0
 }

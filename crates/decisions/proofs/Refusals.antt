@@ -1,34 +1,60 @@
--- What is refused without measuring it: triangles below a limit (`small-accepts`) or a bound (`bounded-accepts`) of the area, and those of points close to each other at a `Hopeless` radius (`hopeless-accepts`).
+-- What is refused without measuring it: triangles below a bound of the area (`bounded-accepts`), and of points close to each other those that limits refuse (`refused-accepts`) and all at a `Hopeless` radius (`hopeless-accepts`).
 -- Assumes nothing.
 use Prim.Native.Nat.{ℕ}
-use mathlib.Core.Path.{_≡_, sym, ap, subst}
-use mathlib.Core.Bool.{true, false}
+use mathlib.Core.Path.{_≡_, refl, sym, subst}
+use mathlib.Core.Bool.{Bool, true, false, cond}
 use mathlib.Core.List.{List}
-use lib.Dec.{T}
-use lib.Ieee.{Float, lt, le}
+use lib.Dec.{T, T-not}
+use lib.Ieee.{Float, inf, lt, le}
 use lib.Ieee.Scale.{finite}
-use Rattle.vector.specs.Vector.{difference, distance}
-use Rattle.area_bounds.specs.AreaBound.{areaBound, AreaLimit}
+use Rattle.numbers.specs.Rounded.{_⊗_}
+use Rattle.numbers.specs.Root.{root}
+use Rattle.vector.specs.Vector.{difference, magnitude, squared, distance}
+use Rattle.triangle.specs.Quality.{half, area, quality, acceptable}
+use Rattle.triangle.specs.Bound.{shapeOf, AspectLimit}
+use Rattle.area_bounds.specs.AreaBound.{crossSquared, areaBound}
 use Rattle.vector.specs.declared.Point3f.{Point3f}
-use Rattle.vector.proofs.Distances.{FinitePoint, distance-turned}
-use Rattle.area_bounds.proofs.AreaBound.{Bounds, Unsigned, area-bounded, area-limited, cross-squared-turned}
-use Rattle.area_bounds.proofs.Refused.{small-refused, long-refused, near-finite, area-number}
+use Rattle.triangle.specs.declared.TriangleQuality.{TriangleQuality}
+use Rattle.vector.proofs.Distances.{FinitePoint, squared-fits, squared-turned, distance-is, distance-turned}
+use Rattle.area_bounds.proofs.AreaBound.{Bounds, Unsigned, area-bounded, area-limited, area-too-long, cross-squared-turned}
+use Rattle.area_bounds.proofs.Refused.{small-refused, large-refused, long-refused, near-finite, area-number}
+use Rattle.triangle.proofs.Bounds.{quality-is}
+use Rattle.triangle.proofs.Aspect.{aspect-low}
+use Rattle.thin.specs.Thin.{ThinLimit, AllThin}
 use Rattle.points.specs.Points.{pointAt}
 use Rattle.decisions.specs.declared.Scene.{Scene}
 use Rattle.decisions.specs.Decisions.{reach, apart, isClose, qualityAt, accepts}
-use Rattle.decisions.specs.Refused.{isSmall, Hopeless}
+use Rattle.decisions.specs.declared.refused.Limits.{Limits}
+use Rattle.decisions.specs.Refused.{Limiting, Refused, small, large, far, thin, Hopeless}
 
-pub small-turned : (pts : List Float) (t : Float) (i j k : ℕ) → isSmall pts t i j k ≡ isSmall pts t i k j
-unfolding isSmall
-small-turned pts t i j k = ap (λ (x : Float). le x t) (cross-squared-turned (pointAt pts i) (pointAt pts j) (pointAt pts k))
+pub refused-turned : {l : Limits} {p q t : Point3f} → Refused l p q t → Refused l p t q
+refused-turned {l} {p} {q} {t} (small h) = small (rw (cross-squared-turned p t q) h)
+refused-turned {l} {p} {q} {t} (large h) = large (rw (cross-squared-turned p t q) h)
+refused-turned {l} {p} {q} {t} (far h) = far (rw (squared-turned t q) h)
+refused-turned {l} {p} {q} {t} (thin h) = thin (rw (cross-squared-turned p t q, squared-turned t q) (record { abc = h .bac; acb = h .bca; bac = h .abc; bca = h .acb; cab = h .cba; cba = h .cab }))
+
+-- ---- too thin
+
+area-is : (p q t : Point3f) → area p q t ≡ root (crossSquared p q t) ⊗ half
+unfolding area magnitude crossSquared
+area-is p q t = refl
+
+thin-low : (p q t : Point3f) (threshold α limit : Float) → AspectLimit threshold α → ThinLimit α limit → AllThin limit (squared p q) (squared p t) (squared q t) (crossSquared p q t) → lt (quality p q t .«quality_score») threshold ≡ true
+thin-low p q t threshold α limit a l h =
+    let k : T (le (shapeOf (distance q p) (distance t q) (distance p t) (area p q t) .«aspect_ratio») α) = rw (distance-turned q p, distance-turned t q, distance-is p q, distance-is q t, distance-is p t, area-is p q t) (h .acb .below α l) in
+    rw (← quality-is p q t) (aspect-low threshold α (distance q p) (distance t q) (distance p t) (area p q t) a k)
+
+low-refused : (q : TriangleQuality) (r m threshold factor : Float) → lt (q .«quality_score») threshold ≡ true → acceptable q r m threshold factor ≡ false
+unfolding acceptable
+low-refused q r m threshold factor h = rw h (either (lt (q .area) m))
+  where
+    either : (b : Bool) → cond b false false ≡ false
+    either true = refl
+    either false = refl
+
+-- ---- triangles of the cloud's points
 
 module _ (s : Scene) (pts : List Float) (r : Float) (i j k : ℕ) where
-  pub small-accepts : (t : Float) → AreaLimit (s .«min_triangle_area») t → isSmall pts t i j k ≡ true → accepts s r (qualityAt pts i j k) ≡ false
-  unfolding isSmall accepts qualityAt
-  small-accepts t l h =
-      small-refused (pointAt pts i) (pointAt pts j) (pointAt pts k) r (s .«min_triangle_area») (s .«quality_threshold») (s .«max_edge_factor»)
-      (area-limited (pointAt pts i) (pointAt pts j) (pointAt pts k) (s .«min_triangle_area») t l (subst T (sym h) tt))
-
   pub bounded-accepts : (v w : Point3f) → Unsigned v → Unsigned w → Bounds (difference (pointAt pts j) (pointAt pts i)) v → Bounds (difference (pointAt pts k) (pointAt pts i)) w
       → lt (areaBound v w) (s .«min_triangle_area») ≡ true → accepts s r (qualityAt pts i j k) ≡ false
   unfolding accepts qualityAt
@@ -36,17 +62,48 @@ module _ (s : Scene) (pts : List Float) (r : Float) (i j k : ℕ) where
       small-refused (pointAt pts i) (pointAt pts j) (pointAt pts k) r (s .«min_triangle_area») (s .«quality_threshold») (s .«max_edge_factor»)
       (area-bounded (pointAt pts i) (pointAt pts j) (pointAt pts k) v w (s .«min_triangle_area») f g b c (subst T (sym h) tt))
 
-  pub hopeless-accepts : Hopeless s r → FinitePoint (pointAt pts i) → FinitePoint (pointAt pts j) → FinitePoint (pointAt pts k) → isClose pts r i j ≡ true → isClose pts r i k ≡ true → isClose pts r j k ≡ true
-      → accepts s r (qualityAt pts i j k) ≡ false
-  unfolding isClose apart accepts qualityAt
-  hopeless-accepts h fi fj fk cij cik cjk =
-      let p = pointAt pts i in
-      let q = pointAt pts j in
-      let t = pointAt pts k in
-      let ij = near-finite p q (reach r) fi fj (h .bounded) (subst T (sym cij) tt) in
-      let ik = near-finite p t (reach r) fi fk (h .bounded) (subst T (sym cik) tt) in
-      let jk = near-finite q t (reach r) fj fk (h .bounded) (subst T (sym cjk) tt) in
-      let ji : T (finite (distance q p)) = rw (distance-turned q p) ij in
-      let ki : T (finite (distance t p)) = rw (distance-turned t p) ik in
-      let kj : T (finite (distance t q)) = rw (distance-turned t q) jk in
-      long-refused p q t r (s .«min_triangle_area») (s .«quality_threshold») (s .«max_edge_factor») ji kj ik (area-number p q t ji ki) (h .long)
+  -- the points are close to each other
+  module _ (fi : FinitePoint (pointAt pts i)) (fj : FinitePoint (pointAt pts j)) (fk : FinitePoint (pointAt pts k)) (cij : isClose pts r i j ≡ true) (cik : isClose pts r i k ≡ true) (cjk : isClose pts r j k ≡ true) where
+    edges-finite : T (lt (reach r) (inf false)) → T (finite (distance (pointAt pts j) (pointAt pts i))) × T (finite (distance (pointAt pts k) (pointAt pts j))) × T (finite (distance (pointAt pts i) (pointAt pts k)))
+    unfolding isClose apart
+    edges-finite b =
+        let p = pointAt pts i in
+        let q = pointAt pts j in
+        let t = pointAt pts k in (
+          rw (distance-turned q p) (near-finite p q (reach r) fi fj b (subst T (sym cij) tt)),
+          rw (distance-turned t q) (near-finite q t (reach r) fj fk b (subst T (sym cjk) tt)),
+          near-finite p t (reach r) fi fk b (subst T (sym cik) tt),
+        )
+
+    pub hopeless-accepts : Hopeless s r → accepts s r (qualityAt pts i j k) ≡ false
+    unfolding accepts qualityAt
+    hopeless-accepts h =
+        let p = pointAt pts i in
+        let q = pointAt pts j in
+        let t = pointAt pts k in
+        let e = edges-finite (h .bounded) in
+        let ki : T (finite (distance t p)) = rw (distance-turned t p) (e .2) in
+        long-refused p q t r (s .«min_triangle_area») (s .«quality_threshold») (s .«max_edge_factor») (e .0) (e .1) (e .2) (area-number p q t (e .0) ki) (h .long)
+
+    pub refused-accepts : {l : Limits} → Limiting s r l → Refused l (pointAt pts i) (pointAt pts j) (pointAt pts k) → accepts s r (qualityAt pts i j k) ≡ false
+    unfolding accepts qualityAt isClose apart
+    refused-accepts {l} g (small h) =
+        let p = pointAt pts i in
+        let q = pointAt pts j in
+        let t = pointAt pts k in
+        small-refused p q t r (s .«min_triangle_area») (s .«quality_threshold») (s .«max_edge_factor») (area-limited p q t (s .«min_triangle_area») (l .small) (g .smalls) h)
+    refused-accepts {l} g (large h) =
+        let p = pointAt pts i in
+        let q = pointAt pts j in
+        let t = pointAt pts k in
+        let e = edges-finite (g .larges .bounded (crossSquared p q t) h) in
+        large-refused p q t r (s .«min_triangle_area») (s .«quality_threshold») (s .«max_edge_factor») (e .0) (e .1) (e .2) (area-too-long p q t r (s .«max_edge_factor») (l .large) (g .larges) h)
+    refused-accepts {l} g (far h) =
+        let q = pointAt pts j in
+        let t = pointAt pts k in
+        absurd (T-not (lt (reach r) (distance q t)) (subst T (sym cjk) tt) (subst (λ (x : Float). T (lt (reach r) x)) (sym (distance-is q t)) (g .fars (squared q t) (squared-fits q t) h)))
+    refused-accepts {l} g (thin h) =
+        let p = pointAt pts i in
+        let q = pointAt pts j in
+        let t = pointAt pts k in
+        low-refused (quality p q t) r (s .«min_triangle_area») (s .«quality_threshold») (s .«max_edge_factor») (thin-low p q t (s .«quality_threshold») (g .aspect) (l .thin) (g .aspects) (g .thins) h)

@@ -3,7 +3,7 @@ use Prim.Native.Nat.{ℕ}
 use mathlib.Core.Bool.{cond}
 use mathlib.Core.List.{List}
 use mathlib.Core.Option.{Option, none, some}
-use lib.Ieee.{Float, lt}
+use lib.Ieee.{Float, le}
 use Rattle.triangle.specs.Quality.{area}
 use Rattle.triangle.specs.declared.TriangleQuality.{TriangleQuality}
 use Rattle.points.specs.Points.{pointAt}
@@ -16,10 +16,10 @@ abbrev pub scoreFound : Option Float → Score
 scoreFound none = None
 scoreFound (some x) = Of x
 
--- a score, if it is above `top`
-unfoldable pub above : Float → Option Float → Option Float
-above top none = none
-above top (some x) = cond (lt top x) (some x) none
+-- a score, if it is not below `top`
+unfoldable pub atLeast : Float → Option Float → Option Float
+atLeast top none = none
+atLeast top (some x) = cond (le top x) (some x) none
 
 -- the area of the triangle of three points
 unfoldable pub areaAt : List Float → ℕ → ℕ → ℕ → Float

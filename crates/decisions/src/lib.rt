@@ -10,7 +10,7 @@ ghost use lib.ListN.{length};
 ghost use Rattle.triangle.specs.Bound.{qualityOf};
 ghost use Rattle.patch.specs.Lay.{edge};
 ghost use Rattle.decisions.specs.Decisions.{apart, isClose, qualityAt, accepts, completes, halfway, middle, pivotable, scoreAt};
-ghost use Rattle.decisions.specs.Found.{scoreFound, above, areaAt, acceptedScore};
+ghost use Rattle.decisions.specs.Found.{scoreFound, atLeast, areaAt, acceptedScore};
 
 // What the decisions go by: the number of points, the index and whether it is used, and the thresholds of the settings.
 pub struct Scene {
@@ -98,17 +98,17 @@ pub fn is_pivotable(points: &[f32], radius: f32, a: usize, b: usize) -> bool
     !(d < 1e-10)
 }
 
-// The score of a triangle with edges of lengths a, b and c, if the settings accept it and the score is above `top`.
+// The score of a triangle with edges of lengths a, b and c, if the settings accept it and the score is not below `top`.
 // The bound is asked first, since it needs no angle.
 fn score_from(s: Scene, radius: f32, a: f32, b: f32, c: f32, area: f32, top: f32) -> Score
-    ensures { λ r. ⌜ r ≡ scoreFound (above top (acceptedScore s radius (qualityOf a b c area))) ⌝ }
+    ensures { λ r. ⌜ r ≡ scoreFound (atLeast top (acceptedScore s radius (qualityOf a b c area))) ⌝ }
 {
     let shape = triangle::shape_of(a, b, c, area);
-    if triangle::score_bound(shape) <= top {
+    if triangle::score_bound(shape) < top {
         return Score::None;
     }
     let q = triangle::quality_of(a, b, c, shape);
-    if !(q.quality_score > top) {
+    if !(q.quality_score >= top) {
         return Score::None;
     }
     if !is_accepted(s, radius, q) {
@@ -117,9 +117,9 @@ fn score_from(s: Scene, radius: f32, a: f32, b: f32, c: f32, area: f32, top: f32
     Score::Of(q.quality_score)
 }
 
-// The score of the edge a, b with point k, if k is near enough to both ends, the triangle is acceptable and the score is above `top`.
+// The score of the edge a, b with point k, if k is near enough to both ends, the triangle is acceptable and the score is not below `top`.
 // `side` is the edge's length.
-pub fn score_above(
+pub fn score_at_least(
     s: Scene,
     points: &[f32],
     radius: f32,
@@ -130,7 +130,7 @@ pub fn score_above(
     top: f32,
 ) -> Score
     requires { ⌜ (3 * a + 2 < length (now points)) × (3 * b + 2 < length (now points)) × (3 * k + 2 < length (now points)) × (side ≡ apart (now points) b a) ⌝ }
-    ensures { λ r. ⌜ r ≡ scoreFound (above top (scoreAt s (now (points .entry)) radius (edge a b) k)) ⌝ }
+    ensures { λ r. ⌜ r ≡ scoreFound (atLeast top (scoreAt s (now (points .entry)) radius (edge a b) k)) ⌝ }
 {
     let to_a = apart_at(points, k, a);
     if !(to_a <= radius) {

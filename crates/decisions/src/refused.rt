@@ -1,22 +1,51 @@
-// What is refused without measuring it: triangles that are too small, and radii at which every triangle is refused.
+// What is refused without measuring it: triangles by squares that are too small or too large, and radii at which every triangle is refused.
 use crate::Scene;
+use vector::Point3f;
 ghost use mathlib.Core.Path.{_≡_};
 ghost use mathlib.Core.Bool.{true};
-ghost use Prim.Native.Nat.{_*_, _<_, _+_};
-ghost use lib.ListN.{length};
-ghost use Rattle.decisions.specs.Refused.{isSmall, Hopeless};
+ghost use Rattle.decisions.specs.Refused.{Limiting, Refused, Hopeless};
 
-// Whether the square of twice the area of points i, j and k is at most a limit.
-pub fn is_small(points: &[f32], limit: f32, i: usize, j: usize, k: usize) -> bool
-    requires { ⌜ (3 * i + 2 < length (now points)) × (3 * j + 2 < length (now points)) × (3 * k + 2 < length (now points)) ⌝ }
-    ensures { λ r. ⌜ r ≡ isSmall (now (points .entry)) limit i j k ⌝ }
+// Limits for squares, by which a triangle is refused: of twice the area a least and a largest, of a distance the largest, and one for the aspect ratio.
+pub struct Limits {
+    pub small: f32,
+    pub large: f32,
+    pub far: f32,
+    pub thin: f32,
+}
+
+// The limits at a radius.
+pub fn limits_of(s: Scene, radius: f32) -> Limits
+    ensures { λ l. ⌜ Limiting s radius l ⌝ }
 {
-    let square = area_bounds::cross_squared(
-        points::point_at(points, i),
-        points::point_at(points, j),
-        points::point_at(points, k),
-    );
-    square <= limit
+    let small = area_bounds::area_limit(s.min_triangle_area);
+    let large = area_bounds::large_limit(radius, s.max_edge_factor);
+    let far = spatial_hash::square_limit(radius * 2.0);
+    let thin = thin::thin_limit(triangle::aspect_limit(s.quality_threshold));
+    Limits {
+        small: small,
+        large: large,
+        far: far,
+        thin: thin,
+    }
+}
+
+// Whether the limits refuse the triangle of three points, of which both others are close to the first.
+pub fn is_refused(l: Limits, p: Point3f, q: Point3f, t: Point3f) -> bool
+    ensures { λ r. ⌜ (r ≡ true → Refused l p q t) ⌝ }
+{
+    let cross = area_bounds::cross_squared(p, q, t);
+    if cross <= l.small {
+        return true;
+    }
+    if cross >= l.large {
+        return true;
+    }
+    let last = vector::distance_squared(q, t);
+    if last > l.far {
+        return true;
+    }
+    let first = vector::distance_squared(p, q);
+    thin::is_thin(first, vector::distance_squared(p, t), last, cross, l.thin)
 }
 
 // Whether no triangle of points that are close to each other can be acceptable at a radius.

@@ -13,8 +13,8 @@ use lib.Ieee.{Float, lt}
 use Rattle.numbers.specs.Rounded.{f32}
 use Rattle.patch.specs.Lay.{Edge}
 use Rattle.patch.specs.Search.{Floats, unused, isSecond, isThird, thirdOf, secondOf, firstOf, scoreOf, bestOf, numbers, searching}
-use Rattle.decisions.specs.Found.{scoreFound, above}
-use Rattle.decisions.specs.declared.Score.the-variants.{Of, None}
+use Rattle.decisions.specs.Found.{scoreFound, atLeast}
+use Rattle.decisions.specs.declared.Score.the-variants.{None}
 use Rattle.search.specs.declared.Seed.the-variants.{Triangle, Nothing}
 use Rattle.search.specs.declared.Pivot.the-variants.{Nowhere}
 use Rattle.search.specs.Ready.{seedFound, pivotFound, withSecond, withFirst}
@@ -76,6 +76,11 @@ pub else-miss : (x y : Option (ℕ × ℕ × ℕ)) → seedFound x ≡ Nothing �
 else-miss none y h = refl
 else-miss (some t) y h = absurd (let z : _≡_ {A = ℕ} 0 1 = cc in omega arith)
 
+-- a score, if it is above `top`
+unfoldable pub above : Float → Option Float → Option Float
+above top none = none
+above top (some x) = cond (lt top x) (some x) none
+
 module _ {R : Type 0} (floats : Floats R) (r : R) (used : List ℕ) where
   -- ---- the third point
   pub third-hit : (i j k : ℕ) (ks : List ℕ) → isThird floats r used i j k ≡ true → thirdOf floats r used i j (k ∷ ks) ≡ some (i, j, k)
@@ -130,19 +135,23 @@ module _ {R : Type 0} (floats : Floats R) (r : R) (used : List ℕ) where
   first-end tries = refl
 
   -- ---- the candidates
-  pub not-met : (e : Edge) (k : ℕ) (top : Float) → (not (eqb k (e .v1)) && (not (eqb k (e .v2)) && unused used k)) ≡ false → None ≡ scoreFound (above top (scoreOf floats r used e k))
-  unfolding scoreOf above
-  not-met e k top h = ap (λ (o : Option Float). scoreFound (above top o)) (sym (passed (not (eqb k (e .v1)) && (not (eqb k (e .v2)) && unused used k)) (floats .score r e k) none h))
+  pub unscored : (e : Edge) (k : ℕ) (top : Float) → scoreOf floats r used e k ≡ none → None ≡ scoreFound (atLeast top (scoreOf floats r used e k))
+  unfolding atLeast
+  unscored e k top h = ap (λ (o : Option Float). scoreFound (atLeast top o)) (sym h)
 
-  pub met : (e : Edge) (k : ℕ) (top : Float) → (not (eqb k (e .v1)) && (not (eqb k (e .v2)) && unused used k)) ≡ true → scoreFound (above top (floats .score r e k)) ≡ scoreFound (above top (scoreOf floats r used e k))
+  pub not-met : (e : Edge) (k : ℕ) → (not (eqb k (e .v1)) && (not (eqb k (e .v2)) && unused used k)) ≡ false → scoreOf floats r used e k ≡ none
   unfolding scoreOf
-  met e k top h = ap (λ (o : Option Float). scoreFound (above top o)) (sym (chosen (not (eqb k (e .v1)) && (not (eqb k (e .v2)) && unused used k)) (floats .score r e k) none h))
+  not-met e k h = passed (not (eqb k (e .v1)) && (not (eqb k (e .v2)) && unused used k)) (floats .score r e k) none h
+
+  pub met : (e : Edge) (k : ℕ) → (not (eqb k (e .v1)) && (not (eqb k (e .v2)) && unused used k)) ≡ true → floats .score r e k ≡ scoreOf floats r used e k
+  unfolding scoreOf
+  met e k h = sym (chosen (not (eqb k (e .v1)) && (not (eqb k (e .v2)) && unused used k)) (floats .score r e k) none h)
 
   -- what a score above `top`, or none, leads to
-  abbrev after : Edge → ℕ → List ℕ → Float → Option ℕ → Option Float → Option ℕ
+  abbrev pub after : Edge → ℕ → List ℕ → Float → Option ℕ → Option Float → Option ℕ
   after e k ks top best o = elim o as (λ c. Option ℕ) [ none ↦ bestOf floats r used e ks top best | some s ↦ bestOf floats r used e ks s (some k) ]
 
-  best-step : (e : Edge) (k : ℕ) (ks : List ℕ) (top : Float) (best : Option ℕ) → bestOf floats r used e (k ∷ ks) top best ≡ after e k ks top best (above top (scoreOf floats r used e k))
+  pub best-step : (e : Edge) (k : ℕ) (ks : List ℕ) (top : Float) (best : Option ℕ) → bestOf floats r used e (k ∷ ks) top best ≡ after e k ks top best (above top (scoreOf floats r used e k))
   unfolding bestOf above
   best-step e k ks top best = go (scoreOf floats r used e k)
     where
@@ -154,22 +163,6 @@ module _ {R : Type 0} (floats : Floats R) (r : R) (used : List ℕ) where
           → elim o as (λ c. Option ℕ) [ none ↦ bestOf floats r used e ks top best | some s ↦ elim (lt top s) as (λ c. Option ℕ) [ true ↦ bestOf floats r used e ks s (some k) | false ↦ bestOf floats r used e ks top best ] ] ≡ after e k ks top best (above top o)
       go none = refl
       go (some s) = turn s (lt top s)
-
-  pub best-none : (e : Edge) (k : ℕ) (ks : List ℕ) (top : Float) (best : Option ℕ) → scoreFound (above top (scoreOf floats r used e k)) ≡ None
-      → bestOf floats r used e (k ∷ ks) top best ≡ bestOf floats r used e ks top best
-  best-none e k ks top best h = best-step e k ks top best ∙ go (above top (scoreOf floats r used e k)) h
-    where
-      go : (o : Option Float) → scoreFound o ≡ None → after e k ks top best o ≡ bestOf floats r used e ks top best
-      go none h = refl
-      go (some s) h = absurd (let z : _≡_ {A = ℕ} 0 1 = cc in omega arith)
-
-  pub best-more : (e : Edge) (k : ℕ) (ks : List ℕ) (top x : Float) (best : Option ℕ) → scoreFound (above top (scoreOf floats r used e k)) ≡ Of x
-      → bestOf floats r used e (k ∷ ks) top best ≡ bestOf floats r used e ks x (some k)
-  best-more e k ks top x best h = best-step e k ks top best ∙ go (above top (scoreOf floats r used e k)) h
-    where
-      go : (o : Option Float) → scoreFound o ≡ Of x → after e k ks top best o ≡ bestOf floats r used e ks x (some k)
-      go none h = absurd (let z : _≡_ {A = ℕ} 0 1 = cc in omega arith)
-      go (some s) h = let q : s ≡ x = cc in ap (λ (y : Float). bestOf floats r used e ks y (some k)) q
 
   pub best-end : (e : Edge) (top : Float) (best : Option ℕ) → bestOf floats r used e [] top best ≡ best
   unfolding bestOf

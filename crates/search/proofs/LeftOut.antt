@@ -4,7 +4,7 @@ use mathlib.Core.Path.{_≡_, refl, sym, ap, _∙_, subst}
 use mathlib.Core.Logic.{_⊎_, inl, inr, ⊎-elim}
 use mathlib.Core.Bool.{Bool, true, false, cond, not, _&&_}
 use mathlib.Core.List.{List, [], _∷_}
-use mathlib.Core.Option.{Option, none, some}
+use mathlib.Core.Option.{Option, none}
 use native.Mathlib.Omega.{arith}
 use lib.Dec.{T, eqb}
 use lib.Ieee.{Float, lt, le}
@@ -16,38 +16,18 @@ use Rattle.vector.proofs.Distances.{FinitePoint, squared-fits, distance-is, dis
 use Rattle.points.specs.Points.{pointAt}
 use Rattle.spatial_hash.specs.Near.{Finite, Limit}
 use Rattle.grid.specs.Index.{Below}
-use Rattle.patch.specs.Lay.{Edge, edge}
-use Rattle.patch.specs.Search.{Floats, unused, isSecond, isThird, thirdOf, secondOf, scoreOf, bestOf}
+use Rattle.patch.specs.Lay.{edge}
+use Rattle.patch.specs.Search.{Floats, unused, isSecond, isThird, thirdOf, secondOf, scoreOf}
 use Rattle.patch.proofs.Counts.{either, not-true}
 use Rattle.decisions.specs.declared.Scene.{Scene}
 use Rattle.decisions.specs.Decisions.{reach, apart, isClose, accepts, qualityAt, scoreAt, floatsOf}
-use Rattle.decisions.specs.Found.{scoreFound, above}
 use Rattle.search.specs.Ready.{withSecond}
 use Rattle.search.specs.Narrow.{only, inReach}
 use Rattle.search.proofs.Ordered.{and-false}
-use Rattle.search.proofs.Laws.{chosen, passed, orElse, else-miss, third-hit, third-miss, second-not, second-step, second-end, best-none, best-more}
+use Rattle.search.proofs.Laws.{orElse, else-miss, third-hit, third-miss, second-not, second-step, second-end, met, not-met}
 
 -- ---- whatever fails the test can't be chosen
 module _ {R : Type 0} (floats : Floats R) (r : R) (used : List ℕ) (test : ℕ → Bool) where
-  -- after the same first candidate the best is the same
-  best-after : (e : Edge) (k : ℕ) (xs ys : List ℕ) → ((top : Float) (best : Option ℕ) → bestOf floats r used e xs top best ≡ bestOf floats r used e ys top best) → (top : Float) (best : Option ℕ)
-      → bestOf floats r used e (k ∷ xs) top best ≡ bestOf floats r used e (k ∷ ys) top best
-  best-after e k xs ys h top best = go (above top (scoreOf floats r used e k)) refl
-    where
-      go : (o : Option Float) → above top (scoreOf floats r used e k) ≡ o → bestOf floats r used e (k ∷ xs) top best ≡ bestOf floats r used e (k ∷ ys) top best
-      go none q = best-none floats r used e k xs top best (ap scoreFound q) ∙ h top best ∙ sym (best-none floats r used e k ys top best (ap scoreFound q))
-      go (some x) q = best-more floats r used e k xs top x best (ap scoreFound q) ∙ h x (some k) ∙ sym (best-more floats r used e k ys top x best (ap scoreFound q))
-
-  pub best-only : (e : Edge) → ((k : ℕ) → test k ≡ false → scoreOf floats r used e k ≡ none) → (ks : List ℕ) (top : Float) (best : Option ℕ) → bestOf floats r used e (only test ks) top best ≡ bestOf floats r used e ks top best
-  unfolding only above
-  best-only e h [] top best = refl
-  best-only e h (k ∷ ks) top best = go (test k) refl (best-only e h ks)
-    where
-      go : (b : Bool) → test k ≡ b → ((top : Float) (best : Option ℕ) → bestOf floats r used e (only test ks) top best ≡ bestOf floats r used e ks top best)
-          → bestOf floats r used e (cond b (k ∷ only test ks) (only test ks)) top best ≡ bestOf floats r used e (k ∷ ks) top best
-      go true t ih = best-after e k (only test ks) ks ih top best
-      go false t ih = ih top best ∙ sym (best-none floats r used e k ks top best (ap (λ (o : Option Float). scoreFound (above top o)) (h k t)))
-
   module _ (n : ℕ) where
     pub third-only : (i j : ℕ) → ((k : ℕ) → k < n → test k ≡ false → isThird floats r used i j k ≡ false) → (ks : List ℕ) → Below n ks → thirdOf floats r used i j (only test ks) ≡ thirdOf floats r used i j ks
     unfolding only
@@ -96,6 +76,12 @@ only-below test n (k ∷ ks) b = go (test k) (only-below test n ks (b .1))
 
 -- ---- which points can't be chosen
 
+-- whoever is beyond the limit is too far away
+beyond : (pts : List Float) (r : Float) (k i : ℕ) (t : Float) → Limit r t → lt t (squared (pointAt pts k) (pointAt pts i)) ≡ true → lt r (distance (pointAt pts k) (pointAt pts i)) ≡ true
+beyond pts r k i t l g =
+    ap (lt r) (distance-is (pointAt pts k) (pointAt pts i))
+    ∙ is-true _ (l (squared (pointAt pts k) (pointAt pts i)) (squared-fits (pointAt pts k) (pointAt pts i)) (subst T (sym g) tt))
+
 -- a point that is out of reach is used or too far away
 pub out-of-reach : (pts : List Float) (used : List ℕ) (r : Float) (a k : ℕ) (t : Float) → Limit r t → inReach pts used (pointAt pts a) t k ≡ false
     → (unused used k ≡ false) ⊎ (lt r (apart pts k a) ≡ true)
@@ -104,10 +90,7 @@ out-of-reach pts used r a k t l h = go (unused used k) refl (lt t (squared (poin
   where
     go : (u : Bool) → unused used k ≡ u → (f : Bool) → lt t (squared (pointAt pts k) (pointAt pts a)) ≡ f → (u && not f) ≡ false → (unused used k ≡ false) ⊎ (lt r (distance (pointAt pts k) (pointAt pts a)) ≡ true)
     go false e f g h = inl e
-    go true e true g h = inr (
-        ap (lt r) (distance-is (pointAt pts k) (pointAt pts a))
-        ∙ is-true _ (l (squared (pointAt pts k) (pointAt pts a)) (squared-fits (pointAt pts k) (pointAt pts a)) (subst T (sym g) tt))
-        )
+    go true e true g h = inr (beyond pts r k a t l g)
     go true e false g h = absurd (let z : _≡_ {A = ℕ} 0 1 = cc in omega arith)
 
 -- a conjunction of which a part fails
@@ -121,28 +104,38 @@ pub finite-point : {p : Point3f} → Finite p → FinitePoint p
 finite-point f = record { finite-x = f .x-finite; finite-y = f .y-finite; finite-z = f .z-finite }
 
 module _ (s : Scene) (pts : List Float) (r : Float) (used : List ℕ) where
-  -- a pivot's point is within the radius of the edge's first end
-  score-far : (a b k : ℕ) → lt r (apart pts k a) ≡ true → scoreAt s pts r (edge a b) k ≡ none
-  unfolding scoreAt
-  score-far a b k h =
-      let z : le (apart pts k a) r ≡ false = not-true (λ e. le-not-lt (apart pts k a) r (subst T (sym e) tt) (subst T (sym h) tt)) in
-      rw z
+  -- a pivot's point is within the radius of both ends of the edge
+  module _ (a b k : ℕ) where
+    too-far : (i : ℕ) → lt r (apart pts k i) ≡ true → le (apart pts k i) r ≡ false
+    too-far i h = not-true (λ e. le-not-lt (apart pts k i) r (subst T (sym e) tt) (subst T (sym h) tt))
 
-  pub score-out : (a b k : ℕ) → (unused used k ≡ false) ⊎ (lt r (apart pts k a) ≡ true) → scoreOf (floatsOf s pts) r used (edge a b) k ≡ none
-  unfolding scoreOf floatsOf
-  score-out a b k = ⊎-elim
-      (λ (u : unused used k ≡ false). passed met (scoreAt s pts r (edge a b) k) none (rw u (ends (not (eqb k a)) (not (eqb k b)))))
-      (λ (f : lt r (apart pts k a) ≡ true). ⊎-elim
-      (λ (t : met ≡ true). chosen met (scoreAt s pts r (edge a b) k) none t ∙ score-far a b k f)
-      (λ (t : met ≡ false). passed met (scoreAt s pts r (edge a b) k) none t)
-      (either met))
-    where
-      met : Bool
-      met = not (eqb k a) && (not (eqb k b) && unused used k)
+    score-far : lt r (apart pts k a) ≡ true → scoreAt s pts r (edge a b) k ≡ none
+    unfolding scoreAt
+    score-far h = rw (too-far a h)
 
-      ends : (x y : Bool) → (x && (y && false)) ≡ false
-      ends true y = and-false y
-      ends false y = refl
+    score-far-too : lt r (apart pts k b) ≡ true → scoreAt s pts r (edge a b) k ≡ none
+    unfolding scoreAt
+    score-far-too h = rw (too-far b h, and-false (le (apart pts k a) r))
+
+    unmet : scoreAt s pts r (edge a b) k ≡ none → scoreOf (floatsOf s pts) r used (edge a b) k ≡ none
+    unfolding floatsOf
+    unmet h = ⊎-elim
+        (λ (t : (not (eqb k a) && (not (eqb k b) && unused used k)) ≡ true). sym (met (floatsOf s pts) r used (edge a b) k t) ∙ h)
+        (λ (t : (not (eqb k a) && (not (eqb k b) && unused used k)) ≡ false). not-met (floatsOf s pts) r used (edge a b) k t)
+        (either (not (eqb k a) && (not (eqb k b) && unused used k)))
+
+    pub score-beyond : (t : Float) → Limit r t → lt t (squared (pointAt pts k) (pointAt pts a)) ≡ true → scoreOf (floatsOf s pts) r used (edge a b) k ≡ none
+    unfolding apart
+    score-beyond t l h = unmet (score-far (beyond pts r k a t l h))
+
+    pub score-beyond-too : (t : Float) → Limit r t → lt t (squared (pointAt pts k) (pointAt pts b)) ≡ true → scoreOf (floatsOf s pts) r used (edge a b) k ≡ none
+    unfolding apart
+    score-beyond-too t l h = unmet (score-far-too (beyond pts r k b t l h))
+
+    pub score-out : (unused used k ≡ false) ⊎ (lt r (apart pts k a) ≡ true) → scoreOf (floatsOf s pts) r used (edge a b) k ≡ none
+    score-out = ⊎-elim
+        (λ (u : unused used k ≡ false). not-met (floatsOf s pts) r used (edge a b) k (rw u (rw (and-false (not (eqb k b))) (and-false (not (eqb k a))))))
+        (λ (f : lt r (apart pts k a) ≡ true). unmet (score-far f))
 
   -- a seed's other points are within twice the radius of the first
   close-far : (i k : ℕ) → Finite (pointAt pts i) → Finite (pointAt pts k) → lt (reach r) (apart pts k i) ≡ true → isClose pts r i k ≡ false

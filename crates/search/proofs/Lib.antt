@@ -1,4 +1,5 @@
 pub mod Ordered
+pub mod Leading
 pub mod Earlier
 pub mod Keeping
 pub mod Laws

@@ -56,7 +56,7 @@ unfolding insertAll
 insert-end less test xs = refl
 
 -- over the kept cells the order is that of the points' own
-earlier-kept : (indexed : Bool) (g : SpatialGrid) (pts : List Float) (n : ℕ) (w : List ℕ) → Cells g pts n w → (i j : ℕ) → i < n → j < n → earlier indexed (cellIn w n) i j ≡ earlier indexed (cellAt g pts) i j
+pub earlier-kept : (indexed : Bool) (g : SpatialGrid) (pts : List Float) (n : ℕ) (w : List ℕ) → Cells g pts n w → (i j : ℕ) → i < n → j < n → earlier indexed (cellIn w n) i j ≡ earlier indexed (cellAt g pts) i j
 unfolding earlier
 earlier-kept indexed g pts n w c i j hi hj = rw (c i hi, c j hj)
 
@@ -140,8 +140,12 @@ pub in-reach : (pts : List Float) (used : List ℕ) (p : Point3f) (t : Float) (k
 unfolding inReach
 in-reach pts used p t k h = not-true (lt t (squared (pointAt pts k) p)) (and-both {p = unused used k} h .1)
 
+pub in-unused : (pts : List Float) (used : List ℕ) (p : Point3f) (t : Float) (k : ℕ) → inReach pts used p t k ≡ true → unused used k ≡ true
+unfolding inReach
+in-unused pts used p t k h = and-both {p = unused used k} h .0
+
 narrowed-only : (s : Scene) (pts : List Float) (f : Filter) (used js : List ℕ) → Points (s .n) js → ((k : ℕ) → count (eqb k) js ≤ 1)
-    → ((k : ℕ) → k < s .n → lt (f .limit) (squared (pointAt pts k) (f .center)) ≡ false → 1 ≤ count (eqb k) js)
+    → ((k : ℕ) → k < s .n → unused used k ≡ true → lt (f .limit) (squared (pointAt pts k) (f .center)) ≡ false → 1 ≤ count (eqb k) js)
     → insertAll (earlier (s .indexed) (cellAt (s .grid) pts)) (passes s pts used f) [] js
     ≡ only (inReach pts used (f .center) (f .limit)) (only (inCells (s .indexed) (s .grid) pts (f .range) (f .cell)) (orderOf (s .indexed) (s .grid) pts (s .n)))
 unfolding passes
@@ -149,7 +153,7 @@ narrowed-only s pts f used js below once complete =
     let xs : List ℕ = orderOf (s .indexed) (s .grid) pts (s .n) in
     insert-all-is (earlier-strict (s .indexed) (cellAt (s .grid) pts)) (λ (k : ℕ). inReach pts used (f .center) (f .limit) k && inCells (s .indexed) (s .grid) pts (f .range) (f .cell) k) (s .n) xs js
     (order-of-sorted (s .indexed) (s .grid) pts (s .n)) (order-of-count (s .indexed) (s .grid) pts (s .n)) once below
-    (λ k h t. complete k h (in-reach pts used (f .center) (f .limit) k (and-both {p = inReach pts used (f .center) (f .limit) k} t .0)))
+    (λ k h t. let i = and-both {p = inReach pts used (f .center) (f .limit) k} t .0 in complete k h (in-unused pts used (f .center) (f .limit) k i) (in-reach pts used (f .center) (f .limit) k i))
     ∙ sym (only-both (inReach pts used (f .center) (f .limit)) (inCells (s .indexed) (s .grid) pts (f .range) (f .cell)) xs)
 
 pub sought : {s : Scene} {pts : List Float} {f : Filter} {w u v : List ℕ} {a found r : ℕ} {p q : Point3f} {radius : Float} → p ≡ pointAt pts a → Filters s p q radius f
@@ -176,7 +180,7 @@ collected {s} {pts = pts} {f = f} {b = b} h c g = record {
   most = g .most;
   below = g .gathers .below;
   once = g .gathers .once;
-  complete = λ k l t. g .gathers .complete k l (not-false (λ o. true-not-false (is-true (lt (f .limit) (squared (pointAt pts k) (f .center))) (c (pointAt pts k) (h .ready .numbers k l) o)) t));
+  complete = λ k l free t. g .gathers .complete k l (not-false (λ o. true-not-false (is-true (lt (f .limit) (squared (pointAt pts k) (f .center))) (c (pointAt pts k) (h .ready .numbers k l) o)) t));
   kept = record { before = g .before; after = g .after };
 }
   where

@@ -1,4 +1,4 @@
--- Where nothing is found: around a point whose near points lie in too small a spread (`small-nothing`) or make only small triangles (`all-small-nothing`), with a second point that is too near (`near-nothing`),
+-- Where nothing is found: around a point whose near points lie in too small a spread (`small-nothing`) or make only triangles that limits refuse (`all-refused-nothing`), with a second point that is too near (`near-nothing`),
 -- and at a radius that is hopeless (`hopeless-nothing`). Assumes nothing.
 use Prim.Native.Nat.{ℕ, zero, suc, _+_, _≤_, _<_}
 use mathlib.Core.Path.{_≡_, refl, sym, ap, _∙_, subst}
@@ -6,32 +6,37 @@ use mathlib.Core.Logic.{_⊎_, inl, inr, ⊎-elim}
 use mathlib.Core.Bool.{Bool, true, false, cond, not, _&&_}
 use mathlib.Core.List.{List, [], _∷_}
 use mathlib.Core.Option.{Option, none, some}
+use native.Mathlib.Nat.{min-le-left}
 use native.Mathlib.Omega.{arith}
-use lib.Dec.{eqb}
+use lib.Dec.{eqb, ltb}
+use lib.ListN.{length, take, drop, getD, length-take}
+use lib.Seq.{getD-take, getD-drop}
 use lib.Ieee.{Float, lt}
-use borrow.Author.Tests.{eq-eqb, eqb-true}
+use borrow.Author.Tests.{ltb-true, ltb-false, eq-eqb, eqb-true}
 use Rattle.vector.specs.declared.Point3f.{Point3f}
 use Rattle.points.specs.Points.{pointAt}
 use Rattle.sorting.specs.Insertion.{insertBefore}
 use Rattle.grid.specs.Index.{earlier}
+use Rattle.regions.specs.Regions.{neighborsAt}
 use Rattle.spatial_hash.specs.Near.{Finite}
 use Rattle.patch.specs.Count.{bit, count}
 use Rattle.patch.specs.Search.{Floats, unused, isSecond, isThird, thirdOf, secondOf, firstOf, numbers, Below}
 use Rattle.patch.proofs.Counts.{either, not-true, true-not-false, and-both}
 use Rattle.decisions.specs.declared.Scene.{Scene}
 use Rattle.decisions.specs.Decisions.{reach, apart, isClose, accepts, qualityAt, floatsOf}
-use Rattle.decisions.specs.Refused.{isSmall, Hopeless}
+use Rattle.decisions.specs.declared.refused.Limits.{Limits}
+use Rattle.decisions.specs.Refused.{Refused, Hopeless}
 use Rattle.decisions.proofs.Within.{within}
-use Rattle.decisions.proofs.Refusals.{small-turned, small-accepts, hopeless-accepts}
+use Rattle.decisions.proofs.Refusals.{refused-turned, refused-accepts, hopeless-accepts}
 use Rattle.search.specs.declared.nearby.Filter.{Filter}
-use Rattle.search.specs.Ready.{usedIn, listed, withSecond, withFirst}
+use Rattle.search.specs.Ready.{Listed, usedIn, listed, withSecond, withFirst}
 use Rattle.search.specs.Narrow.{insertAll, inReach, cellAt, passes, Filters, Collected, Narrowed}
-use Rattle.search.specs.Spread.{spread, tooSmall, smallBeside, allSmall, Spans, Judged, Listing}
+use Rattle.search.specs.Spread.{spread, tooSmall, AllRefused, Spans, Judged, Listing}
 use Rattle.search.proofs.Keeping.{kept-self}
 use Rattle.search.proofs.Ordered.{and-false, insert-count}
 use Rattle.search.proofs.Laws.{chosen, passed, orElse, third-miss, third-end, second-step, second-end, first-tried, first-used, first-spent, first-end}
 use Rattle.search.proofs.LeftOut.{finite-point, out-of-reach, second-out, third-out}
-use Rattle.search.proofs.Narrowing.{in-reach}
+use Rattle.search.proofs.Narrowing.{in-reach, in-unused}
 use Rattle.search.proofs.Spread.{in-either, spread-accepts}
 
 -- ---- where no third point serves
@@ -90,16 +95,16 @@ module _ (s : Scene) (pts : List Float) (r : Float) (used : List ℕ) where
 pub listing : {s : Scene} {pts : List Float} {r : Float} {i : ℕ} {f : Filter} {w u : List ℕ} {found : ℕ} {p : Point3f} → p ≡ pointAt pts i → Filters s p p (reach r) f → Collected s pts f w u found → Listing s pts r i f u found
 listing {s} {pts} {r} {f = f} {u = u} e x c = record {
   filters = subst (λ (q : Point3f). Filters s q q (reach r) f) e x;
-  collected = record { most = c .most; below = c .below; once = c .once; complete = c .complete; kept = kept-self s u };
+  collected = record { most = c .most; below = c .below; once = c .once; complete = λ k h t. c .complete k h (subst (λ (l : List ℕ). unused (take (s .n) l) k ≡ true) (c .kept .after) t); kept = kept-self s u };
 }
 
 -- a point that may be chosen is among the listed ones
 listed-near : {s : Scene} {pts : List Float} {r : Float} {i : ℕ} {f : Filter} {w : List ℕ} {found : ℕ} → Listing s pts r i f w found → (k : ℕ) → k < s .n
     → inReach pts (usedIn s w) (pointAt pts i) (f .limit) k ≡ true → 1 ≤ count (eqb k) (listed s w found)
 listed-near {s} {pts} {i = i} {f = f} {w = w} l k h t =
-    l .collected .complete k h (rw (l .filters .center-is) (in-reach pts (usedIn s w) (pointAt pts i) (f .limit) k t))
+    l .collected .complete k h (in-unused pts (usedIn s w) (pointAt pts i) (f .limit) k t) (rw (l .filters .center-is) (in-reach pts (usedIn s w) (pointAt pts i) (f .limit) k t))
 
-pub small-nothing : {s : Scene} {pts : List Float} {r limit : Float} {i : ℕ} {f : Filter} {w : List ℕ} {found : ℕ} {v : Point3f} → Judged s pts limit → i < s .n → Listing s pts r i f w found
+pub small-nothing : {s : Scene} {pts : List Float} {r : Float} {l : Limits} {i : ℕ} {f : Filter} {w : List ℕ} {found : ℕ} {v : Point3f} → Judged s pts r l → i < s .n → Listing s pts r i f w found
     → v ≡ spread pts (pointAt pts i) (listed s w found) → tooSmall s v v ≡ true → withFirst (floatsOf s pts) r (usedIn s w) i ≡ none
 small-nothing {s} {pts} {r} {i = i} {f = f} {w = w} {found = found} {v = v} g hi l e h = first-around s pts r (usedIn s w) i go
   where
@@ -122,7 +127,7 @@ small-nothing {s} {pts} {r} {i = i} {f = f} {w = w} {found = found} {v = v} g hi
 
 -- ---- a radius that is hopeless
 
-close-second : (s : Scene) (pts : List Float) (r : Float) (used : List ℕ) (i j : ℕ) → isSecond (floatsOf s pts) r used i j ≡ true → isClose pts r i j ≡ true
+pub close-second : (s : Scene) (pts : List Float) (r : Float) (used : List ℕ) (i j : ℕ) → isSecond (floatsOf s pts) r used i j ≡ true → isClose pts r i j ≡ true
 unfolding isSecond floatsOf
 close-second s pts r used i j h = and-both {p = unused used j} (and-both {p = not (eqb i j)} h .1) .1
 
@@ -140,13 +145,13 @@ hopeless-nothing s pts r used tries numbers h = first-nothing (floatsOf s pts) r
     none-of : (i : ℕ) → i < s .n → (j : ℕ) → j < s .n → isSecond (floatsOf s pts) r used i j ≡ true → (k : ℕ) → k < s .n → isThird (floatsOf s pts) r used i j k ≡ false
     none-of i hi j hj second k hk = not-true (λ third.
         let p = third-parts s pts r used i j k third in
-        true-not-false (p .1 .1) (hopeless-accepts s pts r i j k h (finite-point (numbers i hi)) (finite-point (numbers j hj)) (finite-point (numbers k hk)) (close-second s pts r used i j second) (p .0) (p .1 .0)))
+        true-not-false (p .1 .1) (hopeless-accepts s pts r i j k (finite-point (numbers i hi)) (finite-point (numbers j hj)) (finite-point (numbers k hk)) (close-second s pts r used i j second) (p .0) (p .1 .0) h))
 
 -- ---- a second point that is too near
 
-pub near-nothing : {s : Scene} {pts : List Float} {limit : Float} {i j : ℕ} {ks : List ℕ} {u v : Point3f} (r : Float) (used : List ℕ) → Judged s pts limit → i < s .n → j < s .n → Spans s pts i ks v
+pub near-nothing : {s : Scene} {pts : List Float} {r : Float} {l : Limits} {i j : ℕ} {ks : List ℕ} {u v : Point3f} (used : List ℕ) → Judged s pts r l → i < s .n → j < s .n → Spans s pts i ks v
     → u ≡ spread pts (pointAt pts i) (j ∷ []) → tooSmall s u v ≡ true → thirdOf (floatsOf s pts) r used i j ks ≡ none
-near-nothing {s} {pts} {i = i} {j = j} {ks = ks} {u = u} {v = v} r used g hi hj x e h =
+near-nothing {s} {pts} {r} {i = i} {j = j} {ks = ks} {u = u} {v = v} used g hi hj x e h =
     let self : eqb j j ≡ true = eq-eqb j j refl in
     let one : 1 ≤ count (eqb j) (j ∷ []) = rw self (omega arith) in
     third-nothing (floatsOf s pts) r used i j ks (λ k c.
@@ -154,35 +159,50 @@ near-nothing {s} {pts} {i = i} {j = j} {ks = ks} {u = u} {v = v} r used g hi hj 
     (spread-accepts s pts r i j k (finite-point (g .numbers i hi)) (finite-point (g .numbers j hj)) (finite-point (g .numbers k (x .below k (x .among k c)))) (j ∷ []) (x .all) one (x .among k c)
     (ap (λ (z : Point3f). tooSmall s z (spread pts (pointAt pts i) (x .all))) (sym e) ∙ ap (tooSmall s u) (sym (x .is)) ∙ h)))
 
--- ---- points all triangles of which are small
+-- ---- points all triangles of which are refused
 
-beside-small : (pts : List Float) (t : Float) (i j : ℕ) (ks : List ℕ) → smallBeside pts t i j ks ≡ true → (k : ℕ) → 1 ≤ count (eqb k) ks → isSmall pts t i j k ≡ true
-unfolding smallBeside
-beside-small pts t i j [] h k c = absurd (omega arith)
-beside-small pts t i j (m ∷ ks) h k c =
-    let b = and-both {p = isSmall pts t i j m} h in
-    in-either (eqb k m) (λ e. ap (isSmall pts t i j) (eqb-true k m e) ∙ b .0) (beside-small pts t i j ks (b .1) k) c
+pub limits-third : {s : Scene} {pts : List Float} {r : Float} {l : Limits} {i j k : ℕ} (used : List ℕ) → Judged s pts r l → i < s .n → j < s .n → k < s .n → isClose pts r i j ≡ true → Refused l (pointAt pts i) (pointAt pts j) (pointAt pts k)
+    → isThird (floatsOf s pts) r used i j k ≡ false
+limits-third {s} {pts} {r} {l} {i} {j} {k} used g hi hj hk close h = not-true (λ third.
+    let p = third-parts s pts r used i j k third in
+    true-not-false (p .1 .1) (refused-accepts s pts r i j k (finite-point (g .numbers i hi)) (finite-point (g .numbers j hj)) (finite-point (g .numbers k hk)) close (p .0) (p .1 .0) (g .limits) h))
 
--- of two different ones one stands after the other
-pair-small : (pts : List Float) (t : Float) (i : ℕ) (ks : List ℕ) → allSmall pts t i ks ≡ true → (j k : ℕ) → 1 ≤ count (eqb j) ks → 1 ≤ count (eqb k) ks → (j ≡ k) ⊎ (isSmall pts t i j k ≡ true)
-unfolding allSmall
-pair-small pts t i [] h j k a c = absurd (omega arith)
-pair-small pts t i (m ∷ ks) h j k a c =
-    let b = and-both {p = smallBeside pts t i m ks} h in
-    let after = beside-small pts t i m ks (b .0) in
-    in-either (eqb j m)
-    (λ e.
-    let x = eqb-true j m e in
-    in-either (eqb k m) (λ f. inl (x ∙ sym (eqb-true k m f))) (λ d. inr (ap (λ (y : ℕ). isSmall pts t i y k) x ∙ after k d)) c)
-    (λ d. in-either (eqb k m) (λ f. inr (small-turned pts t i j k ∙ ap (λ (y : ℕ). isSmall pts t i y j) (eqb-true k m f) ∙ after j d)) (λ g. pair-small pts t i ks (b .1) j k d g) c)
-    a
+-- what is in a list stands somewhere
+place-of : (k : ℕ) (xs : List ℕ) → 1 ≤ count (eqb k) xs → (m : ℕ) × ((m < length xs) × (getD xs m 0 ≡ k))
+place-of k [] h = absurd (omega arith)
+place-of k (x ∷ xs) h = in-either (eqb k x) (λ e. (0, (omega arith, sym (eqb-true k x e)))) (λ c. let r = place-of k xs c in (suc (r .0), (omega (arith, r .1 .0), r .1 .1))) h
 
-pub all-small-nothing : {s : Scene} {pts : List Float} {limit : Float} (r : Float) (used : List ℕ) (i : ℕ) (ks : List ℕ) → Judged s pts limit → allSmall pts limit i ks ≡ true → secondOf (floatsOf s pts) r used i ks ks ≡ none
-all-small-nothing {s} {pts} {limit} r used i ks g h =
-    second-nothing (floatsOf s pts) r used i ks ks (λ j hj t k hk. ⊎-elim (same-third s pts r used i j k) (λ (e : isSmall pts limit i j k ≡ true). third-refused s pts r used i j k (small-accepts s pts r i j k limit (g .limits) e)) (pair-small pts limit i ks h j k hj hk))
+listed-place : (s : Scene) (w : List ℕ) (c k : ℕ) → 1 ≤ count (eqb k) (listed s w c) → (m : ℕ) × ((m < c) × (getD w (neighborsAt (s .n) + m) 0 ≡ k))
+listed-place s w c k h =
+    let r = place-of k (listed s w c) h in
+    let z : r .0 < c = omega (arith, r .1 .0, length-take c (drop (neighborsAt (s .n)) w), min-le-left c (length (drop (neighborsAt (s .n)) w))) in
+    (r .0, (z, sym (getD-take c (drop (neighborsAt (s .n)) w) (r .0) 0 z ∙ getD-drop (neighborsAt (s .n)) w (r .0) 0) ∙ r .1 .1))
+
+same-third : (s : Scene) (pts : List Float) (r : Float) (used : List ℕ) (i j k : ℕ) → j ≡ k → isThird (floatsOf s pts) r used i j k ≡ false
+unfolding isThird
+same-third s pts r used i j k e = rw (eq-eqb j k e) (and-false (not (eqb i k)))
+
+pub all-refused-nothing : {s : Scene} {pts : List Float} {r : Float} {l : Limits} {w : List ℕ} {c i : ℕ} (used : List ℕ) → Judged s pts r l → Listed s w c → i < s .n → AllRefused pts l w (neighborsAt (s .n)) c i
+    → secondOf (floatsOf s pts) r used i (listed s w c) (listed s w c) ≡ none
+all-refused-nothing {s} {pts} {r} {l} {w} {c} {i} used g b hi h = second-nothing (floatsOf s pts) r used i (listed s w c) (listed s w c) (λ j hj second k hk. two j k second (listed-place s w c j hj) (listed-place s w c k hk))
   where
-    same-third : (s : Scene) (pts : List Float) (r : Float) (used : List ℕ) (i j k : ℕ) → j ≡ k → isThird (floatsOf s pts) r used i j k ≡ false
-    same-third s pts r used i j k e = unfold isThird in rw (eq-eqb j k e) (and-false (not (eqb i k)))
+    pair : (a d : ℕ) → a < c → d < c → isSecond (floatsOf s pts) r used i (getD w (neighborsAt (s .n) + a) 0) ≡ true → isThird (floatsOf s pts) r used i (getD w (neighborsAt (s .n) + a) 0) (getD w (neighborsAt (s .n) + d) 0) ≡ false
+    pair a d ha hd second =
+        let third = limits-third used g hi (b .below a ha) (b .below d hd) (close-second s pts r used i (getD w (neighborsAt (s .n) + a) 0) second) in
+        ⊎-elim (λ (t : ltb a d ≡ true). third (h a ha d (let z = ltb-true a d t in omega arith) hd))
+        (λ (t : ltb a d ≡ false). ⊎-elim (λ (u : ltb d a ≡ true). third (refused-turned (h d hd a (let z = ltb-true d a u in omega arith) ha)))
+        (λ (u : ltb d a ≡ false).
+        let z : a ≡ d = omega (arith, ltb-false a d t, ltb-false d a u) in
+        same-third s pts r used i (getD w (neighborsAt (s .n) + a) 0) (getD w (neighborsAt (s .n) + d) 0) (ap (λ (m : ℕ). getD w (neighborsAt (s .n) + m) 0) z))
+        (either (ltb d a)))
+        (either (ltb a d))
+
+    two : (j k : ℕ) → isSecond (floatsOf s pts) r used i j ≡ true → (m : ℕ) × ((m < c) × (getD w (neighborsAt (s .n) + m) 0 ≡ j)) → (m : ℕ) × ((m < c) × (getD w (neighborsAt (s .n) + m) 0 ≡ k)) → isThird (floatsOf s pts) r used i j k ≡ false
+    two j k second x y =
+        let e = x .1 .1 in
+        subst (λ (z : ℕ). isThird (floatsOf s pts) r used i j z ≡ false) (y .1 .1)
+        (subst (λ (z : ℕ). isThird (floatsOf s pts) r used i z (getD w (neighborsAt (s .n) + y .0) 0) ≡ false) e
+        (pair (x .0) (y .0) (x .1 .0) (y .1 .0) (subst (λ (z : ℕ). isSecond (floatsOf s pts) r used i z ≡ true) (sym e) second)))
 
 -- ---- what is left of the listed points is among them
 

@@ -19,7 +19,7 @@ use Rattle.search.specs.Narrow.{only, insertAll}
 abbrev pub In : ℕ → List ℕ → Type 0
 In k xs = 1 ≤ count (eqb k) xs
 
-in-head : (x : ℕ) (xs : List ℕ) → In x (x ∷ xs)
+pub in-head : (x : ℕ) (xs : List ℕ) → In x (x ∷ xs)
 in-head x xs = rw (eq-eqb x x refl) (omega arith)
 
 pub in-at : (xs : List ℕ) (m : ℕ) → m < length xs → In (getD xs m 0) xs
@@ -28,7 +28,7 @@ in-at (x ∷ xs) zero h = in-head x xs
 in-at (x ∷ xs) (suc m) h = let i = in-at xs m (omega arith) in omega arith
 
 -- a member is the first one or stands in the rest
-in-cases : (P : ℕ → Type 0) (x : ℕ) (xs : List ℕ) → P x → ((k : ℕ) → In k xs → P k) → (k : ℕ) → In k (x ∷ xs) → P k
+pub in-cases : (P : ℕ → Type 0) (x : ℕ) (xs : List ℕ) → P x → ((k : ℕ) → In k xs → P k) → (k : ℕ) → In k (x ∷ xs) → P k
 in-cases P x xs here later k h = ⊎-elim
     (λ (t : eqb k x ≡ true). subst P (sym (eqb-true k x t)) here)
     (λ (t : eqb k x ≡ false). later k (let z : bit (eqb k x) ≡ 0 = ap bit t in omega arith))

@@ -1,13 +1,14 @@
--- A spread bounds what lies in it, so that two spreads whose bound of the area is below the least hold no acceptable triangle (`spread-accepts`); and the loops over listed points that ask for areas. Assumes nothing.
+-- A spread bounds what lies in it, so that two spreads whose bound of the area is below the least hold no acceptable triangle (`spread-accepts`); and the loops over listed points. Assumes nothing.
 use Prim.Native.Nat.{ℕ, _+_, _≤_, _<_}
 use mathlib.Core.Path.{_≡_, refl, sym, ap, _∙_, subst}
-use mathlib.Core.Bool.{Bool, true, false, _&&_}
+use mathlib.Core.Logic.{⊎-elim}
+use mathlib.Core.Bool.{Bool, true, false}
 use mathlib.Core.List.{List, [], _∷_}
 use native.Mathlib.Omega.{arith}
-use lib.Dec.{eqb}
+use lib.Dec.{eqb, ltb}
 use lib.ListN.{length, take, drop, getD}
 use lib.Ieee.{Float}
-use borrow.Author.Tests.{eqb-true}
+use borrow.Author.Tests.{ltb-true, ltb-false, eqb-true, eqb-false}
 use Rattle.numbers.specs.Rounded.{f32}
 use Rattle.vector.specs.Vector.{point, difference}
 use Rattle.area_bounds.specs.AreaBound.{widen}
@@ -16,11 +17,13 @@ use Rattle.vector.proofs.Distances.{FinitePoint}
 use Rattle.area_bounds.proofs.AreaBound.{Bounds, Unsigned, widen-unsigned, widen-keeps, widen-bounds, zero-unsigned}
 use Rattle.points.specs.Points.{pointAt}
 use Rattle.patch.specs.Count.{bit, count}
+use Rattle.patch.proofs.Counts.{either}
 use Rattle.decisions.specs.declared.Scene.{Scene}
 use Rattle.decisions.specs.Decisions.{accepts, qualityAt}
-use Rattle.decisions.specs.Refused.{isSmall}
+use Rattle.decisions.specs.declared.refused.Limits.{Limits}
+use Rattle.decisions.specs.Refused.{Refused}
 use Rattle.decisions.proofs.Refusals.{bounded-accepts}
-use Rattle.search.specs.Spread.{spreadFrom, spread, tooSmall, smallBeside, allSmall}
+use Rattle.search.specs.Spread.{spreadFrom, spread, tooSmall}
 use Rattle.search.proofs.Laws.{part-step, part-end}
 
 -- what is in a list is its head or in the rest
@@ -79,42 +82,13 @@ module _ {pts : List Float} {w : List ℕ} {at count : ℕ} {p v : Point3f} wher
   pub spread-end : {m : ℕ} → Spreading pts w at count p v m → count ≤ m → v ≡ spread pts p (take count (drop at w))
   spread-end {m} k h = sym (k .same ∙ ap (spreadFrom pts p v) (part-end w at count m h) ∙ (unfold spreadFrom in refl))
 
--- ---- the loops of `is_small_beside` and `are_all_small` at the m-th of the points that stand from `at` on: the answer is that of the rest
+-- ---- the loops that ask limits: what holds below m and of m holds below m + 1
 
-pub record Rest (w : List ℕ) (at count : ℕ) (f : List ℕ → Bool) (answer : Bool) (m : ℕ) : Type 0 where
-  pub long : at + count ≤ length w
-  pub inside : m ≤ count
-  pub same : answer ≡ f (drop m (take count (drop at w)))
+pub below-next : {P : ℕ → Type 0} {m : ℕ} → ((x : ℕ) → x < m → P x) → P m → (x : ℕ) → x < m + 1 → P x
+below-next {P} {m} f p x h = ⊎-elim (λ (t : eqb x m ≡ true). subst P (sym (eqb-true x m t)) p) (λ (t : eqb x m ≡ false). f x (less (eqb-false x m t))) (either (eqb x m))
+  where
+    less : (x ≡ m → ⊥) → x < m
+    less n = ⊎-elim (λ (t : ltb x m ≡ true). ltb-true x m t) (λ (t : ltb x m ≡ false). absurd (n (let z = ltb-false x m t in omega arith))) (either (ltb x m))
 
-module _ {w : List ℕ} {at count : ℕ} {f : List ℕ → Bool} {answer : Bool} {m : ℕ} (k : Rest w at count f answer m) where
-  -- where the m-th is asked first, and then the others
-  module _ {b : Bool} (g : List ℕ → Bool) (step : (xs : List ℕ) → f (getD w (at + m) 0 ∷ xs) ≡ (g xs && f xs)) (h : m < count) (e : b ≡ g (drop (m + 1) (take count (drop at w)))) where
-    turn : answer ≡ (b && f (drop (m + 1) (take count (drop at w))))
-    turn =
-        let xs = drop (m + 1) (take count (drop at w)) in
-        k .same ∙ ap f (part-step w at count m (k .long) h) ∙ step xs ∙ ap (λ (y : Bool). y && f xs) (sym e)
-
-    pub rest-on : b ≡ true → Rest w at count f answer (m + 1)
-    rest-on t = record { long = k .long; inside = omega arith; same = turn ∙ ap (λ (y : Bool). y && f (drop (m + 1) (take count (drop at w)))) t }
-
-    pub rest-off : b ≡ false → false ≡ answer
-    rest-off t = sym (turn ∙ ap (λ (y : Bool). y && f (drop (m + 1) (take count (drop at w)))) t)
-
-  pub rest-end : count ≤ m → answer ≡ f []
-  rest-end h = k .same ∙ ap f (part-end w at count m h)
-
-pub beside-step : (pts : List Float) (t : Float) (i j k : ℕ) (ks : List ℕ) → smallBeside pts t i j (k ∷ ks) ≡ (isSmall pts t i j k && smallBeside pts t i j ks)
-unfolding smallBeside
-beside-step pts t i j k ks = refl
-
-pub beside-end : (pts : List Float) (t : Float) (i j : ℕ) → smallBeside pts t i j [] ≡ true
-unfolding smallBeside
-beside-end pts t i j = refl
-
-pub all-step : (pts : List Float) (t : Float) (i j : ℕ) (js : List ℕ) → allSmall pts t i (j ∷ js) ≡ (smallBeside pts t i j js && allSmall pts t i js)
-unfolding allSmall
-all-step pts t i j js = refl
-
-pub all-end : (pts : List Float) (t : Float) (i : ℕ) → allSmall pts t i [] ≡ true
-unfolding allSmall
-all-end pts t i = refl
+pub refused-points : {l : Limits} {p q t x y z : Point3f} → p ≡ x → q ≡ y → t ≡ z → Refused l p q t → Refused l x y z
+refused-points {l} {p} {q} {t} {x} {y} {z} e f g h = subst (λ (k : Point3f). Refused l k y z) e (subst (λ (k : Point3f). Refused l p k z) f (subst (Refused l p q) g h))

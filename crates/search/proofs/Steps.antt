@@ -1,6 +1,6 @@
 -- The loops over the neighbours that are kept in the slice, turn by turn. Assumes nothing.
 use Prim.Native.Nat.{ℕ, _+_, _*_, _≤_, _<_}
-use mathlib.Core.Path.{_≡_, refl, sym, ap, _∙_}
+use mathlib.Core.Path.{_≡_, refl, sym, ap, _∙_, subst}
 use mathlib.Core.Bool.{Bool, true, false}
 use mathlib.Core.List.{List, [], _∷_}
 use mathlib.Core.Option.{Option, none, some}
@@ -8,10 +8,11 @@ use native.Mathlib.Omega.{arith}
 use lib.ListN.{length, drop, getD}
 use lib.Ieee.{Float}
 use Rattle.numbers.specs.Rounded.{f32}
+use Rattle.grid.specs.Index.{earlier}
 use Rattle.patch.specs.Lay.{edge}
-use Rattle.patch.specs.Search.{isThird, thirdOf, secondOf, scoreOf, bestOf}
+use Rattle.patch.specs.Search.{isThird, thirdOf, secondOf}
 use Rattle.decisions.specs.Decisions.{floatsOf}
-use Rattle.decisions.specs.Found.{scoreFound, above}
+use Rattle.decisions.specs.Found.{scoreFound}
 use Rattle.decisions.specs.declared.Scene.{Scene}
 use Rattle.decisions.specs.declared.Score.{Score}
 use Rattle.decisions.specs.declared.Score.the-variants.{Of, None}
@@ -19,8 +20,11 @@ use Rattle.search.specs.declared.Seed.{Seed}
 use Rattle.search.specs.declared.Seed.the-variants.{Triangle, Nothing}
 use Rattle.search.specs.declared.Pivot.{Pivot}
 use Rattle.search.specs.declared.Pivot.the-variants.{To, Nowhere}
-use Rattle.search.specs.Ready.{Held, Listed, usedIn, listed, seedFound, pivotFound, withSecond}
-use Rattle.search.proofs.Laws.{part-step, part-end, else-hit, else-miss, third-hit, third-miss, third-end, second-step, second-end, best-none, best-more, best-end}
+use Rattle.search.specs.Ready.{Held, Listed, Met, usedIn, listed, seedFound, pivotFound, pointOf, withSecond}
+use Rattle.search.specs.declared.nearby.Filter.{Filter}
+use Rattle.search.specs.Narrow.{cellAt}
+use Rattle.search.specs.Best.{ahead, leader, scoreIn}
+use Rattle.search.proofs.Laws.{part-step, part-end, else-hit, else-miss, third-hit, third-miss, third-end, second-step, second-end}
 
 -- ---- any search through the list
 
@@ -104,35 +108,54 @@ module _ {s : Scene} {pts : List Float} {r : Float} {w : List ℕ} {count i : �
 
 -- ---- the candidates
 
--- the point of a pivot
-abbrev pub pointOf : Pivot → Option ℕ
-pointOf Nowhere = none
-pointOf (To k) = some k
-
 point-found : (p : Pivot) → pivotFound (pointOf p) ≡ p
 point-found Nowhere = refl
 point-found (To k) = refl
 
+-- the score of k, if it becomes the best
+abbrev pub aheads : Scene → List Float → Float → Filter → List ℕ → ℕ → ℕ → Float → Pivot → ℕ → Option Float
+aheads s pts r f w a b top best k = ahead (earlier (s .indexed) (cellAt (s .grid) pts)) top (pointOf best) k (scoreIn s pts r (usedIn s w) f (edge a b) k)
+
 -- the best of ks, given the best so far
-abbrev pub bests : Scene → List Float → Float → List ℕ → ℕ → ℕ → Float → Pivot → List ℕ → Option ℕ
-bests s pts r w a b top best ks = bestOf (floatsOf s pts) r (usedIn s w) (edge a b) ks top (pointOf best)
+abbrev pub bests : Scene → List Float → Float → Filter → List ℕ → ℕ → ℕ → Float → Pivot → List ℕ → Option ℕ
+bests s pts r f w a b top best ks = leader (earlier (s .indexed) (cellAt (s .grid) pts)) (scoreIn s pts r (usedIn s w) f (edge a b)) ks top (pointOf best)
+
+-- what the score of k, or none, leads to
+abbrev turn : (ℕ → ℕ → Bool) → (ℕ → Option Float) → ℕ → List ℕ → Float → Option ℕ → Option Float → Option ℕ
+turn less score k ks top best o = elim o as (λ c. Option ℕ) [ none ↦ leader less score ks top best | some x ↦ leader less score ks x (some k) ]
+
+turn-none : (less : ℕ → ℕ → Bool) (score : ℕ → Option Float) (k : ℕ) (ks : List ℕ) (top : Float) (best : Option ℕ) (o : Option Float) → scoreFound o ≡ None → turn less score k ks top best o ≡ leader less score ks top best
+turn-none less score k ks top best none h = refl
+turn-none less score k ks top best (some x) h = absurd (let z : _≡_ {A = ℕ} 0 1 = cc in omega arith)
+
+turn-more : (less : ℕ → ℕ → Bool) (score : ℕ → Option Float) (k : ℕ) (ks : List ℕ) (top x : Float) (best : Option ℕ) (o : Option Float) → scoreFound o ≡ Of x → turn less score k ks top best o ≡ leader less score ks x (some k)
+turn-more less score k ks top x best none h = absurd (let z : _≡_ {A = ℕ} 0 1 = cc in omega arith)
+turn-more less score k ks top x best (some y) h = let q : y ≡ x = cc in ap (λ (v : Float). leader less score ks v (some k)) q
 
 -- the loop of `best_of` at the m-th neighbour
-pub record Best (s : Scene) (pts : List Float) (r : Float) (w : List ℕ) (count a b : ℕ) (top : Float) (best : Pivot) (m : ℕ) : Type 0 where
-  pub rest : Rest s w count (bests s pts r w a b (f32 0) Nowhere (listed s w count)) (bests s pts r w a b top best) m
+pub record Best (s : Scene) (pts : List Float) (r : Float) (f : Filter) (w : List ℕ) (count a b : ℕ) (top : Float) (best : Pivot) (m : ℕ) : Type 0 where
+  pub rest : Rest s w count (bests s pts r f w a b (f32 0) Nowhere (listed s w count)) (bests s pts r f w a b top best) m
+  pub met : Met s best
 
-module _ {s : Scene} {pts : List Float} {r : Float} {w : List ℕ} {count a b : ℕ} where
-  pub best-start : Held s pts w → Listed s w count → Best s pts r w count a b (f32 0) Nowhere 0
-  best-start h l = record { rest = rest-start h l (bests s pts r w a b (f32 0) Nowhere) }
+module _ {s : Scene} {pts : List Float} {r : Float} {f : Filter} {w : List ℕ} {count a b : ℕ} where
+  pub best-start : Held s pts w → Listed s w count → Best s pts r f w count a b (f32 0) Nowhere 0
+  best-start h l = record { rest = rest-start h l (bests s pts r f w a b (f32 0) Nowhere); met = λ k e. absurd (let z : _≡_ {A = ℕ} 0 1 = cc in omega arith) }
 
-  module _ {top : Float} {best : Pivot} {m : ℕ} (k : Best s pts r w count a b top best m) where
-    pub best-skip : {o : Score} → m < count → o ≡ scoreFound (above top (scoreOf (floatsOf s pts) r (usedIn s w) (edge a b) (nth s w m))) → o ≡ None → Best s pts r w count a b top best (m + 1)
-    best-skip h e t = record { rest = rest-step (k .rest) h (bests s pts r w a b top best) (λ (ks : List ℕ). best-none (floatsOf s pts) r (usedIn s w) (edge a b) (nth s w m) ks top (pointOf best) (sym e ∙ t)) }
-
-    pub best-taken : {o : Score} {x : Float} → m < count → o ≡ scoreFound (above top (scoreOf (floatsOf s pts) r (usedIn s w) (edge a b) (nth s w m))) → o ≡ Of x → Best s pts r w count a b x (To (nth s w m)) (m + 1)
-    best-taken {x = x} h e t = record {
-      rest = rest-step (k .rest) h (bests s pts r w a b x (To (nth s w m))) (λ (ks : List ℕ). best-more (floatsOf s pts) r (usedIn s w) (edge a b) (nth s w m) ks top x (pointOf best) (sym e ∙ t));
+  module _ {top : Float} {best : Pivot} {m : ℕ} (k : Best s pts r f w count a b top best m) where
+    pub best-skip : {o : Score} → m < count → o ≡ scoreFound (aheads s pts r f w a b top best (nth s w m)) → o ≡ None → Best s pts r f w count a b top best (m + 1)
+    unfolding leader
+    best-skip h e t = record {
+      rest = rest-step (k .rest) h (bests s pts r f w a b top best) (λ (ks : List ℕ). turn-none (earlier (s .indexed) (cellAt (s .grid) pts)) (scoreIn s pts r (usedIn s w) f (edge a b)) (nth s w m) ks top (pointOf best) (aheads s pts r f w a b top best (nth s w m)) (sym e ∙ t));
+      met = k .met;
     }
 
-    pub best-all : count ≤ m → best ≡ pivotFound (bests s pts r w a b (f32 0) Nowhere (listed s w count))
-    best-all h = sym (ap pivotFound (rest-end (k .rest) h ∙ best-end (floatsOf s pts) r (usedIn s w) (edge a b) top (pointOf best)) ∙ point-found best)
+    pub best-taken : {o : Score} {x : Float} → Listed s w count → m < count → o ≡ scoreFound (aheads s pts r f w a b top best (nth s w m)) → o ≡ Of x → Best s pts r f w count a b x (To (nth s w m)) (m + 1)
+    unfolding leader
+    best-taken {x = x} l h e t = record {
+      rest = rest-step (k .rest) h (bests s pts r f w a b x (To (nth s w m))) (λ (ks : List ℕ). turn-more (earlier (s .indexed) (cellAt (s .grid) pts)) (scoreIn s pts r (usedIn s w) f (edge a b)) (nth s w m) ks top x (pointOf best) (aheads s pts r f w a b top best (nth s w m)) (sym e ∙ t));
+      met = λ j q. let i : nth s w m ≡ j = cc in subst (λ (v : ℕ). v < s .n) i (l .below m h);
+    }
+
+    pub best-all : count ≤ m → best ≡ pivotFound (bests s pts r f w a b (f32 0) Nowhere (listed s w count))
+    unfolding leader
+    best-all h = sym (ap pivotFound (rest-end (k .rest) h) ∙ point-found best)

@@ -1,7 +1,7 @@
 -- Of the neighbours of a place those that a search has to look at. Definitions only.
 use Prim.Native.Nat.{ℕ, _≤_, _<_}
 use mathlib.Core.Path.{_≡_}
-use mathlib.Core.Bool.{Bool, false, cond, not, _&&_, _||_}
+use mathlib.Core.Bool.{Bool, true, false, cond, not, _&&_, _||_}
 use mathlib.Core.List.{List, [], _∷_}
 use lib.Dec.{eqb}
 use lib.Ieee.{Float, lt}
@@ -61,12 +61,12 @@ pub record Filters (s : Scene) (p q : Point3f) (r : Float) (f : Filter) : Type 0
   pub cell-is : f .cell ≡ cellOf (s .grid) q
   pub range-is : f .range ≡ rangeOf (s .grid) r
 
--- r points are listed, each once, and all within the filter's limit among them
+-- r points are listed, each once, and all unused ones within the filter's limit among them
 pub record Collected (s : Scene) (pts : List Float) (f : Filter) (w u : List ℕ) (r : ℕ) : Type 0 where
   pub most : r ≤ s .n
   pub below : Below (s .n) (listed s u r)
   pub once : (k : ℕ) → count (eqb k) (listed s u r) ≤ 1
-  pub complete : (k : ℕ) → k < s .n → lt (f .limit) (squared (pointAt pts k) (f .center)) ≡ false → 1 ≤ count (eqb k) (listed s u r)
+  pub complete : (k : ℕ) → k < s .n → unused (usedIn s w) k ≡ true → lt (f .limit) (squared (pointAt pts k) (f .center)) ≡ false → 1 ≤ count (eqb k) (listed s u r)
   pub kept : Kept s w u
 
 -- of the `found` points r are left, those that pass, inserted in turn

@@ -48,6 +48,15 @@ abbrev pub pivotFound : Option ℕ → Pivot
 pivotFound none = Nowhere
 pivotFound (some k) = To k
 
+-- the point of a pivot
+abbrev pub pointOf : Pivot → Option ℕ
+pointOf Nowhere = none
+pointOf (To k) = some k
+
+-- it is one of the cloud
+abbrev pub Met : Scene → Pivot → Type 0
+Met s p = (k : ℕ) → p ≡ To k → k < s .n
+
 -- ---- parts of the search for a seed
 module _ {R : Type 0} (floats : Floats R) (r : R) (used : List ℕ) where
   -- the seed with j as the second point, the third being looked for among ks

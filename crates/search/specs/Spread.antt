@@ -1,13 +1,14 @@
--- How far points spread around a point, and what the search for a seed knows of areas. Definitions only.
-use Prim.Native.Nat.{ℕ, _≤_, _<_}
+-- How far points spread around a point, and what the search for a seed knows of areas and limits. Definitions only.
+use Prim.Native.Nat.{ℕ, _+_, _≤_, _<_}
 use mathlib.Core.Path.{_≡_}
-use mathlib.Core.Bool.{Bool, true, _&&_}
+use mathlib.Core.Bool.{Bool}
 use mathlib.Core.List.{List, [], _∷_}
 use lib.Dec.{eqb}
+use lib.ListN.{getD}
 use lib.Ieee.{Float, lt}
 use Rattle.numbers.specs.Rounded.{f32}
 use Rattle.vector.specs.Vector.{point, difference}
-use Rattle.area_bounds.specs.AreaBound.{widen, areaBound, AreaLimit}
+use Rattle.area_bounds.specs.AreaBound.{widen, areaBound}
 use Rattle.vector.specs.declared.Point3f.{Point3f}
 use Rattle.points.specs.Points.{pointAt}
 use Rattle.spatial_hash.specs.Near.{Finite}
@@ -15,7 +16,8 @@ use Rattle.patch.specs.Count.{count}
 use Rattle.patch.specs.Search.{Below}
 use Rattle.decisions.specs.declared.Scene.{Scene}
 use Rattle.decisions.specs.Decisions.{reach}
-use Rattle.decisions.specs.Refused.{isSmall}
+use Rattle.decisions.specs.declared.refused.Limits.{Limits}
+use Rattle.decisions.specs.Refused.{Limiting, Refused}
 use Rattle.search.specs.declared.nearby.Filter.{Filter}
 use Rattle.search.specs.Narrow.{Filters, Collected}
 
@@ -32,15 +34,13 @@ spread pts p ks = spreadFrom pts p (point (f32 0) (f32 0) (f32 0)) ks
 unfoldable pub tooSmall : Scene → Point3f → Point3f → Bool
 tooSmall s v w = lt (areaBound v w) (s .«min_triangle_area»)
 
--- the triangles of points i, j and each of the points ks are small
-unfoldable pub smallBeside : List Float → Float → ℕ → ℕ → List ℕ → Bool
-smallBeside pts t i j [] = true
-smallBeside pts t i j (k ∷ ks) = isSmall pts t i j k && smallBeside pts t i j ks
+-- limits refuse the triangles of points i, j and each of those that stand in w from `at` on, the first `from` left out
+abbrev pub RefusedAfter : List Float → Limits → List ℕ → ℕ → ℕ → ℕ → ℕ → ℕ → Type 0
+RefusedAfter pts l w at count i j from = (m : ℕ) → from ≤ m → m < count → Refused l (pointAt pts i) (pointAt pts j) (pointAt pts (getD w (at + m) 0))
 
--- those of point i and two of the points ks are
-unfoldable pub allSmall : List Float → Float → ℕ → List ℕ → Bool
-allSmall pts t i [] = true
-allSmall pts t i (j ∷ js) = smallBeside pts t i j js && allSmall pts t i js
+-- they refuse those of point i and two that stand there
+abbrev pub AllRefused : List Float → Limits → List ℕ → ℕ → ℕ → ℕ → Type 0
+AllRefused pts l w at count i = (m : ℕ) → m < count → RefusedAfter pts l w at count i (getD w (at + m) 0) (m + 1)
 
 -- v is the spread, around point i, of points of the cloud that ks are among
 pub record Spans (s : Scene) (pts : List Float) (i : ℕ) (ks : List ℕ) (v : Point3f) : Type 0 where
@@ -49,10 +49,10 @@ pub record Spans (s : Scene) (pts : List Float) (i : ℕ) (ks : List ℕ) (v : P
   pub is : v ≡ spread pts (pointAt pts i) all
   pub among : (k : ℕ) → 1 ≤ count (eqb k) ks → 1 ≤ count (eqb k) all
 
--- coordinates are numbers, and a limit is one for the least area
-pub record Judged (s : Scene) (pts : List Float) (limit : Float) : Type 0 where
+-- coordinates are numbers, and limits are those at a radius
+pub record Judged (s : Scene) (pts : List Float) (r : Float) (l : Limits) : Type 0 where
   pub numbers : (k : ℕ) → k < s .n → Finite (pointAt pts k)
-  pub limits : AreaLimit (s .«min_triangle_area») limit
+  pub limits : Limiting s r l
 
 -- the points near point i are listed, but not yet in order
 pub record Listing (s : Scene) (pts : List Float) (r : Float) (i : ℕ) (f : Filter) (w : List ℕ) (found : ℕ) : Type 0 where

@@ -1,15 +1,18 @@
-// What is too small for a seed: points in too small a spread, and lists of points all triangles of which are small.
+// Where no seed is found: among points in too small a spread, and among points all triangles of which are refused.
 use decisions::Scene;
+use decisions::refused::Limits;
 use vector::Point3f;
 ghost use mathlib.Core.Path.{_≡_};
+ghost use mathlib.Core.Bool.{true};
 ghost use mathlib.Core.List.{[], _∷_};
-ghost use Prim.Native.Nat.{_*_, _<_, _≤_, _+_};
-ghost use lib.ListN.{length, drop};
+ghost use Prim.Native.Nat.{_*_, _<_, _+_};
+ghost use lib.ListN.{length};
 ghost use Rattle.vector.specs.Vector.{difference};
 ghost use Rattle.area_bounds.specs.AreaBound.{widen};
+ghost use Rattle.regions.specs.Regions.{neighborsAt};
 ghost use Rattle.points.specs.Points.{pointAt};
 ghost use Rattle.search.specs.Ready.{Held, Listed, listed};
-ghost use Rattle.search.specs.Spread.{spread, tooSmall, smallBeside, allSmall};
+ghost use Rattle.search.specs.Spread.{spread, tooSmall, RefusedAfter, AllRefused};
 
 // The largest of what v says and how far point k is from the center, on each axis.
 fn widened(points: &[f32], center: Point3f, v: Point3f, k: usize) -> Point3f
@@ -53,25 +56,28 @@ pub fn is_too_near(s: Scene, points: &[f32], i: usize, j: usize, wide: Point3f) 
     is_too_small(s, own, wide)
 }
 
-// Whether the triangles of i, j and each of the listed points from a place on are small.
-fn is_small_beside(
+// Whether limits refuse the triangles of i, j and each of the listed points from a place on.
+fn are_refused_beside(
     s: Scene,
     points: &[f32],
     w: &[u32],
     count: usize,
-    limit: f32,
+    limits: Limits,
     i: usize,
     j: usize,
     from: usize,
 ) -> bool
-    requires { ⌜ Held s (now points) (now w) × Listed s (now w) count × (i < s .n) × (j < s .n) × (from ≤ count) ⌝ }
-    ensures { λ r. ⌜ r ≡ smallBeside (now (points .entry)) limit i j (drop from (listed s (now (w .entry)) count)) ⌝ }
+    requires { ⌜ Held s (now points) (now w) × Listed s (now w) count × (i < s .n) × (j < s .n) ⌝ }
+    ensures { λ r. ⌜ (r ≡ true → RefusedAfter (now (points .entry)) limits (now (w .entry)) (neighborsAt (s .n)) count i j from) ⌝ }
 {
     let at = 4 * s.n;
+    let first = points::point_at(points, i);
+    let second = points::point_at(points, j);
     let mut m = from;
     while m < count {
         let k = w[at + m] as usize;
-        if !decisions::refused::is_small(points, limit, i, j, k) {
+        let third = points::point_at(points, k);
+        if !decisions::refused::is_refused(limits, first, second, third) {
             return false;
         }
         m += 1;
@@ -79,24 +85,24 @@ fn is_small_beside(
     true
 }
 
-// Whether all triangles of i and two of the listed points are small.
-pub fn are_all_small(
+// Whether limits refuse all triangles of i and two of the listed points.
+pub fn are_all_refused(
     s: Scene,
     points: &[f32],
     w: &[u32],
     count: usize,
-    limit: f32,
+    limits: Limits,
     i: usize,
 ) -> bool
     requires { ⌜ Held s (now points) (now w) × Listed s (now w) count × (i < s .n) ⌝ }
-    ensures { λ r. ⌜ r ≡ allSmall (now (points .entry)) limit i (listed s (now (w .entry)) count) ⌝ }
+    ensures { λ r. ⌜ (r ≡ true → AllRefused (now (points .entry)) limits (now (w .entry)) (neighborsAt (s .n)) count i) ⌝ }
 {
     let at = 4 * s.n;
     let mut m: usize = 0;
     while m < count {
         let j = w[at + m] as usize;
         m += 1;
-        if !is_small_beside(s, points, w, count, limit, i, j, m) {
+        if !are_refused_beside(s, points, w, count, limits, i, j, m) {
             return false;
         }
     }

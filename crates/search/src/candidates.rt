@@ -1,31 +1,52 @@
-// The search for a pivot's point: the best of the candidates.
+// The search for a pivot's point: the best of the candidates, which are looked at in any order.
 use crate::Pivot;
+use crate::nearby::Filter;
 use decisions::Scene;
 use decisions::Score;
+use spatial_hash::Hash;
 ghost use mathlib.Core.Path.{_≡_};
+ghost use mathlib.Core.Bool.{not, _&&_, _||_};
 ghost use mathlib.Core.Option.{none};
-ghost use Prim.Native.Nat.{_*_, _<_, _+_};
+ghost use Prim.Native.Nat.{_*_, _<_, _≤_, _+_};
+ghost use lib.ListN.{length};
+ghost use lib.Ieee.{lt};
 ghost use Rattle.numbers.specs.Rounded.{f32};
+ghost use Rattle.vector.specs.Vector.{squared};
+ghost use Rattle.points.specs.Points.{pointAt};
+ghost use Rattle.grid.specs.Grid.{inRange};
+ghost use Rattle.grid.specs.Index.{cellIn, Cells, Indexed, earlier};
+ghost use Rattle.spatial_hash.specs.Near.{Limit, Hashed};
 ghost use Rattle.patch.specs.Lay.{edge};
 ghost use Rattle.patch.specs.Search.{scoreOf, bestOf};
 ghost use Rattle.decisions.specs.Decisions.{apart, floatsOf};
-ghost use Rattle.decisions.specs.Found.{scoreFound, above};
-ghost use Rattle.search.specs.Ready.{Held, Listed, usedIn, listed, pivotFound};
+ghost use Rattle.decisions.specs.Found.{scoreFound, atLeast};
+ghost use Rattle.search.specs.Ready.{Held, Listed, Kept, usedIn, listed, pivotFound, pointOf, Met};
+ghost use Rattle.search.specs.Narrow.{cellAt};
+ghost use Rattle.search.specs.Best.{isBefore, ahead, leader, scoreIn};
 
-// The score of point k with the edge a, b, of length `side`, if it may be met and the score is above `top`.
+// Whether the square of the distance of points k and i is above a limit. It needs no root.
+fn is_far(points: &[f32], limit: f32, k: usize, i: usize) -> bool
+    requires { ⌜ (3 * k + 2 < length (now points)) × (3 * i + 2 < length (now points)) ⌝ }
+    ensures { λ r. ⌜ r ≡ lt limit (squared (pointAt (now (points .entry)) k) (pointAt (now (points .entry)) i)) ⌝ }
+{
+    vector::distance_squared(points::point_at(points, k), points::point_at(points, i)) > limit
+}
+
+// The score of point k with the edge a, b, of length `side`, if it may be met and the score is not below `top`.
 fn score_of(
     s: Scene,
     points: &[f32],
     w: &[u32],
     radius: f32,
+    limit: f32,
     a: usize,
     b: usize,
     k: usize,
     side: f32,
     top: f32,
 ) -> Score
-    requires { ⌜ Held s (now points) (now w) × (a < s .n) × (b < s .n) × (k < s .n) × (side ≡ apart (now points) b a) ⌝ }
-    ensures { λ r. ⌜ r ≡ scoreFound (above top (scoreOf (floatsOf s (now (points .entry))) radius (usedIn s (now (w .entry))) (edge a b) k)) ⌝ }
+    requires { ⌜ Held s (now points) (now w) × (a < s .n) × (b < s .n) × (k < s .n) × (side ≡ apart (now points) b a) × Limit radius limit ⌝ }
+    ensures { λ r. ⌜ r ≡ scoreFound (atLeast top (scoreOf (floatsOf s (now (points .entry))) radius (usedIn s (now (w .entry))) (edge a b) k)) ⌝ }
 {
     if k == a {
         return Score::None;
@@ -36,21 +57,79 @@ fn score_of(
     if !crate::is_unused(s, w, k) {
         return Score::None;
     }
-    decisions::score_above(s, points, radius, a, b, k, side, top)
+    if is_far(points, limit, k, a) {
+        return Score::None;
+    }
+    if is_far(points, limit, k, b) {
+        return Score::None;
+    }
+    decisions::score_at_least(s, points, radius, a, b, k, side, top)
 }
 
-// The candidate with the highest score above 0, the first one on equality.
-pub fn best_of(
+// Whether point k comes before the best one so far, if there is one.
+fn is_before(s: Scene, w: &[u32], k: usize, best: Pivot) -> bool
+    requires { ⌜ Met s best × (k < s .n) × (s .n ≤ 4096) × (4 * s .n ≤ length (now w)) ⌝ }
+    ensures { λ r. ⌜ r ≡ isBefore (earlier (s .indexed) (cellIn (now (w .entry)) (s .n))) k (pointOf best) ⌝ }
+{
+    if let Pivot::To(j) = best {
+        return grid::order::comes_first(w, s.n, s.indexed, k, j);
+    }
+    false
+}
+
+// Whether point k, a neighbour if its cell is near enough, becomes the best with a score that is not below `top`.
+fn is_ahead(s: Scene, w: &[u32], f: Filter, k: usize, score: f32, top: f32, best: Pivot) -> bool
+    requires { ⌜ Met s best × (k < s .n) × (s .n ≤ 4096) × (4 * s .n ≤ length (now w)) ⌝ }
+    ensures { λ r. ⌜ r ≡ ((not (s .indexed) || inRange (f .range) (f .cell) (cellIn (now (w .entry)) (s .n) k))
+        && (lt top score || isBefore (earlier (s .indexed) (cellIn (now (w .entry)) (s .n))) k (pointOf best))) ⌝ }
+{
+    if !grid::search::is_near(w, s.n, s.indexed, f.range, f.cell, k) {
+        return false;
+    }
+    if score > top {
+        return true;
+    }
+    is_before(s, w, k, best)
+}
+
+// The score of point k if it becomes the best: if it is above `top`, or as high and k comes before the best so far.
+fn score_ahead(
+    s: Scene,
+    points: &[f32],
+    w: &[u32],
+    radius: f32,
+    f: Filter,
+    a: usize,
+    b: usize,
+    k: usize,
+    side: f32,
+    top: f32,
+    best: Pivot,
+) -> Score
+    requires { ⌜ Held s (now points) (now w) × Cells (s .grid) (now points) (s .n) (now w) × (a < s .n) × (b < s .n) × (k < s .n) × (side ≡ apart (now points) b a) × Limit radius (f .limit) × Met s best ⌝ }
+    ensures { λ r. ⌜ r ≡ scoreFound (ahead (earlier (s .indexed) (cellAt (s .grid) (now (points .entry)))) top (pointOf best) k (scoreIn s (now (points .entry)) radius (usedIn s (now (w .entry))) f (edge a b) k)) ⌝ }
+{
+    if let Score::Of(x) = score_of(s, points, w, radius, f.limit, a, b, k, side, top) {
+        if is_ahead(s, w, f, k, x, top, best) {
+            return Score::Of(x);
+        }
+    }
+    Score::None
+}
+
+// Of the listed points that are neighbours the one with the highest score above 0, the first in their order on equality.
+fn best_of(
     s: Scene,
     points: &[f32],
     w: &[u32],
     count: usize,
     radius: f32,
+    f: Filter,
     a: usize,
     b: usize,
 ) -> Pivot
-    requires { ⌜ Held s (now points) (now w) × Listed s (now w) count × (a < s .n) × (b < s .n) ⌝ }
-    ensures { λ r. ⌜ r ≡ pivotFound (bestOf (floatsOf s (now (points .entry))) radius (usedIn s (now (w .entry))) (edge a b) (listed s (now (w .entry)) count) (f32 0) none) ⌝ }
+    requires { ⌜ Held s (now points) (now w) × Cells (s .grid) (now points) (s .n) (now w) × Listed s (now w) count × (a < s .n) × (b < s .n) × Limit radius (f .limit) ⌝ }
+    ensures { λ r. ⌜ r ≡ pivotFound (leader (earlier (s .indexed) (cellAt (s .grid) (now (points .entry)))) (scoreIn s (now (points .entry)) radius (usedIn s (now (w .entry))) f (edge a b)) (listed s (now (w .entry)) count) (f32 0) none) ⌝ }
 {
     let at = 4 * s.n;
     let side = decisions::apart_at(points, b, a);
@@ -60,10 +139,31 @@ pub fn best_of(
     while m < count {
         let k = w[at + m] as usize;
         m += 1;
-        if let Score::Of(x) = score_of(s, points, w, radius, a, b, k, side, top) {
+        if let Score::Of(x) = score_ahead(s, points, w, radius, f, a, b, k, side, top, best) {
             top = x;
             best = Pivot::To(k);
         }
     }
     best
+}
+
+// The best point over the edge a, b.
+pub fn find_best(
+    s: Scene,
+    points: &[f32],
+    w: &mut [u32],
+    radius: f32,
+    a: usize,
+    b: usize,
+    hash: Hash,
+) -> Pivot
+    requires { ⌜ Held s (now points) (now w) × Indexed (s .grid) (now points) (s .n) (now w) × Hashed hash (now points) (s .n) (now w) × (a < s .n) × (b < s .n) ⌝ }
+    ensures { λ r. ⌜ (r ≡ pivotFound (bestOf (floatsOf s (now (points .entry))) radius (usedIn s (now (w .entry))) (edge a b) (floatsOf s (now (points .entry)) .around radius (edge a b)) (f32 0) none))
+        × Kept s (now (w .entry)) (now (w .exit)) ⌝ }
+{
+    let p = points::point_at(points, a);
+    let place = decisions::middle_of(p, points::point_at(points, b));
+    let f = crate::nearby::filter_of(s, p, place, radius);
+    let found = crate::nearby::gather_near(s, points, w, f, radius * 1.001, hash);
+    best_of(s, points, w, found, radius, f, a, b)
 }

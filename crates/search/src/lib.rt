@@ -42,8 +42,8 @@ pub fn find_seed_triangle(s: Scene, points: &[f32], w: &mut [u32], radius: f32, 
     if decisions::refused::is_hopeless(s, radius) {
         return Seed::Nothing;
     }
-    let limit = area_bounds::area_limit(s.min_triangle_area);
-    triples::find_from(s, points, w, radius, hash, limit)
+    let limits = decisions::refused::limits_of(s, radius);
+    triples::find_from(s, points, w, radius, hash, limits)
 }
 
 // The unused point that makes the best acceptable triangle with the edge a, b.
@@ -62,7 +62,5 @@ pub fn try_ball_pivot(
     if !decisions::is_pivotable(points, radius, a, b) {
         return Pivot::Nowhere;
     }
-    let place = decisions::middle_of(points::point_at(points, a), points::point_at(points, b));
-    let count = nearby::find_near(s, points, w, a, place, radius, hash);
-    candidates::best_of(s, points, w, count, radius, a, b)
+    candidates::find_best(s, points, w, radius, a, b, hash)
 }

@@ -8,7 +8,7 @@ ghost use Prim.Native.Nat.{_<_};
 ghost use Rattle.grid.specs.Index.{Cells};
 ghost use Rattle.spatial_hash.specs.Near.{Finite, Hashed};
 ghost use Rattle.search.specs.Ready.{Held, Listed, usedIn};
-ghost use Rattle.search.specs.Narrow.{passes, Filters, Collected, Narrowed, Sought};
+ghost use Rattle.search.specs.Narrow.{passes, Filters, Collected, Narrowed};
 
 // What is looked for: at most a squared distance from a center, in the cells within a range of a cell.
 pub struct Filter {
@@ -66,7 +66,7 @@ pub fn filter_of(s: Scene, center: Point3f, place: Point3f, radius: f32) -> Filt
     }
 }
 
-// Lists points, all within the filter's limit among them, and returns how many they are. The reach is a guess at how far they are.
+// Lists points, all unused ones within the filter's limit among them, and returns how many they are. The reach is a guess at how far they are.
 pub fn gather_near(
     s: Scene,
     points: &[f32],
@@ -80,22 +80,4 @@ pub fn gather_near(
 {
     let bounds = spatial_hash::covering(f.center, reach, f.limit);
     spatial_hash::gather(points, w, s.n, hash, bounds)
-}
-
-// Lists the neighbours of a place at a radius, without those that are used or farther than the radius from point a, and returns how many they are.
-pub fn find_near(
-    s: Scene,
-    points: &[f32],
-    w: &mut [u32],
-    a: usize,
-    place: Point3f,
-    radius: f32,
-    hash: Hash,
-) -> usize
-    requires { ⌜ Held s (now points) (now w) × Cells (s .grid) (now points) (s .n) (now w) × Hashed hash (now points) (s .n) (now w) × (a < s .n) ⌝ }
-    ensures { λ r. ⌜ Sought s (now (points .entry)) (now (w .entry)) (now (w .exit)) a place radius r ⌝ }
-{
-    let f = filter_of(s, points::point_at(points, a), place, radius);
-    let found = gather_near(s, points, w, f, radius * 1.001, hash);
-    narrow(s, points, w, f, found)
 }

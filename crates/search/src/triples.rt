@@ -2,15 +2,17 @@
 use crate::Seed;
 use crate::nearby::Filter;
 use decisions::Scene;
+use decisions::refused::Limits;
 use spatial_hash::Hash;
 use vector::Point3f;
 ghost use mathlib.Core.Path.{_≡_};
+ghost use mathlib.Core.Bool.{true};
 ghost use Prim.Native.Nat.{_*_, _<_, _+_};
-ghost use Rattle.area_bounds.specs.AreaBound.{AreaLimit};
 ghost use Rattle.grid.specs.Index.{Cells, Indexed};
 ghost use Rattle.spatial_hash.specs.Near.{Hashed};
 ghost use Rattle.patch.specs.Search.{isSecond, isThird, thirdOf, secondOf, firstOf, numbers};
-ghost use Rattle.decisions.specs.Decisions.{floatsOf};
+ghost use Rattle.decisions.specs.Decisions.{isClose, floatsOf};
+ghost use Rattle.decisions.specs.Refused.{Limiting};
 ghost use Rattle.search.specs.Ready.{Held, Listed, usedIn, listed, Kept, seedFound, withSecond, withFirst};
 ghost use Rattle.search.specs.Spread.{Spans, Judged, Listing};
 
@@ -34,12 +36,12 @@ fn is_third(
     points: &[f32],
     w: &[u32],
     radius: f32,
-    limit: f32,
+    limits: Limits,
     i: usize,
     j: usize,
     k: usize,
 ) -> bool
-    requires { ⌜ Held s (now points) (now w) × (i < s .n) × (j < s .n) × (k < s .n) × Judged s (now points) limit ⌝ }
+    requires { ⌜ Held s (now points) (now w) × (i < s .n) × (j < s .n) × (k < s .n) × Judged s (now points) radius limits × (isClose (now points) radius i j ≡ true) ⌝ }
     ensures { λ r. ⌜ r ≡ isThird (floatsOf s (now (points .entry))) radius (usedIn s (now (w .entry))) i j k ⌝ }
 {
     if i == k {
@@ -51,7 +53,9 @@ fn is_third(
     if !crate::is_unused(s, w, k) {
         return false;
     }
-    if decisions::refused::is_small(points, limit, i, j, k) {
+    let third = points::point_at(points, k);
+    let first = points::point_at(points, i);
+    if decisions::refused::is_refused(limits, first, points::point_at(points, j), third) {
         return false;
     }
     decisions::is_completed(s, points, radius, i, j, k)
@@ -64,18 +68,18 @@ fn find_third(
     w: &[u32],
     count: usize,
     radius: f32,
-    limit: f32,
+    limits: Limits,
     i: usize,
     j: usize,
 ) -> Seed
-    requires { ⌜ Held s (now points) (now w) × Listed s (now w) count × (i < s .n) × (j < s .n) × Judged s (now points) limit ⌝ }
+    requires { ⌜ Held s (now points) (now w) × Listed s (now w) count × (i < s .n) × (j < s .n) × Judged s (now points) radius limits × (isClose (now points) radius i j ≡ true) ⌝ }
     ensures { λ r. ⌜ r ≡ seedFound (thirdOf (floatsOf s (now (points .entry))) radius (usedIn s (now (w .entry))) i j (listed s (now (w .entry)) count)) ⌝ }
 {
     let at = 4 * s.n;
     let mut m: usize = 0;
     while m < count {
         let k = w[at + m] as usize;
-        if is_third(s, points, w, radius, limit, i, j, k) {
+        if is_third(s, points, w, radius, limits, i, j, k) {
             return Seed::Triangle(i, j, k);
         }
         m += 1;
@@ -90,12 +94,12 @@ fn try_second(
     w: &[u32],
     count: usize,
     radius: f32,
-    limit: f32,
+    limits: Limits,
     wide: Point3f,
     i: usize,
     j: usize,
 ) -> Seed
-    requires { ⌜ Held s (now points) (now w) × Listed s (now w) count × (i < s .n) × (j < s .n) × Judged s (now points) limit × Spans s (now points) i (listed s (now w) count) wide ⌝ }
+    requires { ⌜ Held s (now points) (now w) × Listed s (now w) count × (i < s .n) × (j < s .n) × Judged s (now points) radius limits × Spans s (now points) i (listed s (now w) count) wide ⌝ }
     ensures { λ r. ⌜ r ≡ seedFound (withSecond (floatsOf s (now (points .entry))) radius (usedIn s (now (w .entry))) i (listed s (now (w .entry)) count) j) ⌝ }
 {
     if !is_second(s, points, w, radius, i, j) {
@@ -104,7 +108,7 @@ fn try_second(
     if crate::areas::is_too_near(s, points, i, j, wide) {
         return Seed::Nothing;
     }
-    find_third(s, points, w, count, radius, limit, i, j)
+    find_third(s, points, w, count, radius, limits, i, j)
 }
 
 // The seed of i and the first second point that has a third one, both among the listed neighbours.
@@ -114,18 +118,18 @@ fn find_second(
     w: &[u32],
     count: usize,
     radius: f32,
-    limit: f32,
+    limits: Limits,
     wide: Point3f,
     i: usize,
 ) -> Seed
-    requires { ⌜ Held s (now points) (now w) × Listed s (now w) count × (i < s .n) × Judged s (now points) limit × Spans s (now points) i (listed s (now w) count) wide ⌝ }
+    requires { ⌜ Held s (now points) (now w) × Listed s (now w) count × (i < s .n) × Judged s (now points) radius limits × Spans s (now points) i (listed s (now w) count) wide ⌝ }
     ensures { λ r. ⌜ r ≡ seedFound (secondOf (floatsOf s (now (points .entry))) radius (usedIn s (now (w .entry))) i (listed s (now (w .entry)) count) (listed s (now (w .entry)) count)) ⌝ }
 {
     let at = 4 * s.n;
     let mut m: usize = 0;
     while m < count {
         let j = w[at + m] as usize;
-        let found = try_second(s, points, w, count, radius, limit, wide, i, j);
+        let found = try_second(s, points, w, count, radius, limits, wide, i, j);
         if let Seed::Triangle(a, b, c) = found {
             return Seed::Triangle(a, b, c);
         }
@@ -134,24 +138,24 @@ fn find_second(
     Seed::Nothing
 }
 
-// The same, but without a look at each triangle in turn where all are small.
-fn find_large(
+// The same, but without a look at each triangle in turn where all are refused.
+fn find_unless_refused(
     s: Scene,
     points: &[f32],
     w: &[u32],
     count: usize,
     radius: f32,
-    limit: f32,
+    limits: Limits,
     wide: Point3f,
     i: usize,
 ) -> Seed
-    requires { ⌜ Held s (now points) (now w) × Listed s (now w) count × (i < s .n) × Judged s (now points) limit × Spans s (now points) i (listed s (now w) count) wide ⌝ }
+    requires { ⌜ Held s (now points) (now w) × Listed s (now w) count × (i < s .n) × Judged s (now points) radius limits × Spans s (now points) i (listed s (now w) count) wide ⌝ }
     ensures { λ r. ⌜ r ≡ seedFound (secondOf (floatsOf s (now (points .entry))) radius (usedIn s (now (w .entry))) i (listed s (now (w .entry)) count) (listed s (now (w .entry)) count)) ⌝ }
 {
-    if crate::areas::are_all_small(s, points, w, count, limit, i) {
+    if crate::areas::are_all_refused(s, points, w, count, limits, i) {
         return Seed::Nothing;
     }
-    find_second(s, points, w, count, radius, limit, wide, i)
+    find_second(s, points, w, count, radius, limits, wide, i)
 }
 
 // What the unused point i gives as the first one, the points near it being listed.
@@ -161,11 +165,11 @@ fn try_listed(
     w: &mut [u32],
     found: usize,
     radius: f32,
-    limit: f32,
+    limits: Limits,
     f: Filter,
     i: usize,
 ) -> Seed
-    requires { ⌜ Held s (now points) (now w) × Cells (s .grid) (now points) (s .n) (now w) × Listing s (now points) radius i f (now w) found × (i < s .n) × Judged s (now points) limit ⌝ }
+    requires { ⌜ Held s (now points) (now w) × Cells (s .grid) (now points) (s .n) (now w) × Listing s (now points) radius i f (now w) found × (i < s .n) × Judged s (now points) radius limits ⌝ }
     ensures { λ r. ⌜ (r ≡ seedFound (withFirst (floatsOf s (now (points .entry))) radius (usedIn s (now (w .entry))) i)) × Kept s (now (w .entry)) (now (w .exit)) ⌝ }
 {
     let wide = crate::areas::spread(s, points, w, found, i);
@@ -173,7 +177,7 @@ fn try_listed(
         return Seed::Nothing;
     }
     let count = crate::nearby::narrow(s, points, w, f, found);
-    find_large(s, points, w, count, radius, limit, wide, i)
+    find_unless_refused(s, points, w, count, radius, limits, wide, i)
 }
 
 // What the unused point i gives as the first one.
@@ -184,15 +188,15 @@ fn try_first(
     radius: f32,
     i: usize,
     hash: Hash,
-    limit: f32,
+    limits: Limits,
 ) -> Seed
-    requires { ⌜ Held s (now points) (now w) × Indexed (s .grid) (now points) (s .n) (now w) × Hashed hash (now points) (s .n) (now w) × (i < s .n) × AreaLimit (s .«min_triangle_area») limit ⌝ }
+    requires { ⌜ Held s (now points) (now w) × Indexed (s .grid) (now points) (s .n) (now w) × Hashed hash (now points) (s .n) (now w) × (i < s .n) × Limiting s radius limits ⌝ }
     ensures { λ r. ⌜ (r ≡ seedFound (withFirst (floatsOf s (now (points .entry))) radius (usedIn s (now (w .entry))) i)) × Kept s (now (w .entry)) (now (w .exit)) ⌝ }
 {
     let place = points::point_at(points, i);
     let f = crate::nearby::filter_of(s, place, place, radius * 2.0);
     let found = crate::nearby::gather_near(s, points, w, f, radius * 2.002, hash);
-    try_listed(s, points, w, found, radius, limit, f, i)
+    try_listed(s, points, w, found, radius, limits, f, i)
 }
 
 // The first seed; only the first 1,000 unused points are tried as i.
@@ -202,9 +206,9 @@ pub fn find_from(
     w: &mut [u32],
     radius: f32,
     hash: Hash,
-    limit: f32,
+    limits: Limits,
 ) -> Seed
-    requires { ⌜ Held s (now points) (now w) × Indexed (s .grid) (now points) (s .n) (now w) × Hashed hash (now points) (s .n) (now w) × AreaLimit (s .«min_triangle_area») limit ⌝ }
+    requires { ⌜ Held s (now points) (now w) × Indexed (s .grid) (now points) (s .n) (now w) × Hashed hash (now points) (s .n) (now w) × Limiting s radius limits ⌝ }
     ensures { λ r. ⌜ (r ≡ seedFound (firstOf (floatsOf s (now (points .entry))) radius (usedIn s (now (w .entry))) (numbers (s .n) 0) 1000)) × Kept s (now (w .entry)) (now (w .exit)) ⌝ }
 {
     let n = s.n;
@@ -218,7 +222,7 @@ pub fn find_from(
             i += 1;
             continue;
         }
-        let found = try_first(s, points, w, radius, i, hash, limit);
+        let found = try_first(s, points, w, radius, i, hash, limits);
         if let Seed::Triangle(a, b, c) = found {
             return Seed::Triangle(a, b, c);
         }

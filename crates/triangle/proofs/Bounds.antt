@@ -61,14 +61,14 @@ mean-monotone x y u v c p h i j =
     div-monotone (x ⊕ u ⊕ v) (y ⊕ u ⊕ v) c p (add-monotone-left (x ⊕ u) (y ⊕ u) v k m n)
 
 -- the angle's part of a score, and that of the bound
-abbrev part : Float → Float
+abbrev pub part : Float → Float
 part x = minimum (x ⊘ (f32 0x40490fdb ⊘ f32 0x40c00000)) (f32 0x3f800000)
 
 part-full : f32 0x3f800000 ≡ part (f32 0x40490fdb)
 unfolding minimum div lt isNan ofBits
 part-full = refl
 
-part-le : (x : Float) → T (le (part x) (part (f32 0x40490fdb)))
+pub part-le : (x : Float) → T (le (part x) (part (f32 0x40490fdb)))
 part-le x = rw (← part-full) (minimum-le (x ⊘ (f32 0x40490fdb ⊘ f32 0x40c00000)) (f32 0x3f800000) (unfold isNan ofBits in tt))
 
 pub score-le : (x aspect edge : Float) → T (not (isNan (score x aspect edge))) → T (not (isNan (score (f32 0x40490fdb) aspect edge))) → T (le (score x aspect edge) (score (f32 0x40490fdb) aspect edge))

@@ -1,6 +1,7 @@
 -- What is known of a triangle from its lengths and its area: the measures without the angles, a bound of the score, and the quality. Definitions only.
 use mathlib.Core.Bool.{false, cond}
-use lib.Ieee.{Float, inf, lt}
+use lib.Dec.{T}
+use lib.Ieee.{Float, inf, lt, le}
 use Rattle.numbers.specs.Rounded.{f32}
 use Rattle.triangle.specs.Quality.{radiusOf, aspectRatio, edgeRatio, score, measures, degenerate}
 use Rattle.triangle.specs.declared.Shape.{Shape}
@@ -24,3 +25,7 @@ scoreBound s = score (f32 0x40490fdb) (s .«aspect_ratio») (s .«edge_ratio»)
 -- `compute_triangle_quality`, from the lengths and the area
 unfoldable pub qualityOf : Float → Float → Float → Float → TriangleQuality
 qualityOf a b c area = cond (lt area (f32 0x2edbe6ff)) (degenerate area) (measures a b c area (radiusOf a b c area))
+
+-- with an aspect ratio of at most t the score is below the threshold, whatever the angles and the edges
+pub record AspectLimit (threshold t : Float) : Type 0 where
+  pub below : (minAngle aspect edge : Float) → T (le aspect t) → T (lt (score minAngle aspect edge) threshold)

@@ -4,7 +4,7 @@ mod measure;
 use vector::Point3f;
 ghost use mathlib.Core.Path.{_≡_};
 ghost use Rattle.triangle.specs.Quality.{area, circumradius, quality, acceptable};
-ghost use Rattle.triangle.specs.Bound.{shapeOf, scoreBound, qualityOf};
+ghost use Rattle.triangle.specs.Bound.{shapeOf, scoreBound, qualityOf, AspectLimit};
 
 // Quality metrics for triangle evaluation.
 #[repr(C)]
@@ -60,6 +60,17 @@ pub fn score_bound(shape: Shape) -> f32
     ensures { λ r. ⌜ r ≡ scoreBound shape ⌝ }
 {
     measure::score(3.1415927, shape.aspect_ratio, shape.edge_ratio)
+}
+
+// An aspect ratio up to which no score reaches the threshold, of 4 at most. Where the guess is none it is not a number, and nothing is at most that.
+pub fn aspect_limit(threshold: f32) -> f32
+    ensures { λ t. ⌜ AspectLimit threshold t ⌝ }
+{
+    let t = numbers::min(threshold * 1.5 - 1.000002, 4.0);
+    if measure::score(3.1415927, t, 1.0) < threshold {
+        return t;
+    }
+    0.0 / 0.0
 }
 
 // The quality of a triangle, from the lengths of its edges and its shape.

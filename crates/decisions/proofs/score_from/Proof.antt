@@ -1,6 +1,6 @@
--- `score_from` meets its contract: the bound refuses only what is not above `top`. Assumes nothing.
+-- `score_from` meets its contract: the bound refuses only what is below `top`. Assumes nothing.
 use mathlib.Core.Path.{sym, ap, _∙_}
-use lib.Ieee.{lt}
+use lib.Ieee.{le}
 use borrow.Author.Tests.{not-true, not-false}
 use Rattle.triangle.proofs.Bounds.{shape-own, quality-own}
 use Rattle.decisions.specs.Found.{scoreFound}
@@ -30,7 +30,7 @@ returns-2 c =
     let a = c .before .before .before .before .before .before .args in
     let q = c .before .before .quality-of in
     rw (quality-own (a .a) (a .b) (a .c) (a .area) (c .before .before .before .before .before .shape-of .ensures) (q .ensures))
-    (ap scoreFound (score-low (a .s) (a .radius) (a .top) (q .result) (not-true (lt (a .top) (q .result .«quality_score»)) (c .if2 .taken))))
+    (ap scoreFound (score-low (a .s) (a .radius) (a .top) (q .result) (not-true (le (a .top) (q .result .«quality_score»)) (c .if2 .taken))))
 
 is-accepted-requires : tie.Need-is-accepted-requires
 is-accepted-requires c κs = search needs
@@ -47,7 +47,7 @@ returns-4 c =
     let a = c .before .before .before .before .before .before .before .before .args in
     let q = c .before .before .before .before .quality-of in
     rw (quality-own (a .a) (a .b) (a .c) (a .area) (c .before .before .before .before .before .before .before .shape-of .ensures) (q .ensures))
-    (ap scoreFound (score-kept (a .s) (a .radius) (a .top) (q .result) (not-false (lt (a .top) (q .result .«quality_score»)) (c .before .before .if2 .left)) (sym (c .before .is-accepted .ensures) ∙ not-false (c .before .is-accepted .result) (c .if3 .left))))
+    (ap scoreFound (score-kept (a .s) (a .radius) (a .top) (q .result) (not-false (le (a .top) (q .result .«quality_score»)) (c .before .before .if2 .left)) (sym (c .before .is-accepted .ensures) ∙ not-false (c .before .is-accepted .result) (c .if3 .left))))
 
 pub score-from-spec : {M : Type 1} → statement M
 score-from-spec =

@@ -18,11 +18,11 @@ returns c =
     let x = a .args in
     (sym (ap seedFound (hopeless-nothing (x .s) (x .points .now) (x .radius) (usedIn (x .s) (x .w .now)) 1000 (a .pre .2 .ready .numbers) (c .before .is-hopeless .ensures (c .if1 .taken)))), kept-self (x .s) (x .w .now))
 
-area-limit-requires : tie.Need-area-limit-requires
-area-limit-requires c κs = search needs
+limits-of-requires : tie.Need-limits-of-requires
+limits-of-requires c κs = search needs
 
 find-from-requires : tie.Need-find-from-requires
-find-from-requires c κs = let a = c .before .before .before .before .before .before in (a .pre .0, a .pre .1, a .pre .2, c .before .area-limit .ensures)
+find-from-requires c κs = let a = c .before .before .before .before .before .before in (a .pre .0, a .pre .1, a .pre .2, c .before .limits-of .ensures)
 
 same-length : tie.Need-same-length
 same-length c = c .before .before .find-from .kept .1 .1 .0
@@ -37,7 +37,7 @@ find-seed-triangle-spec =
     (tie.spec
     is-hopeless-requires
     returns
-    area-limit-requires
+    limits-of-requires
     find-from-requires
     same-length
     returns-2)

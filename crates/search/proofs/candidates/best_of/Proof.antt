@@ -7,10 +7,10 @@ use Rattle.search.proofs.candidates.best_of.Statement.{statement}
 use Rattle.search.proofs.candidates.best_of.Tie as tie
 
 abbrev Inv-loop : tie.InvT-loop
-Inv-loop s points w count radius a b at side top₀ best₀ m₀ top best m = Best s points radius w count a b top best m
+Inv-loop s points w count radius f a b at side top₀ best₀ m₀ top best m = Best s points radius f w count a b top best m
 
 abbrev μ-loop : tie.MeasureT-loop
-μ-loop s points w count radius a b at side top₀ best₀ m₀ top best m = count - m
+μ-loop s points w count radius f a b at side top₀ best₀ m₀ top best m = count - m
 
 mul-at : tie.Need-mul-at Inv-loop μ-loop
 mul-at c = search needs
@@ -19,7 +19,7 @@ apart-at-requires : tie.Need-apart-at-requires Inv-loop μ-loop
 apart-at-requires c κs = search needs
 
 loop-holds : tie.Need-loop-holds Inv-loop μ-loop
-loop-holds c = let a = c .before .before .before .before in best-start (a .pre .0) (a .pre .1)
+loop-holds c = let a = c .before .before .before .before in best-start (a .pre .0) (a .pre .2)
 
 add-k : tie.Need-add-k Inv-loop μ-loop
 add-k c = search needs
@@ -33,16 +33,17 @@ shared-slice-read-k c = search needs
 cast-k : tie.Need-cast-k Inv-loop μ-loop
 cast-k c =
     let a = c .before .before .before .before .before .before .before in
-    let h = a .pre .1 .below (c .before .before .loop .m) (c .before .loop-test .taken) in
+    let h = a .pre .2 .below (c .before .before .loop .m) (c .before .loop-test .taken) in
     record { fits = omega (arith, h, a .pre .0 .few) }
 
 add-m : tie.Need-add-m Inv-loop μ-loop
 add-m c = search needs
 
-score-of-requires : tie.Need-score-of-requires Inv-loop μ-loop
-score-of-requires c κs =
+score-ahead-requires : tie.Need-score-ahead-requires Inv-loop μ-loop
+score-ahead-requires c κs =
     let a = c .before .before .before .before .before .before .before in
-    (a .pre .0, a .pre .2, a .pre .3, a .pre .1 .below (c .before .before .loop .m) (c .before .loop-test .taken), c .before .before .before .apart-at .ensures)
+    let l = c .before .before .loop in
+    (a .pre .0, a .pre .1, a .pre .3, a .pre .4, a .pre .2 .below (l .m) (c .before .loop-test .taken), c .before .before .before .apart-at .ensures, a .pre .5, l .inv .met)
 
 enum-known-x : tie.Need-enum-known-x Inv-loop μ-loop
 enum-known-x c = search needs
@@ -51,7 +52,7 @@ loop-less : tie.Need-loop-less Inv-loop μ-loop
 loop-less c = search needs
 
 loop-again : tie.Need-loop-again Inv-loop μ-loop
-loop-again c = best-taken (c .before .before .before .before .before .before .loop .inv) (c .before .before .before .before .before .loop-test .taken) (c .before .before .before .score-of .ensures) (c .before .x .given .1)
+loop-again c = best-taken (c .before .before .before .before .before .before .loop .inv) (c .before .before .before .before .before .before .before .before .before .before .before .pre .2) (c .before .before .before .before .before .loop-test .taken) (c .before .before .before .score-ahead .ensures) (c .before .x .given .1)
 
 enum-told : tie.Need-enum-told Inv-loop μ-loop
 enum-told c = search needs
@@ -60,10 +61,10 @@ loop-less-2 : tie.Need-loop-less-2 Inv-loop μ-loop
 loop-less-2 c = search needs
 
 loop-again-2 : tie.Need-loop-again-2 Inv-loop μ-loop
-loop-again-2 c = best-skip (c .before .before .before .before .before .loop .inv) (c .before .before .before .before .loop-test .taken) (c .before .before .score-of .ensures) (c .enum-told .given .1)
+loop-again-2 c = best-skip (c .before .before .before .before .before .loop .inv) (c .before .before .before .before .loop-test .taken) (c .before .before .score-ahead .ensures) (c .enum-told .given .1)
 
 returns : tie.Need-returns Inv-loop μ-loop
 returns c = best-all (c .before .loop .inv) (c .loop-test .left)
 
 pub best-of-spec : {M : Type 1} → statement M
-best-of-spec = tie.close (tie.spec Inv-loop μ-loop mul-at apart-at-requires loop-holds add-k mul-k shared-slice-read-k cast-k add-m score-of-requires enum-known-x loop-less loop-again enum-told loop-less-2 loop-again-2 returns)
+best-of-spec = tie.close (tie.spec Inv-loop μ-loop mul-at apart-at-requires loop-holds add-k mul-k shared-slice-read-k cast-k add-m score-ahead-requires enum-known-x loop-less loop-again enum-told loop-less-2 loop-again-2 returns)

@@ -10,10 +10,10 @@ use Rattle.search.proofs.triples.find_from.Statement.{statement}
 use Rattle.search.proofs.triples.find_from.Tie as tie
 
 abbrev Inv-loop : tie.InvT-loop
-Inv-loop s points w₀ radius hash limit n left₀ i₀ w left i = Seeking s points radius hash w₀ w left i
+Inv-loop s points w₀ radius hash limits n left₀ i₀ w left i = Seeking s points radius hash w₀ w left i
 
 abbrev μ-loop : tie.MeasureT-loop
-μ-loop s points w₀ radius hash limit n left₀ i₀ w left i = s .n - i
+μ-loop s points w₀ radius hash limits n left₀ i₀ w left i = s .n - i
 
 loop-holds : tie.Need-loop-holds Inv-loop μ-loop
 loop-holds c = let a = c .before .before in seek-start (a .pre .0) (a .pre .1) (a .pre .2)

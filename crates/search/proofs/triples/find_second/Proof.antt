@@ -7,10 +7,10 @@ use Rattle.search.proofs.triples.find_second.Statement.{statement}
 use Rattle.search.proofs.triples.find_second.Tie as tie
 
 abbrev Inv-loop : tie.InvT-loop
-Inv-loop s points w count radius limit wide i at m₀ m = Second s points radius w count i m
+Inv-loop s points w count radius limits wide i at m₀ m = Second s points radius w count i m
 
 abbrev μ-loop : tie.MeasureT-loop
-μ-loop s points w count radius limit wide i at m₀ m = count - m
+μ-loop s points w count radius limits wide i at m₀ m = count - m
 
 mul-at : tie.Need-mul-at Inv-loop μ-loop
 mul-at c = search needs

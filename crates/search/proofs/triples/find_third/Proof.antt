@@ -7,10 +7,10 @@ use Rattle.search.proofs.triples.find_third.Statement.{statement}
 use Rattle.search.proofs.triples.find_third.Tie as tie
 
 abbrev Inv-loop : tie.InvT-loop
-Inv-loop s points w count radius limit i j at m₀ m = Third s points radius w count i j m
+Inv-loop s points w count radius limits i j at m₀ m = Third s points radius w count i j m
 
 abbrev μ-loop : tie.MeasureT-loop
-μ-loop s points w count radius limit i j at m₀ m = count - m
+μ-loop s points w count radius limits i j at m₀ m = count - m
 
 mul-at : tie.Need-mul-at Inv-loop μ-loop
 mul-at c = search needs

@@ -1,12 +1,12 @@
--- `is_third` meets its contract: its tests are those of `isThird`, in their order, but for one that turns small triangles down first. Assumes nothing.
-use mathlib.Core.Path.{sym, _∙_}
+-- `is_third` meets its contract: its tests are those of `isThird`, in their order, but for one that asks limits first. Assumes nothing.
+use mathlib.Core.Path.{sym}
 use borrow.Author.Needs.{needs}
 use borrow.Author.Tests.{not-true, not-false, eq-eqb, ne-eqb}
 use Rattle.patch.specs.Search.{isThird}
 use Rattle.decisions.specs.Decisions.{floatsOf, completes}
-use Rattle.decisions.proofs.Refusals.{small-accepts}
 use Rattle.search.specs.Ready.{usedIn}
-use Rattle.search.proofs.Nothing.{third-refused}
+use Rattle.search.proofs.Nothing.{limits-third}
+use Rattle.search.proofs.Spread.{refused-points}
 use Rattle.search.proofs.triples.is_third.Statement.{statement}
 use Rattle.search.proofs.triples.is_third.Tie as tie
 
@@ -29,14 +29,23 @@ returns-3 c =
     let a = c .before .before .before .before .before .before .args in
     rw (ne-eqb (a .i) (a .k) (c .before .before .before .if1 .left), ne-eqb (a .j) (a .k) (c .before .before .if2 .left), sym (c .before .is-unused .ensures), not-true (c .before .is-unused .result) (c .if3 .taken))
 
-is-small-requires : tie.Need-is-small-requires
-is-small-requires c κs = search needs
+point-at-requires : tie.Need-point-at-requires
+point-at-requires c κs = search needs
+
+point-at-requires-2 : tie.Need-point-at-requires-2
+point-at-requires-2 c κs = search needs
+
+point-at-requires-3 : tie.Need-point-at-requires-3
+point-at-requires-3 c κs = search needs
+
+is-refused-requires : tie.Need-is-refused-requires
+is-refused-requires c κs = search needs
 
 returns-4 : tie.Need-returns-4
 returns-4 c =
-    let a = c .before .before .before .before .before .before .before .before in
-    sym (third-refused (a .args .s) (a .args .points .now) (a .args .radius) (usedIn (a .args .s) (a .args .w .now)) (a .args .i) (a .args .j) (a .args .k)
-    (small-accepts (a .args .s) (a .args .points .now) (a .args .radius) (a .args .i) (a .args .j) (a .args .k) (a .args .limit) (a .pre .4 .limits) (sym (c .before .is-small .ensures) ∙ c .if4 .taken)))
+    let a = c .before .before .before .before .before .before .before .before .before .before .before in
+    sym (limits-third (usedIn (a .args .s) (a .args .w .now)) (a .pre .4) (a .pre .1) (a .pre .2) (a .pre .3) (a .pre .5)
+    (refused-points (c .before .before .before .point-at2 .ensures) (c .before .before .point-at3 .ensures) (c .before .before .before .before .point-at .ensures) (c .before .is-refused .ensures (c .if4 .taken))))
 
 is-completed-requires : tie.Need-is-completed-requires
 is-completed-requires c κs = search needs
@@ -44,8 +53,9 @@ is-completed-requires c κs = search needs
 returns-5 : tie.Need-returns-5
 unfolding isThird floatsOf completes
 returns-5 c =
-    let a = c .before .before .before .before .before .before .before .before .before .args in
-    rw (ne-eqb (a .i) (a .k) (c .before .before .before .before .before .before .if1 .left), ne-eqb (a .j) (a .k) (c .before .before .before .before .before .if2 .left), sym (c .before .before .before .before .is-unused .ensures), not-false (c .before .before .before .before .is-unused .result) (c .before .before .before .if3 .left)) (c .is-completed .ensures)
+    let e = c .before .before .before .before .before .before in
+    let a = e .before .before .before .before .before .before .args in
+    rw (ne-eqb (a .i) (a .k) (e .before .before .before .if1 .left), ne-eqb (a .j) (a .k) (e .before .before .if2 .left), sym (e .before .is-unused .ensures), not-false (e .before .is-unused .result) (e .if3 .left)) (c .is-completed .ensures)
 
 pub is-third-spec : {M : Type 1} → statement M
 is-third-spec =
@@ -55,7 +65,10 @@ is-third-spec =
     returns-2
     is-unused-requires
     returns-3
-    is-small-requires
+    point-at-requires
+    point-at-requires-2
+    point-at-requires-3
+    is-refused-requires
     returns-4
     is-completed-requires
     returns-5)

@@ -4,7 +4,7 @@ use borrow.Author.Needs.{needs}
 use borrow.Author.Tests.{not-true, not-false}
 use Rattle.decisions.specs.Decisions.{floatsOf}
 use Rattle.search.specs.Ready.{usedIn, listed, seedFound}
-use Rattle.search.proofs.Nothing.{near-nothing}
+use Rattle.search.proofs.Nothing.{close-second, near-nothing}
 use Rattle.search.proofs.Laws.{second-not, second-is}
 use Rattle.search.proofs.triples.try_second.Statement.{statement}
 use Rattle.search.proofs.triples.try_second.Tie as tie
@@ -25,12 +25,16 @@ returns-2 : tie.Need-returns-2
 returns-2 c =
     let a = c .before .before .before .before .before .before in
     let x = a .args in
-    ap seedFound (sym (near-nothing (x .radius) (usedIn (x .s) (x .w .now)) (a .pre .4) (a .pre .2) (a .pre .3) (a .pre .5) refl (sym (c .before .is-too-near .ensures) ∙ c .if2 .taken)))
+    ap seedFound (sym (near-nothing (usedIn (x .s) (x .w .now)) (a .pre .4) (a .pre .2) (a .pre .3) (a .pre .5) refl (sym (c .before .is-too-near .ensures) ∙ c .if2 .taken)))
     ∙ second-is (floatsOf (x .s) (x .points .now)) (x .radius) (usedIn (x .s) (x .w .now)) (x .i) (x .j) (listed (x .s) (x .w .now) (x .count))
     (sym (c .before .before .before .is-second .ensures) ∙ not-false (c .before .before .before .is-second .result) (c .before .before .if1 .left))
 
 find-third-requires : tie.Need-find-third-requires
-find-third-requires c κs = let a = c .before .before .before .before .before .before in (a .pre .0, a .pre .1, a .pre .2, a .pre .3, a .pre .4)
+find-third-requires c κs =
+    let a = c .before .before .before .before .before .before in
+    let x = a .args in
+    let t = c .before .before .before .is-second in
+    (a .pre .0, a .pre .1, a .pre .2, a .pre .3, a .pre .4, close-second (x .s) (x .points .now) (x .radius) (usedIn (x .s) (x .w .now)) (x .i) (x .j) (sym (t .ensures) ∙ not-false (t .result) (c .before .before .if1 .left)))
 
 returns-3 : tie.Need-returns-3
 returns-3 c =

@@ -1,10 +1,10 @@
--- `score_above` meets its contract: its tests are those of `scoreAt`, in their order, and the lengths that they take are those of the triangle. Assumes nothing.
+-- `score_at_least` meets its contract: its tests are those of `scoreAt`, in their order, and the lengths that they take are those of the triangle. Assumes nothing.
 use lib.Ieee.{le}
 use borrow.Author.Needs.{needs}
 use borrow.Author.Tests.{not-true, not-false}
 use Rattle.decisions.proofs.Scores.{score-far, score-far-too, score-near}
-use Rattle.decisions.proofs.score_above.Statement.{statement}
-use Rattle.decisions.proofs.score_above.Tie as tie
+use Rattle.decisions.proofs.score_at_least.Statement.{statement}
+use Rattle.decisions.proofs.score_at_least.Tie as tie
 
 apart-at-requires : tie.Need-apart-at-requires
 apart-at-requires c κs = search needs
@@ -44,8 +44,8 @@ returns-3 c =
     (not-false (le (e .result) (a .radius)) (c .before .before .if2 .left))
     (n .pre .3) (c .before .area-at .ensures) (c .score-from .ensures)
 
-pub score-above-spec : {M : Type 1} → statement M
-score-above-spec =
+pub score-at-least-spec : {M : Type 1} → statement M
+score-at-least-spec =
     tie.close
     (tie.spec
     apart-at-requires
