@@ -9,7 +9,7 @@ use Rattle.numbers.specs.Root.{root}
 use Rattle.vector.specs.Vector.{squared}
 use Rattle.points.specs.Points.{pointAt}
 use Rattle.spatial_hash.specs.declared.Hash.{Hash}
-use Rattle.spatial_hash.specs.Near.{Hashed}
+use Rattle.spatial_hash.specs.Near.{HashedAll}
 use Rattle.estimate.specs.Estimate.{leastDistance}
 
 -- the lesser of s and the squared distance of point j from point i, which counts only where it is another point
@@ -27,4 +27,4 @@ leastSquare pts i s (j ∷ js) = leastSquare pts i (lesser pts i j s) js
 pub record Looked (h : Hash) (pts : List Float) (n i : ℕ) (limit s : Float) (w : List ℕ) : Type 0 where
   pub decides : T (le s limit) → root s ≡ leastDistance pts n i
   pub number : T (le s (inf false))
-  pub hashed : Hashed h pts n w
+  pub hashed : HashedAll h pts n w

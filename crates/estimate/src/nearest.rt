@@ -7,7 +7,7 @@ ghost use Prim.Native.Nat.{_+_, _*_, _≤_, _<_};
 ghost use lib.ListN.{length, take, drop};
 ghost use lib.Ieee.{inf};
 ghost use Rattle.patch.specs.Search.{Below};
-ghost use Rattle.spatial_hash.specs.Near.{Hashed};
+ghost use Rattle.spatial_hash.specs.Near.{HashedAll};
 ghost use Rattle.estimate.specs.Estimate.{leastDistance};
 ghost use Rattle.estimate.specs.Squares.{lesser, leastSquare, Looked};
 
@@ -45,7 +45,7 @@ fn least_square(points: &[f32], n: usize, i: usize, w: &[u32], found: usize) -> 
 
 // The least squared distance from point i to another, if it is not above the limit.
 fn look_within(points: &[f32], n: usize, hash: Hash, i: usize, limit: f32, w: &mut [u32]) -> f32
-    requires { ⌜ (i < n) × Hashed hash (now points) n (now w) ⌝ }
+    requires { ⌜ (i < n) × HashedAll hash (now points) n (now w) ⌝ }
     ensures { λ r. ⌜ Looked hash (now (points .entry)) n i limit r (now (w .exit)) ⌝ }
 {
     let place = points::point_at(points, i);
@@ -68,8 +68,8 @@ pub fn least_distance(
     guess: f32,
     w: &mut [u32],
 ) -> f32
-    requires { ⌜ (i < n) × Hashed hash (now points) n (now w) ⌝ }
-    ensures { λ r. ⌜ (r ≡ leastDistance (now (points .entry)) n i) × Hashed hash (now (points .entry)) n (now (w .exit)) ⌝ }
+    requires { ⌜ (i < n) × HashedAll hash (now points) n (now w) ⌝ }
+    ensures { λ r. ⌜ (r ≡ leastDistance (now (points .entry)) n i) × HashedAll hash (now (points .entry)) n (now (w .exit)) ⌝ }
 {
     let everywhere = infinity();
     let mut limit = guess * guess;

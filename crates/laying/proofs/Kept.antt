@@ -1,14 +1,25 @@
 -- What survives a change of the work slice, and what is read off the answers of the searches. Assumes nothing.
-use Prim.Native.Nat.{ℕ, _*_, _≤_, _<_}
-use mathlib.Core.Path.{_≡_, refl, ap, _∙_}
+use Prim.Native.Nat.{ℕ, _+_, _*_, _≤_, _<_}
+use mathlib.Core.Path.{_≡_, refl, sym, ap, _∙_, subst}
+use mathlib.Core.Logic.{⊎-elim}
+use mathlib.Core.Bool.{true, false}
 use mathlib.Core.List.{List, [], _∷_}
 use mathlib.Core.Option.{Option, none, some}
+use native.Mathlib.Nat.{le-of-eq}
 use native.Mathlib.Omega.{arith}
-use lib.ListN.{length, take}
+use borrow.Author.Tests.{eqb-true, eqb-false, eq-eqb}
+use lib.Dec.{eqb}
+use lib.ListN.{length, take, drop, getD, set, length-set, length-drop, drop-of-length-le}
+use lib.Seq.{getD-set-same, getD-set-other, length-take-le}
 use lib.Ieee.{Float}
 use Rattle.grid.proofs.Near.{indexed-kept}
-use Rattle.spatial_hash.proofs.Kept.{hashed-behind}
-use Rattle.patch.specs.Lay.{Edge, State}
+use Rattle.spatial_hash.specs.Near.{Hashed}
+use Rattle.spatial_hash.specs.Buckets.{isOut}
+use Rattle.spatial_hash.proofs.Kept.{linked-behind, hashed-all-behind, all-hashed}
+use Rattle.patch.specs.Count.{bit, count}
+use Rattle.patch.specs.Lay.{Edge, State, marked}
+use Rattle.patch.specs.Search.{unused}
+use Rattle.patch.proofs.Counts.{either}
 use Rattle.spatial_hash.specs.declared.Hash.{Hash}
 use Rattle.decisions.specs.declared.Scene.{Scene}
 use Rattle.search.specs.declared.Seed.{Seed}
@@ -16,48 +27,123 @@ use Rattle.search.specs.declared.Seed.the-variants.{Triangle, Nothing}
 use Rattle.search.specs.declared.Pivot.{Pivot}
 use Rattle.search.specs.declared.Pivot.the-variants.{To, Nowhere}
 use Rattle.search.specs.Ready.{Kept, seedFound, pivotFound}
+use Rattle.search.proofs.Keeping.{held-kept, hashed-search}
 use Rattle.frontier.specs.declared.Counts.{Counts}
-use Rattle.frontier.specs.Work.{Holds, Sized, OnlyIn}
-use Rattle.frontier.proofs.Slices.{after-same, only-wider}
-use Rattle.laying.specs.Laying.{Ground}
+use Rattle.frontier.specs.Work.{usedIn, Holds, Sized, OnlyIn}
+use Rattle.frontier.proofs.Slices.{before-same, after-same, only-wider}
+use Rattle.laying.specs.Laying.{Ground, Footing, Without}
 
-pub ground-only : {s : Scene} {hash : Hash} {pts : List Float} {w : List ℕ} (u : List ℕ) → Ground s hash pts w → OnlyIn (4 * s .n) (9 * s .n) w u → Ground s hash pts u
-ground-only {s} {hash} {pts} {w} u g o = record {
-  some = g .some;
-  held = record { few = g .held .few; points-long = g .held .points-long; work-long = omega (arith, g .held .work-long, o .length-same) };
-  indexed = indexed-kept u (g .indexed) (o .length-same) (o .before);
-  hashed = hashed-behind hash pts (s .n) (9 * s .n) w u (omega arith) (o .after) (o .length-same) (g .hashed);
+-- ---- neither the index nor the words that hold a state were changed
+pub record Beside (n : ℕ) (w u : List ℕ) : Type 0 where
+  pub index : take (4 * n) u ≡ take (4 * n) w
+  pub held : (at k : ℕ) → 5 * n ≤ at → at + k ≤ 9 * n → take k (drop at u) ≡ take k (drop at w)
+  pub length-same : length u ≡ length w
+
+pub beside-both : {n : ℕ} {w u v : List ℕ} → Beside n w u → Beside n u v → Beside n w v
+beside-both a b = record { index = b .index ∙ a .index; held = λ at k h l. b .held at k h l ∙ a .held at k h l; length-same = b .length-same ∙ a .length-same }
+
+-- a search changes nothing but the list of neighbours
+pub beside-search : {s : Scene} {w : List ℕ} (u : List ℕ) → Kept s w u → length u ≡ length w → Beside (s .n) w u
+beside-search {s} {w} u k l = record {
+  index = k .before;
+  held = λ at m h _. after-same {lo = 4 * s .n} {hi = 5 * s .n} (record { before = k .before; after = k .after; length-same = l }) at m h;
+  length-same = l;
 }
 
-pub sized : {s : Scene} {hash : Hash} {pts : List Float} {w : List ℕ} → Ground s hash pts w → Sized (s .n) w
+-- what takes points out of the hash, nothing but its words
+pub beside-without : {hash : Hash} {pts : List Float} {n : ℕ} {ks w : List ℕ} (u : List ℕ) → Without hash pts n ks w u → length u ≡ length w → Beside n w u
+beside-without {n = n} {w = w} u x l =
+    let only : OnlyIn (9 * n) (length w) w u = record {
+      before = x .before;
+      after = drop-of-length-le u (le-of-eq l) ∙ sym (drop-of-length-le w (le-of-eq refl));
+      length-same = l;
+    } in
+    record { index = before-same only 0 (4 * n) (omega arith); held = λ at k _ h. before-same only at k h; length-same = l }
+
+pub holds-beside : {n : ℕ} {w u lent : List ℕ} {t : State} {c : Counts} {slice : List ℕ} → Beside n w u → c .frontier ≤ 3 * n → Holds n lent t c w slice → Holds n lent t c u slice
+holds-beside {n} {c = c} b few h = record {
+  faces-count = h .faces-count;
+  seeds-count = h .seeds-count;
+  frontier-count = h .frontier-count;
+  looks = h .looks;
+  pivots = h .pivots;
+  used = b .held (5 * n) n (omega arith) (omega arith) ∙ h .used;
+  frontier = b .held (6 * n) (c .frontier) (omega arith) (omega arith) ∙ h .frontier;
+  faces = h .faces;
+}
+
+-- ---- the ground
+
+pub sized : {s : Scene} {hash : Hash} {pts : List Float} {w : List ℕ} → Footing s hash pts w → Sized (s .n) w
 sized g = record { some = g .some; few = g .held .few; long = g .held .work-long }
 
--- what the parts of a step change
-pub step-only : (n : ℕ) {w u : List ℕ} → OnlyIn (5 * n) (9 * n) w u → OnlyIn (4 * n) (9 * n) w u
-step-only n o = only-wider (4 * n) (9 * n) (omega arith) (omega arith) o
+module _ {s : Scene} {hash : Hash} {pts : List Float} {w : List ℕ} (u : List ℕ) (g : Footing s hash pts w) where
+  footing-after : Hashed hash pts (s .n) u → take (4 * s .n) u ≡ take (4 * s .n) w → length u ≡ length w → Footing s hash pts u
+  footing-after x e l = record { some = g .some; held = held-kept u (g .held) l; indexed = indexed-kept u (g .indexed) l e; hashed = x }
 
--- a search changes nothing but the list of neighbours, and so leaves the state that is held
-module _ {s : Scene} {w : List ℕ} (u : List ℕ) (k : Kept s w u) (l : length u ≡ length w) where
-  neighbors-only : OnlyIn (4 * s .n) (5 * s .n) w u
-  neighbors-only = record { before = k .before; after = k .after; length-same = l }
+  pub footing-searched : Kept s w u → length u ≡ length w → Footing s hash pts u
+  footing-searched k l = footing-after (hashed-search {s = s} u (g .hashed) l k) (k .before) l
 
-  pub search-only : OnlyIn (4 * s .n) (9 * s .n) w u
-  search-only = only-wider (4 * s .n) (9 * s .n) (omega arith) (omega arith) neighbors-only
+  -- a step that uses no point
+  pub footing-same : OnlyIn (5 * s .n) (9 * s .n) w u → usedIn (s .n) u ≡ usedIn (s .n) w → Footing s hash pts u
+  footing-same o e = footing-after
+      (record {
+        linked = linked-behind hash pts (s .n) (9 * s .n) w u (omega arith) (o .after) (o .length-same) (g .hashed .linked);
+        unused-in = λ j h free. ap (λ (ls : List ℕ). isOut (s .n) ls j) (o .after) ∙ g .hashed .unused-in j h (subst (λ (l : List ℕ). unused l j ≡ true) e free);
+      })
+      (before-same o 0 (4 * s .n) (omega arith))
+      (o .length-same)
 
-  pub ground-searched : {hash : Hash} {pts : List Float} → Ground s hash pts w → Ground s hash pts u
-  ground-searched g = ground-only u g search-only
+-- the points ks are out and used
+marked-unused : (ks used : List ℕ) (j : ℕ) → ((k : ℕ) → 1 ≤ count (eqb k) ks → k < length used) → unused (marked used ks) j ≡ true → (unused used j ≡ true) × (count (eqb j) ks ≡ 0)
+unfolding marked
+marked-unused [] used j below free = (free, refl)
+marked-unused (k ∷ ks) used j below free =
+    let r = marked-unused ks (set used k 1) j (λ i h. simp length-set (below i (omega arith))) free in
+    ⊎-elim
+    (λ (t : eqb j k ≡ true).
+    let e = eqb-true j k t in
+    let own = below k (rw (eq-eqb k k refl) (omega arith)) in
+    let one : getD (set used k 1) j 0 ≡ 1 = ap (λ (i : ℕ). getD (set used k 1) i 0) e ∙ getD-set-same used k 1 0 own in
+    absurd (omega (arith, eqb-true (getD (set used k 1) j 0) 0 (r .0))))
+    (λ (t : eqb j k ≡ false).
+    let ne = eqb-false j k t in
+    let same : getD (set used k 1) j 0 ≡ getD used j 0 = getD-set-other used k j 1 0 (λ (e : j ≡ k). ne e) in
+    (subst (λ (x : ℕ). eqb x 0 ≡ true) same (r .0), omega (arith, ap bit t, r .1)))
+    (either (eqb j k))
 
-  pub holds-kept : {lent : List ℕ} {t : State} {c : Counts} {slice : List ℕ} → Holds (s .n) lent t c w slice → Holds (s .n) lent t c u slice
-  holds-kept {lent} {t} {c} {slice} h = record {
-    faces-count = h .faces-count;
-    seeds-count = h .seeds-count;
-    frontier-count = h .frontier-count;
-    looks = h .looks;
-    pivots = h .pivots;
-    used = ap (λ (x : List ℕ). take (s .n) x) (k .after) ∙ h .used;
-    frontier = after-same neighbors-only (6 * s .n) (c .frontier) (omega arith) ∙ h .frontier;
-    faces = h .faces;
+pub footing-laid : {s : Scene} {hash : Hash} {pts : List Float} {ks w v : List ℕ} (x : List ℕ) → Footing s hash pts w → Without hash pts (s .n) ks w v → length v ≡ length w → OnlyIn (5 * s .n) (9 * s .n) v x
+    → usedIn (s .n) x ≡ marked (usedIn (s .n) w) ks → ((k : ℕ) → 1 ≤ count (eqb k) ks → k < s .n) → Footing s hash pts x
+footing-laid {s} {hash} {pts} {ks} {w} {v} x g out l o used below =
+    let size : length (usedIn (s .n) w) ≡ s .n = length-take-le (s .n) (drop (5 * s .n) w) (simp length-drop (omega (arith, g .held .work-long))) in
+    footing-after x g
+    (record {
+      linked = linked-behind hash pts (s .n) (9 * s .n) v x (omega arith) (o .after) (o .length-same) (out .linked);
+      unused-in = λ j h free.
+          let r = marked-unused ks (usedIn (s .n) w) j (λ k q. omega (arith, below k q)) (subst (λ (u : List ℕ). unused u j ≡ true) used free) in
+          ap (λ (ls : List ℕ). isOut (s .n) ls j) (o .after) ∙ out .others j h (r .1) ∙ g .hashed .unused-in j h (r .0);
+    })
+    (before-same o 0 (4 * s .n) (omega arith) ∙ beside-without v out l .index)
+    (o .length-same ∙ l)
+
+-- ---- before any point is laid
+module _ {s : Scene} {hash : Hash} {pts : List Float} {w : List ℕ} (u : List ℕ) where
+  -- only words between the index and a place before the hash were changed
+  ground-only : (a : ℕ) → a ≤ 9 * s .n → OnlyIn (4 * s .n) a w u → Ground s hash pts w → Ground s hash pts u
+  ground-only a h o g = record {
+    some = g .some;
+    held = held-kept u (g .held) (o .length-same);
+    indexed = indexed-kept u (g .indexed) (o .length-same) (o .before);
+    hashed = hashed-all-behind hash pts (s .n) a w u h (o .after) (o .length-same) (g .hashed);
   }
+
+  pub footing-begun : Ground s hash pts w → OnlyIn (5 * s .n) (6 * s .n) w u → Footing s hash pts u
+  footing-begun g o =
+      let v = ground-only (6 * s .n) (omega arith) (only-wider (4 * s .n) (6 * s .n) (omega arith) (omega arith) o) g in
+      record { some = v .some; held = v .held; indexed = v .indexed; hashed = all-hashed (v .hashed) }
+
+pub ground-searched : {s : Scene} {w : List ℕ} (u : List ℕ) → Kept s w u → length u ≡ length w → {hash : Hash} {pts : List Float} → Ground s hash pts w → Ground s hash pts u
+ground-searched {s} u k l = ground-only u (5 * s .n) (omega arith) (record { before = k .before; after = k .after; length-same = l })
 
 -- a list that is not empty
 pub record Waiting (l : List Edge) : Type 0 where

@@ -14,12 +14,11 @@ use Rattle.patch.proofs.Laying.{room}
 use Rattle.spatial_hash.specs.declared.Hash.{Hash}
 use Rattle.decisions.specs.declared.Scene.{Scene}
 use Rattle.frontier.specs.declared.Counts.{Counts}
-use Rattle.frontier.specs.Work.{entryOf, Holds, Pops, Tells, Ready, OnlyIn}
-use Rattle.frontier.proofs.Slices.{only-both}
+use Rattle.frontier.specs.Work.{usedIn, entryOf, Holds, Pops, Tells, Ready, OnlyIn}
 use Rattle.frontier.proofs.Flags.{word-decoded}
 use Rattle.frontier.proofs.Work.{ready}
-use Rattle.laying.specs.Laying.{pivotOver, looked, Lays, Opened, Standing, Pivoting}
-use Rattle.laying.proofs.Kept.{step-only, ground-only, sized, Waiting, waiting}
+use Rattle.laying.specs.Laying.{Footing, pivotOver, looked, Lays, Opened, Standing, Pivoting}
+use Rattle.laying.proofs.Kept.{sized, footing-same, Waiting, waiting}
 use Rattle.laying.proofs.Pivots.{entry-below, looked-skip, looked-open}
 
 module _ {s : Scene} {hash : Hash} {pts : List Float} (r : Float) {c : Counts} {w slice : List ℕ} (st : Standing s hash pts c w slice) (some-wait : 0 < c .frontier) where
@@ -66,17 +65,29 @@ module _ {s : Scene} {hash : Hash} {pts : List Float} (r : Float) {c : Counts} {
         open-holds : Holds (s .n) lent open-state next u slice
         open-holds = pops lent slice t (decode entry) others h wait-is .1
 
-    pub skipped : seen ≡ true → Lays (s .n) (Inv (s .n)) (looked s pts r) c w slice next u slice
+    -- no point was used
+    popped-used : usedIn (s .n) u ≡ usedIn (s .n) w
+    unfolding popped
+    popped-used =
+        let t = st .state in
+        let x = waits (st .lent) t (st .holds) in
+        pops (st .lent) slice t (x .first) (x .others) (st .holds) (x .is) .1 .used ∙ sym (st .holds .used)
+
+    popped-ground : Footing s hash pts u
+    popped-ground = footing-same u (st .ground) only popped-used
+
+    pub skipped : seen ≡ true → Lays s hash pts (Inv (s .n)) (looked s pts r) c w slice next u slice
     skipped b = record {
       takes = λ lent t inv h. subst (λ (z : State). Holds (s .n) lent z next u slice)
           (sym (looked-skip s pts r (first lent t inv h) (others lent t inv h) t (waits lent t h .is) (seen-is lent t inv h ∙ b)))
           (pops lent slice t (first lent t inv h) (others lent t inv h) h (waits lent t h .is) .1);
-      only = step-only (s .n) only;
+      ground = popped-ground;
+      length-same = only .length-same;
     }
 
     pub pivoting : seen ≡ false → Pivoting s hash pts next u slice (decode entry)
     pivoting b = record {
-      ground = ground-only u (st .ground) (step-only (s .n) only);
+      ground = popped-ground;
       lent = st .lent;
       state = open-state (st .lent) (st .state) (st .inv) (st .holds) b;
       opened = opened (st .lent) (st .state) (st .inv) (st .holds) b;
@@ -84,10 +95,11 @@ module _ {s : Scene} {hash : Hash} {pts : List Float} (r : Float) {c : Counts} {
     }
 
     -- it was pivoted over
-    pub looked-over : seen ≡ false → {after : Counts} {v back : List ℕ} → Lays (s .n) (Opened (s .n) (decode entry)) (pivotOver s pts r (decode entry)) next u slice after v back → Lays (s .n) (Inv (s .n)) (looked s pts r) c w slice after v back
+    pub looked-over : seen ≡ false → {after : Counts} {v back : List ℕ} → Lays s hash pts (Opened (s .n) (decode entry)) (pivotOver s pts r (decode entry)) next u slice after v back → Lays s hash pts (Inv (s .n)) (looked s pts r) c w slice after v back
     looked-over b {after} {v} {back} lays = record {
       takes = λ lent t inv h. subst (λ (z : State). Holds (s .n) lent z after v back)
           (sym (looked-open s pts r (decode entry) (others lent t inv h) t (wait-is lent t inv h b) (fresh-is lent t inv h b)))
           (lays .takes lent (open-state lent t inv h b) (opened lent t inv h b) (open-holds lent t inv h b));
-      only = only-both (step-only (s .n) only) (lays .only);
+      ground = lays .ground;
+      length-same = lays .length-same ∙ only .length-same;
     }

@@ -2,15 +2,17 @@
 use Prim.Native.Nat.{ℕ, _+_, _*_, _≤_, _<_}
 use mathlib.Core.Path.{_≡_, refl, sym, ap, _∙_, subst}
 use mathlib.Core.Bool.{Bool, true, false}
-use mathlib.Core.List.{List, _∷_}
+use mathlib.Core.List.{List, [], _∷_}
 use mathlib.Core.Option.{Option, none, some}
 use native.Mathlib.Omega.{arith}
-use lib.ListN.{length}
+use borrow.Author.Tests.{eqb-true, eq-eqb}
+use lib.Dec.{eqb}
+use lib.ListN.{length, take}
 use lib.Ieee.{Float}
 use Rattle.patch.specs.Count.{bit, count, any}
-use Rattle.patch.specs.Lay.{Edge, edge, same, State, popped, met, pivoted, look, next, Free, Fair}
+use Rattle.patch.specs.Lay.{Edge, edge, same, State, popped, met, pivoted, withFace, marked, look, next, Free, Fair}
 use Rattle.patch.specs.Frontier.{heapOf}
-use Rattle.patch.proofs.Counts.{count-all}
+use Rattle.patch.proofs.Counts.{bit-true, count-all}
 use Rattle.patch.proofs.Inv.{Inv}
 use Rattle.patch.proofs.Looks.{Looked, distinct}
 use Rattle.patch.proofs.Laying.{Room as Fits, look-looked}
@@ -18,6 +20,7 @@ use Rattle.patch.proofs.Look.{look-skip, look-pivot, free-v1, free-v2, face-roo
 use Rattle.patch.proofs.Pops.{heapOf-keeps}
 use Rattle.patch.proofs.Searching.{searching-fair}
 use Rattle.spatial_hash.specs.declared.Hash.{Hash}
+use Rattle.spatial_hash.specs.Near.{Removed}
 use Rattle.decisions.specs.declared.Scene.{Scene}
 use Rattle.decisions.specs.Decisions.{floatsOf}
 use Rattle.decisions.proofs.Within.{within}
@@ -26,14 +29,18 @@ use Rattle.search.specs.declared.Pivot.the-variants.{To, Nowhere}
 use Rattle.search.specs.Ready.{Kept, usedIn, pivotFound}
 use Rattle.frontier.specs.declared.Counts.{Counts}
 use Rattle.frontier.specs.Work.{Holds, Takes, Alone, Open, Misses, Ready, Room, OnlyIn}
-use Rattle.frontier.proofs.Slices.{only-both}
 use Rattle.frontier.proofs.Work.{ready}
-use Rattle.laying.specs.Laying.{rulesOf, pivotOver, looked, Lays, Opened, Pivoting}
-use Rattle.laying.proofs.Kept.{ground-only, sized, step-only, search-only, holds-kept, pointOf, pointOf-found}
+use Rattle.laying.specs.Laying.{Footing, Without, rulesOf, pivotOver, looked, Lays, Opened, Pivoting}
+use Rattle.laying.proofs.Kept.{Beside, beside-both, beside-search, beside-without, holds-beside, sized, footing-searched, footing-laid, pointOf, pointOf-found}
 
 -- seeds and pivots are free points
 pub fair : (s : Scene) (pts : List Float) → Fair (s .n) (rulesOf s pts)
 fair s pts = searching-fair (s .n) (floatsOf s pts) (within s pts)
+
+-- the point that was met is used
+met-used : (e : Edge) (k : ℕ) (t : State) → pivoted e (met e (some k) t) .used ≡ marked (t .used) (k ∷ [])
+unfolding pivoted met withFace
+met-used e k t = refl
 
 -- ---- an entry is popped
 
@@ -103,9 +110,32 @@ module _ {n : ℕ} {e : Edge} {t : State} (o : Opened n e t) where
         omega (arith, left-out (λ g. true), count-all (o .before .frontier), count-all rest, face-room n (o .before) (o .inv) k free-before .1)
 
 -- ---- the pivot
+
+-- a removed point
+pub without-one : {hash : Hash} {pts : List Float} {n k : ℕ} {w u : List ℕ} → Removed hash pts n w u k → Without hash pts n (k ∷ []) w u
+without-one {k = k} x = record {
+  linked = x .linked;
+  others = λ j h none. x .others j h (λ (e : j ≡ k). let one : bit (eqb j k) ≡ 1 = ap bit (eq-eqb j k e) in omega arith);
+  before = x .before;
+}
+
+-- one after another
+pub without-three : {hash : Hash} {pts : List Float} {n i j k : ℕ} {w u v x : List ℕ} → Removed hash pts n w u i → Removed hash pts n u v j → Removed hash pts n v x k → Without hash pts n (i ∷ j ∷ k ∷ []) w x
+without-three a b c = record {
+  linked = c .linked;
+  others = λ p h none. without-one c .others p h (omega arith) ∙ without-one b .others p h (omega arith) ∙ without-one a .others p h (omega arith);
+  before = c .before ∙ b .before ∙ a .before;
+}
+
 module _ {s : Scene} {hash : Hash} {pts : List Float} (r : Float) {c : Counts} {w slice : List ℕ} {a b : ℕ} (p : Pivoting s hash pts c w slice (edge a b)) where
   pub edge-below : (a < s .n) × (b < s .n)
   edge-below = entry-below (edge a b) (p .opened .others) (p .opened .before) (p .opened .wait) (p .opened .inv)
+
+  pivot-ready : Ready (s .n) c w
+  pivot-ready = ready (s .n) (p .lent) (p .state) c w slice (sized (p .ground)) (p .holds) (opened-fits (p .opened))
+
+  pub few-pivots : c .pivots ≤ 8192
+  few-pivots = omega (arith, pivot-ready .pivots, pivot-ready .sized .few)
 
   module _ {found : Pivot} {u : List ℕ} (is : found ≡ pivotFound (rulesOf s pts .pivotOf r (usedIn s w) (edge a b))) (kept : Kept s w u) (long : length u ≡ length w) where
     point-met : (lent : List ℕ) (t : State) (o : Option ℕ) → Holds (s .n) lent t c w slice → found ≡ pivotFound o → rulesOf s pts .pivotOf r (t .used) (edge a b) ≡ o
@@ -119,33 +149,50 @@ module _ {s : Scene} {hash : Hash} {pts : List Float} (r : Float) {c : Counts} {
     pub free-point : {k : ℕ} → found ≡ To k → Free (s .n) (p .state .used) k
     free-point f = free-met (p .lent) (p .state) (p .holds) f
 
-    pivot-ready : Ready (s .n) c u
-    pivot-ready = ready (s .n) (p .lent) (p .state) c u slice (sized (ground-only u (p .ground) (search-only u kept long))) (holds-kept u kept long (p .holds)) (opened-fits (p .opened))
+    pub searched : Footing s hash pts u
+    searched = footing-searched u (p .ground) kept long
 
-    pub pivot-room : {k : ℕ} → found ≡ To k → Room (s .n) c u a b k
-    pivot-room {k} f = record {
-      ready = pivot-ready;
-      entries = omega (arith, p .holds .frontier-count, opened-room (p .opened) k (free-point f));
-      first = edge-below .0;
-      second = edge-below .1;
-      third = free-point f .below;
-    }
-
-    pub few-pivots : c .pivots ≤ 8192
-    few-pivots = omega (arith, pivot-ready .pivots, pivot-ready .sized .few)
-
-    pub pivot-laid : {k : ℕ} {next : Counts} {v back : List ℕ} → found ≡ To k → Takes (s .n) (Open (edge a b) k) (λ t. pivoted (edge a b) (met (edge a b) (some k) t)) c u slice next v back → OnlyIn (5 * s .n) (9 * s .n) u v
-        → Lays (s .n) (Opened (s .n) (edge a b)) (pivotOver s pts r (edge a b)) c w slice next v back
-    pivot-laid {k} {next} {v} {back} f takes only = record {
-      takes = λ lent t o h. subst (λ (z : Option ℕ). Holds (s .n) lent (pivoted (edge a b) (met (edge a b) z t)) next v back) (sym (point-met lent t (some k) h f))
-          (takes lent t (opened-open o k (free-met lent t h f)) (holds-kept u kept long h));
-      only = only-both (search-only u kept long) (step-only (s .n) only);
-    }
-
-    pub pivot-missed : {next : Counts} → found ≡ Nowhere → Misses c next → Lays (s .n) (Opened (s .n) (edge a b)) (pivotOver s pts r (edge a b)) c w slice next u slice
+    pub pivot-missed : {next : Counts} → found ≡ Nowhere → Misses c next → Lays s hash pts (Opened (s .n) (edge a b)) (pivotOver s pts r (edge a b)) c w slice next u slice
     unfolding met
     pivot-missed {next} f misses = record {
       takes = λ lent t o h. subst (λ (z : Option ℕ). Holds (s .n) lent (pivoted (edge a b) (met (edge a b) z t)) next u slice) (sym (point-met lent t none h f))
-          (misses (s .n) u slice lent (edge a b) t (opened-alone o) (holds-kept u kept long h));
-      only = search-only u kept long;
+          (misses (s .n) u slice lent (edge a b) t (opened-alone o) (holds-beside (beside-search u kept long) (pivot-ready .frontier) h));
+      ground = searched;
+      length-same = long;
     }
+
+    -- the point that was met is out
+    module _ {k : ℕ} {v : List ℕ} (f : found ≡ To k) (removed : Removed hash pts (s .n) u v k) (same : length v ≡ length u) where
+      aside : Beside (s .n) w v
+      aside = beside-both (beside-search u kept long) (beside-without v (without-one removed) same)
+
+      pub pivot-room : Room (s .n) c v a b k
+      pivot-room = record {
+        ready = ready (s .n) (p .lent) (p .state) c v slice
+            (record { some = p .ground .some; few = p .ground .held .few; long = omega (arith, p .ground .held .work-long) })
+            (holds-beside aside (pivot-ready .frontier) (p .holds)) (opened-fits (p .opened));
+        entries = omega (arith, p .holds .frontier-count, opened-room (p .opened) k (free-point f));
+        first = edge-below .0;
+        second = edge-below .1;
+        third = free-point f .below;
+      }
+
+      pub pivot-laid : {next : Counts} {x back : List ℕ} → Takes (s .n) (Open (edge a b) k) (λ t. pivoted (edge a b) (met (edge a b) (some k) t)) c v slice next x back → OnlyIn (5 * s .n) (9 * s .n) v x
+          → Lays s hash pts (Opened (s .n) (edge a b)) (pivotOver s pts r (edge a b)) c w slice next x back
+      pivot-laid {next} {x} {back} takes only = record {
+        takes = λ lent t o h. subst (λ (z : Option ℕ). Holds (s .n) lent (pivoted (edge a b) (met (edge a b) z t)) next x back) (sym (point-met lent t (some k) h f)) (laid lent t o h);
+        ground = footing-laid x searched (without-one removed) same only (used-one ∙ ap (λ (used : List ℕ). marked used (k ∷ [])) (sym (p .holds .used) ∙ sym used-kept)) (λ j q. one-below j q);
+        length-same = only .length-same ∙ same ∙ long;
+      }
+        where
+          laid : (lent : List ℕ) (t : State) → Opened (s .n) (edge a b) t → Holds (s .n) lent t c w slice → Holds (s .n) lent (pivoted (edge a b) (met (edge a b) (some k) t)) next x back
+          laid lent t o h = takes lent t (opened-open o k (free-met lent t h f)) (holds-beside aside (pivot-ready .frontier) h)
+
+          used-one : usedIn s x ≡ marked (p .state .used) (k ∷ [])
+          used-one = laid (p .lent) (p .state) (p .opened) (p .holds) .used ∙ met-used (edge a b) k (p .state)
+
+          used-kept : usedIn s u ≡ usedIn s w
+          used-kept = ap (take (s .n)) (kept .after)
+
+          one-below : (j : ℕ) → 1 ≤ count (eqb j) (k ∷ []) → j < s .n
+          one-below j q = let e = eqb-true j k (bit-true (omega arith)) in omega (arith, free-point f .below)

@@ -1,13 +1,17 @@
 -- One radius from its seed on, and all radii in turn. Assumes nothing.
 use Prim.Native.Nat.{ℕ, suc, _+_, _*_, _≤_, _<_}
 use mathlib.Core.Path.{_≡_, refl, sym, ap, _∙_, subst}
+use mathlib.Core.Bool.{Bool, true, false}
 use mathlib.Core.List.{List, [], _∷_, _++_}
 use mathlib.Core.Option.{Option, none, some}
 use native.Mathlib.Omega.{arith}
+use borrow.Author.Tests.{eqb-true}
+use lib.Dec.{eqb}
 use lib.ListN.{length, take, getD}
 use lib.Seq.{take-suc}
 use lib.Ieee.{Float}
-use Rattle.patch.specs.Lay.{State, Rules, Pop, cleared, seeded, run, begun, layOne, layAll, patch, blank, FreeSeed}
+use Rattle.patch.specs.Count.{bit, count}
+use Rattle.patch.specs.Lay.{State, Rules, Pop, marked, withFace, cleared, seeded, run, begun, layOne, layAll, patch, blank, FreeSeed}
 use Rattle.patch.specs.Frontier.{heapOf}
 use Rattle.patch.proofs.Inv.{Inv}
 use Rattle.patch.proofs.Looks.{clear-inv, seed-inv}
@@ -20,10 +24,9 @@ use Rattle.search.specs.declared.Seed.the-variants.{Triangle, Nothing}
 use Rattle.search.specs.Ready.{Kept, usedIn, seedFound}
 use Rattle.frontier.specs.declared.Counts.{Counts}
 use Rattle.frontier.specs.Work.{Holds, Takes, Begins, Clears, NoneProcessed, Room, OnlyIn}
-use Rattle.frontier.proofs.Slices.{only-wider, only-both}
 use Rattle.frontier.proofs.Work.{ready}
-use Rattle.laying.specs.Laying.{Ground, rulesOf, Lays, Standing, Resting}
-use Rattle.laying.proofs.Kept.{ground-only, sized, step-only, search-only, holds-kept, seedIn, seedIn-found}
+use Rattle.laying.specs.Laying.{Ground, Footing, Without, rulesOf, Lays, Standing, Resting}
+use Rattle.laying.proofs.Kept.{Beside, beside-both, beside-search, beside-without, holds-beside, footing-searched, footing-laid, footing-begun, seedIn, seedIn-found}
 use Rattle.laying.proofs.Pivots.{fair}
 
 -- ---- one radius
@@ -32,20 +35,29 @@ module _ {s : Scene} {hash : Hash} {pts : List Float} (r : Float) {c : Counts} {
   abbrev state : State
   state = st .state
 
-  -- cleared, and searched for a seed
-  begun-holds : (lent : List ℕ) (t : State) → Holds (s .n) lent t c w slice → Holds (s .n) lent (cleared t) blank-counts u slice
-  begun-holds lent t h = holds-kept u kept long (clears (s .n) w slice lent t h)
-
   seed-is : (lent : List ℕ) (t : State) (o : Option (ℕ × ℕ × ℕ)) → Holds (s .n) lent t c w slice → found ≡ seedFound o → rulesOf s pts .seedOf r (t .used) ≡ o
   seed-is lent t o h f =
       ap (λ (used : List ℕ). rulesOf s pts .seedOf r used) (sym (h .used))
       ∙ sym (seedIn-found (rulesOf s pts .seedOf r (usedIn s w))) ∙ ap seedIn (sym is ∙ f) ∙ seedIn-found o
 
-  pub no-seed : found ≡ Nothing → Lays (s .n) (Rest (s .n)) (layOne (rulesOf s pts) heapOf (s .n) r) c w slice blank-counts u slice
+  -- no entry waits once the counts are cleared
+  no-entries : blank-counts .frontier ≤ 3 * s .n
+  unfolding cleared
+  no-entries = omega (arith, clears (s .n) w slice (st .lent) state (st .holds) .frontier-count)
+
+  -- cleared, and searched for a seed
+  begun-holds : {v : List ℕ} → Beside (s .n) w v → (lent : List ℕ) (t : State) → Holds (s .n) lent t c w slice → Holds (s .n) lent (cleared t) blank-counts v slice
+  begun-holds b lent t h = holds-beside b no-entries (clears (s .n) w slice lent t h)
+
+  pub searched : Footing s hash pts u
+  searched = footing-searched u (st .ground) kept long
+
+  pub no-seed : found ≡ Nothing → Lays s hash pts (Rest (s .n)) (layOne (rulesOf s pts) heapOf (s .n) r) c w slice blank-counts u slice
   unfolding layOne begun
   no-seed f = record {
-    takes = λ lent t rest h. subst (λ (o : Option (ℕ × ℕ × ℕ)). Holds (s .n) lent (begun (rulesOf s pts) heapOf r (s .n) o (cleared t)) blank-counts u slice) (sym (seed-is lent t none h f)) (begun-holds lent t h);
-    only = search-only u kept long;
+    takes = λ lent t rest h. subst (λ (o : Option (ℕ × ℕ × ℕ)). Holds (s .n) lent (begun (rulesOf s pts) heapOf r (s .n) o (cleared t)) blank-counts u slice) (sym (seed-is lent t none h f)) (begun-holds (beside-search u kept long) lent t h);
+    ground = searched;
+    length-same = long;
   }
 
   module _ {i j k : ℕ} (f : found ≡ Triangle i j k) where
@@ -59,46 +71,66 @@ module _ {s : Scene} {hash : Hash} {pts : List Float} (r : Float) {c : Counts} {
     unfolding cleared
     none-processed t = refl
 
-    ground : Ground s hash pts u
-    ground = ground-only u (st .ground) (search-only u kept long)
-
     no-entry : length (cleared state .frontier) ≡ 0
     unfolding cleared
     no-entry = refl
 
-    pub seed-room : Room (s .n) blank-counts u i j k
-    seed-room =
-        let h = begun-holds (st .lent) state (st .holds) in
-        record {
-          ready = ready (s .n) (st .lent) (cleared state) blank-counts u slice (sized ground) h (room (s .n) (cleared state) (clear-inv (s .n) state (st .rest .inv) (st .rest .idle)));
-          entries = omega (arith, h .frontier-count, no-entry, ground .some);
-          first = free-seed .first .below;
-          second = free-seed .second .below;
-          third = free-seed .third .below;
+    points-below : (p : ℕ) → 1 ≤ count (eqb p) (i ∷ j ∷ k ∷ []) → p < s .n
+    points-below p h = among-three (eqb p i) (eqb p j) (eqb p k) refl refl refl
+      where
+        among-three : (x y z : Bool) → eqb p i ≡ x → eqb p j ≡ y → eqb p k ≡ z → p < s .n
+        among-three true y z e g q = let o = eqb-true p i e in omega (arith, free-seed .first .below)
+        among-three false true z e g q = let o = eqb-true p j g in omega (arith, free-seed .second .below)
+        among-three false false true e g q = let o = eqb-true p k q in omega (arith, free-seed .third .below)
+        among-three false false false e g q = absurd (omega (arith, ap bit e, ap bit g, ap bit q))
+
+    -- the seed's points are out
+    module _ {v : List ℕ} (out : Without hash pts (s .n) (i ∷ j ∷ k ∷ []) u v) (same : length v ≡ length u) where
+      aside : Beside (s .n) w v
+      aside = beside-both (beside-search u kept long) (beside-without v out same)
+
+      pub seed-room : Room (s .n) blank-counts v i j k
+      seed-room =
+          let h = begun-holds aside (st .lent) state (st .holds) in
+          record {
+            ready = ready (s .n) (st .lent) (cleared state) blank-counts v slice
+                (record { some = st .ground .some; few = st .ground .held .few; long = omega (arith, st .ground .held .work-long) })
+                h (room (s .n) (cleared state) (clear-inv (s .n) state (st .rest .inv) (st .rest .idle)));
+            entries = omega (arith, h .frontier-count, no-entry, st .ground .some);
+            first = free-seed .first .below;
+            second = free-seed .second .below;
+            third = free-seed .third .below;
+          }
+
+      -- the seed was laid
+      module _ {after : Counts} {x back : List ℕ} (takes : Takes (s .n) NoneProcessed (seeded (i, j, k)) blank-counts v slice after x back) (only : OnlyIn (5 * s .n) (9 * s .n) v x) where
+        seed-holds : (lent : List ℕ) (t : State) → Holds (s .n) lent t c w slice → Holds (s .n) lent (seeded (i, j, k) (cleared t)) after x back
+        seed-holds lent t h = takes lent (cleared t) (none-processed t) (begun-holds aside lent t h)
+
+        seed-used : usedIn s x ≡ marked (usedIn s u) (i ∷ j ∷ k ∷ [])
+        unfolding seeded withFace cleared
+        seed-used =
+            seed-holds (st .lent) state (st .holds) .used
+            ∙ ap (λ (used : List ℕ). marked used (i ∷ j ∷ k ∷ [])) (sym (st .holds .used) ∙ sym (ap (take (s .n)) (kept .after)))
+
+        pub seed-standing : Standing s hash pts after x back
+        seed-standing = record {
+          ground = footing-laid x searched out same only seed-used points-below;
+          lent = st .lent;
+          state = seeded (i, j, k) (cleared state);
+          inv = seed-inv (s .n) state (st .rest .inv) (st .rest .idle) (i, j, k) free-seed;
+          holds = seed-holds (st .lent) state (st .holds);
         }
 
-    -- the seed was laid
-    module _ {after : Counts} {v back : List ℕ} (takes : Takes (s .n) NoneProcessed (seeded (i, j, k)) blank-counts u slice after v back) (only : OnlyIn (5 * s .n) (9 * s .n) u v) where
-      seed-holds : (lent : List ℕ) (t : State) → Holds (s .n) lent t c w slice → Holds (s .n) lent (seeded (i, j, k) (cleared t)) after v back
-      seed-holds lent t h = takes lent (cleared t) (none-processed t) (begun-holds lent t h)
-
-      pub seed-standing : Standing s hash pts after v back
-      seed-standing = record {
-        ground = ground-only v ground (step-only (s .n) only);
-        lent = st .lent;
-        state = seeded (i, j, k) (cleared state);
-        inv = seed-inv (s .n) state (st .rest .inv) (st .rest .idle) (i, j, k) free-seed;
-        holds = seed-holds (st .lent) state (st .holds);
-      }
-
-      pub seed-laid : {end : Counts} {z front : List ℕ} → Lays (s .n) (Inv (s .n)) (run (rulesOf s pts) heapOf r (3 * s .n)) after v back end z front → Lays (s .n) (Rest (s .n)) (layOne (rulesOf s pts) heapOf (s .n) r) c w slice end z front
-      unfolding layOne begun
-      seed-laid {end} {z} {front} lays = record {
-        takes = λ lent t rest h.
-            subst (λ (o : Option (ℕ × ℕ × ℕ)). Holds (s .n) lent (begun (rulesOf s pts) heapOf r (s .n) o (cleared t)) end z front) (sym (seed-is lent t (some (i, j, k)) h f))
-            (lays .takes lent (seeded (i, j, k) (cleared t)) (seed-inv (s .n) t (rest .inv) (rest .idle) (i, j, k) (free-found lent t h)) (seed-holds lent t h));
-        only = only-both (search-only u kept long) (only-both (step-only (s .n) only) (lays .only));
-      }
+        pub seed-laid : {end : Counts} {z front : List ℕ} → Lays s hash pts (Inv (s .n)) (run (rulesOf s pts) heapOf r (3 * s .n)) after x back end z front → Lays s hash pts (Rest (s .n)) (layOne (rulesOf s pts) heapOf (s .n) r) c w slice end z front
+        unfolding layOne begun
+        seed-laid {end} {z} {front} lays = record {
+          takes = λ lent t rest h.
+              subst (λ (o : Option (ℕ × ℕ × ℕ)). Holds (s .n) lent (begun (rulesOf s pts) heapOf r (s .n) o (cleared t)) end z front) (sym (seed-is lent t (some (i, j, k)) h f))
+              (lays .takes lent (seeded (i, j, k) (cleared t)) (seed-inv (s .n) t (rest .inv) (rest .idle) (i, j, k) (free-found lent t h)) (seed-holds lent t h));
+          ground = lays .ground;
+          length-same = lays .length-same ∙ only .length-same ∙ same ∙ long;
+        }
 
 -- ---- all radii
 layAll-more : {R : Type 0} (rules : Rules R) (order : Pop) (n : ℕ) (rs : List R) (r : R) (t : State) → layAll rules order n (rs ++ (r ∷ [])) t ≡ layOne rules order n r (layAll rules order n rs t)
@@ -109,7 +141,7 @@ layAll-more rules order n (x ∷ rs) r t = layAll-more rules order n rs r (layOn
 -- the first i radii have been laid
 pub record Covering (s : Scene) (hash : Hash) (pts radii : List Float) (count : ℕ) (lent w₀ : List ℕ) (i : ℕ) (c : Counts) (w slice : List ℕ) : Type 0 where
   pub inside : i ≤ count
-  pub ground : Ground s hash pts w
+  pub ground : Footing s hash pts w
   pub holds : Holds (s .n) lent (layAll (rulesOf s pts) heapOf (s .n) (take i radii) (blank (s .n))) c w slice
   pub words : length w ≡ length w₀
   pub face-words : length slice ≡ length lent
@@ -119,7 +151,7 @@ module _ {s : Scene} {hash : Hash} {pts radii : List Float} {count : ℕ} {lent 
   unfolding layAll
   cover-start {w} {c} g begins only = record {
     inside = omega arith;
-    ground = ground-only w₀ g (only-wider (4 * s .n) (9 * s .n) (omega arith) (omega arith) only);
+    ground = footing-begun w₀ g only;
     holds = begins lent;
     words = refl;
     face-words = refl;
@@ -138,7 +170,7 @@ module _ {s : Scene} {hash : Hash} {pts radii : List Float} {count : ℕ} {lent 
       holds = so-far .holds;
     }
 
-    pub cover-step : (d : Float) {after : Counts} {v back : List ℕ} → i < count → i < length radii → Lays (s .n) (Rest (s .n)) (layOne (rulesOf s pts) heapOf (s .n) (getD radii i d)) c w slice after v back → length back ≡ length slice
+    pub cover-step : (d : Float) {after : Counts} {v back : List ℕ} → i < count → i < length radii → Lays s hash pts (Rest (s .n)) (layOne (rulesOf s pts) heapOf (s .n) (getD radii i d)) c w slice after v back → length back ≡ length slice
         → Covering s hash pts radii count lent w₀ (i + 1) after v back
     cover-step d {after} {v} {back} h g lays face-long =
         let e : i + 1 ≡ suc i = omega arith in
@@ -147,9 +179,9 @@ module _ {s : Scene} {hash : Hash} {pts radii : List Float} {count : ℕ} {lent 
         ap (λ (rs : List Float). layAll (rulesOf s pts) heapOf (s .n) rs (blank (s .n))) one-more ∙ layAll-more (rulesOf s pts) heapOf (s .n) (take i radii) (getD radii i d) (blank (s .n)) in
         record {
           inside = omega arith;
-          ground = ground-only v (so-far .ground) (lays .only);
+          ground = lays .ground;
           holds = subst (λ (t : State). Holds (s .n) lent t after v back) (sym step) (lays .takes lent (layAll (rulesOf s pts) heapOf (s .n) (take i radii) (blank (s .n))) at-rest (so-far .holds));
-          words = lays .only .length-same ∙ so-far .words;
+          words = lays .length-same ∙ so-far .words;
           face-words = face-long ∙ so-far .face-words;
         }
 

@@ -14,9 +14,8 @@ use Rattle.spatial_hash.specs.declared.Hash.{Hash}
 use Rattle.decisions.specs.declared.Scene.{Scene}
 use Rattle.frontier.specs.declared.Counts.{Counts}
 use Rattle.frontier.specs.Work.{Holds}
-use Rattle.frontier.proofs.Slices.{only-none, only-both}
 use Rattle.laying.specs.Laying.{rulesOf, looked, Lays, Standing}
-use Rattle.laying.proofs.Kept.{ground-only, waiting, none-waits}
+use Rattle.laying.proofs.Kept.{waiting, none-waits}
 use Rattle.laying.proofs.Pivots.{fair, looked-looked}
 
 -- ---- the definition's run, from its end
@@ -60,7 +59,7 @@ pub record Stepped (s : Scene) (hash : Hash) (pts : List Float) (c : Counts) (r 
   pub few : c .looks < 3 * s .n
 
 module _ {s : Scene} {hash : Hash} {pts : List Float} (r : Float) {c : Counts} {w slice : List ℕ} (st : Standing s hash pts c w slice) (some-wait : 0 < c .frontier) where
-  pub stepped : {after : Counts} {u back : List ℕ} → Lays (s .n) (Inv (s .n)) (looked s pts r) c w slice after u back → Stepped s hash pts c after u back
+  pub stepped : {after : Counts} {u back : List ℕ} → Lays s hash pts (Inv (s .n)) (looked s pts r) c w slice after u back → Stepped s hash pts c after u back
   stepped {after} {u} {back} lays =
       let t = st .state in
       let h = st .holds in
@@ -68,7 +67,7 @@ module _ {s : Scene} {hash : Hash} {pts : List Float} (r : Float) {c : Counts} {
       let m = looked-looked s pts r (x .first) (x .others) t (x .is) (st .inv) in
       let g = lays .takes (st .lent) t (st .inv) h in
       record {
-        standing = record { ground = ground-only u (st .ground) (lays .only); lent = st .lent; state = looked s pts r t; inv = m .inv; holds = g };
+        standing = record { ground = lays .ground; lent = st .lent; state = looked s pts r t; inv = m .inv; holds = g };
         one-look = omega (arith, h .looks, g .looks, m .falls, m .inv .looked, st .inv .looked);
         few = omega (arith, h .looks, h .frontier-count, st .inv .looked, room (s .n) t (st .inv) .faces);
       }
@@ -77,7 +76,7 @@ module _ {s : Scene} {hash : Hash} {pts : List Float} (r : Float) {c : Counts} {
 pub record Running (s : Scene) (hash : Hash) (pts : List Float) (r : Float) (c₀ : Counts) (w₀ slice₀ : List ℕ) (c : Counts) (w slice : List ℕ) : Type 0 where
   pub standing : Standing s hash pts c w slice
   pub later : c₀ .looks ≤ c .looks
-  pub lays : Lays (s .n) (Inv (s .n)) (run (rulesOf s pts) heapOf r (c .looks - c₀ .looks)) c₀ w₀ slice₀ c w slice
+  pub lays : Lays s hash pts (Inv (s .n)) (run (rulesOf s pts) heapOf r (c .looks - c₀ .looks)) c₀ w₀ slice₀ c w slice
   pub face-words : length slice ≡ length slice₀
 
 module _ {s : Scene} {hash : Hash} {pts : List Float} {r : Float} {c₀ : Counts} {w₀ slice₀ : List ℕ} where
@@ -88,12 +87,12 @@ module _ {s : Scene} {hash : Hash} {pts : List Float} {r : Float} {c₀ : Counts
       record {
         standing = st;
         later = omega arith;
-        lays = record { takes = λ lent t inv h. subst (λ (k : ℕ). Holds (s .n) lent (ran s pts r k t) c₀ w₀ slice₀) e h; only = only-none (4 * s .n) (9 * s .n) w₀ };
+        lays = record { takes = λ lent t inv h. subst (λ (k : ℕ). Holds (s .n) lent (ran s pts r k t) c₀ w₀ slice₀) e h; ground = st .ground; length-same = refl };
         face-words = refl;
       }
 
   module _ {c : Counts} {w slice : List ℕ} (run : Running s hash pts r c₀ w₀ slice₀ c w slice) where
-    pub run-step : {after : Counts} {u back : List ℕ} → 0 < c .frontier → Lays (s .n) (Inv (s .n)) (looked s pts r) c w slice after u back → length back ≡ length slice → Running s hash pts r c₀ w₀ slice₀ after u back
+    pub run-step : {after : Counts} {u back : List ℕ} → 0 < c .frontier → Lays s hash pts (Inv (s .n)) (looked s pts r) c w slice after u back → length back ≡ length slice → Running s hash pts r c₀ w₀ slice₀ after u back
     run-step {after} {u} {back} some-wait lays face-long =
         let t = stepped r (run .standing) some-wait lays in
         let k : ℕ = c .looks - c₀ .looks in
@@ -104,15 +103,16 @@ module _ {s : Scene} {hash : Hash} {pts : List Float} {r : Float} {c₀ : Counts
           lays = record {
             takes = λ lent z inv h. subst (λ (j : ℕ). Holds (s .n) lent (ran s pts r j z) after u back) e
                 (subst (λ (y : State). Holds (s .n) lent y after u back) (sym (run-more s pts r k z)) (lays .takes lent (ran s pts r k z) (run-inv s pts r k z inv) (run .lays .takes lent z inv h)));
-            only = only-both (run .lays .only) (lays .only);
+            ground = lays .ground;
+            length-same = lays .length-same ∙ run .lays .length-same;
           };
           face-words = face-long ∙ run .face-words;
         }
 
-    pub run-less : {after : Counts} {u back : List ℕ} → 0 < c .frontier → Lays (s .n) (Inv (s .n)) (looked s pts r) c w slice after u back → 3 * s .n - after .looks < 3 * s .n - c .looks
+    pub run-less : {after : Counts} {u back : List ℕ} → 0 < c .frontier → Lays s hash pts (Inv (s .n)) (looked s pts r) c w slice after u back → 3 * s .n - after .looks < 3 * s .n - c .looks
     run-less {after} {u} {back} some-wait lays = let t = stepped r (run .standing) some-wait lays in omega (arith, t .one-look, t .few)
 
-    pub run-end : c .frontier ≤ 0 → Lays (s .n) (Inv (s .n)) (ran s pts r (3 * s .n)) c₀ w₀ slice₀ c w slice
+    pub run-end : c .frontier ≤ 0 → Lays s hash pts (Inv (s .n)) (ran s pts r (3 * s .n)) c₀ w₀ slice₀ c w slice
     run-end none =
         let st = run .standing in
         let k : ℕ = c .looks - c₀ .looks in
@@ -121,5 +121,6 @@ module _ {s : Scene} {hash : Hash} {pts : List Float} {r : Float} {c₀ : Counts
           takes = λ lent t inv h.
               let g = run .lays .takes lent t inv h in
               subst (λ (y : State). Holds (s .n) lent y c w slice) (sym (run-stop s pts r k (3 * s .n) t few (none-waits (ran s pts r k t .frontier) (omega (arith, g .frontier-count))))) g;
-          only = run .lays .only;
+          ground = run .lays .ground;
+          length-same = run .lays .length-same;
         }

@@ -3,29 +3,45 @@ use Prim.Native.Nat.{ℕ, _<_}
 use mathlib.Core.Path.{_≡_}
 use mathlib.Core.Bool.{false}
 use mathlib.Core.List.{List, _∷_}
+use lib.Dec.{eqb}
+use lib.ListN.{length, take}
 use lib.Ieee.{Float}
-use Rattle.regions.specs.Regions.{neighborsAt, frontierEnd}
+use Rattle.regions.specs.Regions.{linksAt}
 use Rattle.grid.specs.Index.{Indexed}
-use Rattle.patch.specs.Count.{any}
+use Rattle.patch.specs.Count.{count, any}
 use Rattle.patch.specs.Lay.{Edge, same, State, Rules, popped, met, pivoted, next}
 use Rattle.patch.specs.Frontier.{heapOf}
 use Rattle.patch.specs.Search.{searching}
 use Rattle.patch.proofs.Inv.{Inv}
 use Rattle.patch.proofs.Laying.{Rest}
 use Rattle.spatial_hash.specs.declared.Hash.{Hash}
-use Rattle.spatial_hash.specs.Near.{Hashed}
+use Rattle.spatial_hash.specs.Near.{Linked, Hashed, HashedAll}
+use Rattle.spatial_hash.specs.Buckets.{linksOf, isOut}
 use Rattle.decisions.specs.declared.Scene.{Scene}
 use Rattle.decisions.specs.Decisions.{floatsOf}
 use Rattle.search.specs.Ready.{Held}
 use Rattle.frontier.specs.declared.Counts.{Counts}
-use Rattle.frontier.specs.Work.{Holds, Takes, OnlyIn}
+use Rattle.frontier.specs.Work.{Holds, Takes}
 
 -- there are points, the slices are long enough for them, and they are indexed and hashed
 pub record Ground (s : Scene) (hash : Hash) (pts : List Float) (w : List ℕ) : Type 0 where
   pub some : 0 < s .n
   pub held : Held s pts w
   pub indexed : Indexed (s .grid) pts (s .n) w
+  pub hashed : HashedAll hash pts (s .n) w
+
+-- the same once points are laid: whoever was taken out of the hash is used
+pub record Footing (s : Scene) (hash : Hash) (pts : List Float) (w : List ℕ) : Type 0 where
+  pub some : 0 < s .n
+  pub held : Held s pts w
+  pub indexed : Indexed (s .grid) pts (s .n) w
   pub hashed : Hashed hash pts (s .n) w
+
+-- the points ks were taken out of the hash, and nobody else; only words from `linksAt` on were changed: w before, u after
+pub record Without (hash : Hash) (pts : List Float) (n : ℕ) (ks w u : List ℕ) : Type 0 where
+  pub linked : Linked hash pts n u
+  pub others : (j : ℕ) → j < n → count (eqb j) ks ≡ 0 → isOut n (linksOf n u) j ≡ isOut n (linksOf n w) j
+  pub before : take (linksAt n) u ≡ take (linksAt n) w
 
 -- the choices of seeds and pivots
 abbrev pub rulesOf : Scene → List Float → Rules Float
@@ -41,10 +57,11 @@ pivotOver s pts r e t = pivoted e (met e (rulesOf s pts .pivotOf r (t .used) e) 
 abbrev pub looked : Scene → List Float → Float → State → State
 looked s pts r t = next (rulesOf s pts) heapOf r (t .frontier) t
 
--- a function that turns c, w and slice into r, u and back takes the step, from each held state of which `asked` holds, and leaves the index and the hash alone
-pub record Lays (n : ℕ) (asked : State → Type 0) (step : State → State) (c : Counts) (w slice : List ℕ) (r : Counts) (u back : List ℕ) : Type 0 where
-  pub takes : Takes n asked step c w slice r u back
-  pub only : OnlyIn (neighborsAt n) (frontierEnd n) w u
+-- a function that turns c, w and slice into r, u and back takes the step, from each held state of which `asked` holds, and leaves the index and the hash right
+pub record Lays (s : Scene) (hash : Hash) (pts : List Float) (asked : State → Type 0) (step : State → State) (c : Counts) (w slice : List ℕ) (r : Counts) (u back : List ℕ) : Type 0 where
+  pub takes : Takes (s .n) asked step c w slice r u back
+  pub ground : Footing s hash pts u
+  pub length-same : length u ≡ length w
 
 -- within a look: e was popped, and is not processed
 pub record Opened (n : ℕ) (e : Edge) (t : State) : Type 0 where
@@ -59,7 +76,7 @@ pub record Opened (n : ℕ) (e : Edge) (t : State) : Type 0 where
 
 -- between two looks
 pub record Standing (s : Scene) (hash : Hash) (pts : List Float) (c : Counts) (w slice : List ℕ) : Type 0 where
-  pub ground : Ground s hash pts w
+  pub ground : Footing s hash pts w
   pub lent : List ℕ
   pub state : State
   pub inv : Inv (s .n) state
@@ -67,7 +84,7 @@ pub record Standing (s : Scene) (hash : Hash) (pts : List Float) (c : Counts) (w
 
 -- between two radii
 pub record Resting (s : Scene) (hash : Hash) (pts : List Float) (c : Counts) (w slice : List ℕ) : Type 0 where
-  pub ground : Ground s hash pts w
+  pub ground : Footing s hash pts w
   pub lent : List ℕ
   pub state : State
   pub rest : Rest (s .n) state
@@ -75,7 +92,7 @@ pub record Resting (s : Scene) (hash : Hash) (pts : List Float) (c : Counts) (w 
 
 -- within a look, before the pivot over e
 pub record Pivoting (s : Scene) (hash : Hash) (pts : List Float) (c : Counts) (w slice : List ℕ) (e : Edge) : Type 0 where
-  pub ground : Ground s hash pts w
+  pub ground : Footing s hash pts w
   pub lent : List ℕ
   pub state : State
   pub opened : Opened (s .n) e state

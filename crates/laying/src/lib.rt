@@ -11,7 +11,9 @@ ghost use Rattle.patch.specs.Frontier.{heapOf};
 ghost use Rattle.patch.proofs.Inv.{Inv};
 ghost use Rattle.patch.proofs.Laying.{Rest};
 ghost use Rattle.frontier.specs.Work.{Holds};
-ghost use Rattle.laying.specs.Laying.{Ground, rulesOf, pivotOver, looked, Lays, Opened, Pivoting, Standing, Resting};
+ghost use Rattle.laying.specs.Laying.{Ground, rulesOf, pivotOver, looked, Lays, Opened, Pivoting, Standing, Resting, Without};
+ghost use Rattle.spatial_hash.specs.Near.{Linked};
+ghost use mathlib.Core.List.{[], _∷_};
 
 // The ball is pivoted over the edge a, b; if it meets a point, their face is laid. Then the edge is processed.
 fn pivot_over(
@@ -26,11 +28,14 @@ fn pivot_over(
     hash: Hash,
 ) -> Counts
     requires { ⌜ Pivoting s hash (now points) c (now w) (now faces) (edge a b) ⌝ }
-    ensures { λ r. ⌜ Lays (s .n) (Opened (s .n) (edge a b)) (pivotOver s (now (points .entry)) radius (edge a b)) c (now (w .entry)) (now (faces .entry)) r (now (w .exit)) (now (faces .exit)) ⌝ }
+    ensures { λ r. ⌜ Lays s hash (now (points .entry)) (Opened (s .n) (edge a b)) (pivotOver s (now (points .entry)) radius (edge a b)) c (now (w .entry)) (now (faces .entry)) r (now (w .exit)) (now (faces .exit)) ⌝ }
 {
     let found = search::try_ball_pivot(s, points, w, radius, a as usize, b as usize, hash);
     match found {
-        Pivot::To(k) => frontier::lay_pivot(faces, w, s.n, c, a, b, k as u32),
+        Pivot::To(k) => {
+            spatial_hash::remove(points, w, s.n, hash, k);
+            frontier::lay_pivot(faces, w, s.n, c, a, b, k as u32)
+        }
         Pivot::Nowhere => frontier::miss(c),
     }
 }
@@ -46,7 +51,7 @@ fn look(
     hash: Hash,
 ) -> Counts
     requires { ⌜ Standing s hash (now points) c (now w) (now faces) × (0 < c .frontier) ⌝ }
-    ensures { λ r. ⌜ Lays (s .n) (Inv (s .n)) (looked s (now (points .entry)) radius) c (now (w .entry)) (now (faces .entry)) r (now (w .exit)) (now (faces .exit)) ⌝ }
+    ensures { λ r. ⌜ Lays s hash (now (points .entry)) (Inv (s .n)) (looked s (now (points .entry)) radius) c (now (w .entry)) (now (faces .entry)) r (now (w .exit)) (now (faces .exit)) ⌝ }
 {
     let top = frontier::pop(w, s.n, c);
     let left = top.counts;
@@ -69,13 +74,23 @@ fn run(
     hash: Hash,
 ) -> Counts
     requires { ⌜ Standing s hash (now points) start (now w) (now faces) ⌝ }
-    ensures { λ r. ⌜ Lays (s .n) (Inv (s .n)) (run (rulesOf s (now (points .entry))) heapOf radius (3 * s .n)) start (now (w .entry)) (now (faces .entry)) r (now (w .exit)) (now (faces .exit)) ⌝ }
+    ensures { λ r. ⌜ Lays s hash (now (points .entry)) (Inv (s .n)) (run (rulesOf s (now (points .entry))) heapOf radius (3 * s .n)) start (now (w .entry)) (now (faces .entry)) r (now (w .exit)) (now (faces .exit)) ⌝ }
 {
     let mut c = start;
     while 0 < c.frontier {
         c = look(s, points, faces, w, radius, c, hash);
     }
     c
+}
+
+// The points of a seed leave the hash.
+fn remove_three(points: &[f32], w: &mut [u32], n: usize, hash: Hash, i: usize, j: usize, k: usize)
+    requires { ⌜ Linked hash (now points) n (now w) × (i < n) × (j < n) × (k < n) ⌝ }
+    ensures { λ _. ⌜ Without hash (now (points .entry)) n (i ∷ j ∷ k ∷ []) (now (w .entry)) (now (w .exit)) ⌝ }
+{
+    spatial_hash::remove(points, w, n, hash, i);
+    spatial_hash::remove(points, w, n, hash, j);
+    spatial_hash::remove(points, w, n, hash, k);
 }
 
 // One radius: from its seed, if there is one.
@@ -89,12 +104,13 @@ fn lay_one(
     hash: Hash,
 ) -> Counts
     requires { ⌜ Resting s hash (now points) before (now w) (now faces) ⌝ }
-    ensures { λ r. ⌜ Lays (s .n) (Rest (s .n)) (layOne (rulesOf s (now (points .entry))) heapOf (s .n) radius) before (now (w .entry)) (now (faces .entry)) r (now (w .exit)) (now (faces .exit)) ⌝ }
+    ensures { λ r. ⌜ Lays s hash (now (points .entry)) (Rest (s .n)) (layOne (rulesOf s (now (points .entry))) heapOf (s .n) radius) before (now (w .entry)) (now (faces .entry)) r (now (w .exit)) (now (faces .exit)) ⌝ }
 {
     let c = frontier::clear(before);
     let seed = search::find_seed_triangle(s, points, w, radius, hash);
     match seed {
         Seed::Triangle(i, j, k) => {
+            remove_three(points, w, s.n, hash, i, j, k);
             let first = frontier::lay_seed(faces, w, s.n, c, i as u32, j as u32, k as u32);
             run(s, points, faces, w, radius, first, hash)
         }

@@ -29,10 +29,10 @@ use Rattle.patch.specs.Search as search
 use Rattle.patch.proofs.Counts.{not-true, and-both, count-mono, count-zero}
 use Rattle.spatial_hash.specs.declared.Bounds.{Bounds}
 use Rattle.spatial_hash.specs.declared.Hash.{Hash}
-use Rattle.spatial_hash.specs.Near.{Finite, Covers, Gathers, Gathered}
-use Rattle.spatial_hash.proofs.Kept.{hashed-behind}
+use Rattle.spatial_hash.specs.Near.{Finite, Covers, nobody, Gathers, Gathered}
+use Rattle.spatial_hash.proofs.Kept.{hashed-all-behind}
 use Rattle.spatial_hash.proofs.Squares.{Good, squared-good, distance-back}
-use Rattle.spatial_hash.proofs.Nearby.{count-same, gathered-count, up-whole}
+use Rattle.spatial_hash.proofs.Nearby.{count-same, gathered-all, gathered-count, up-whole}
 use Rattle.radii.specs.declared.Around.{Around}
 use Rattle.radii.specs.Radii.{distancesTo, nearOf, nearest}
 use Rattle.radii.specs.Squares.{aroundOf, isNear, squaresTo, leastSquares, Whole, Prepared, Kept, Looked}
@@ -93,7 +93,7 @@ whole-same near pts n i inside numbers xs ys a b =
 
 -- ---- those gathered decide
 module _ (near : ℕ → Bool) (pts : List Float) (n i : ℕ) (b : Bounds) (js all : List ℕ) (limit : Float) (inside : i < n) (numbers : (j : ℕ) → j < n → Finite (pointAt pts j))
-    (covers : Covers (pointAt pts i) limit b) (g : Gathers pts n b js) (whole : Whole n all) where
+    (covers : Covers (pointAt pts i) limit b) (g : Gathers pts n nobody b js) (whole : Whole n all) where
   abbrev passing : Float → List ℕ → ℕ
   passing v xs = count (close near pts i v) xs
 
@@ -164,8 +164,8 @@ pub looked : (a : Around) (pts : List Float) (n i : ℕ) (limit : Float) (w u : 
 looked a pts n i limit w u f g h p b found r x size hp covers gathered squares few front = record {
   few = few;
   full = λ (e : r ≡ 10) (l : T (le (getD g (n + 9) nan) limit)).
-      squares ∙ decided-full near pts n i b js (upFrom 0 n) limit (x .inside) (x .hashed .ready .numbers) covers' (gathered .gathers) (up-whole n) g (omega (arith, x .room)) (ap (λ (k : ℕ). take k (drop n g)) (sym e) ∙ squares) l;
-  everywhere = λ (e : limit ≡ inf false). squares ∙ decided-everywhere near pts n i b js (upFrom 0 n) limit (x .inside) (x .hashed .ready .numbers) covers' (gathered .gathers) (up-whole n) e;
+      squares ∙ decided-full near pts n i b js (upFrom 0 n) limit (x .inside) (x .hashed .linked .ready .numbers) covers' (gathered-all (x .hashed) gathered) (up-whole n) g (omega (arith, x .room)) (ap (λ (k : ℕ). take k (drop n g)) (sym e) ∙ squares) l;
+  everywhere = λ (e : limit ≡ inf false). squares ∙ decided-everywhere near pts n i b js (upFrom 0 n) limit (x .inside) (x .hashed .linked .ready .numbers) covers' (gathered-all (x .hashed) gathered) (up-whole n) e;
   kept = record { front = front; before = gathered .before; after = gathered .after };
 }
   where
@@ -189,7 +189,7 @@ pub prepared-kept : {h : Hash} {pts : List Float} {n i : ℕ} {w u : List ℕ} {
 prepared-kept {h} {pts} {n} {i} {w} {u} x words floats k = record {
   inside = x .inside;
   room = omega (arith, x .room);
-  hashed = hashed-behind h pts n (5 * n) w u (omega arith) (k .after) words (x .hashed);
+  hashed = hashed-all-behind h pts n (5 * n) w u (omega arith) (k .after) words (x .hashed);
 }
 
 pub enough : (r : ℕ) (x limit : Float) → (eqb r 10 && le x limit) ≡ true → (r ≡ 10) × T (le x limit)

@@ -17,7 +17,7 @@ use Rattle.grid.specs.Grid.{cellOf, rangeOf, inRange}
 use Rattle.grid.specs.Index.{cellIn}
 use Rattle.patch.specs.Count.{count, bit}
 use Rattle.spatial_hash.specs.declared.Hash.{Hash}
-use Rattle.spatial_hash.specs.Near.{Hashed}
+use Rattle.spatial_hash.specs.Near.{HashedAll}
 use Rattle.radii.specs.declared.Around.{Around}
 
 -- the neighbours of a place at 3 × radius
@@ -51,7 +51,7 @@ Whole n js = (j : ℕ) → count (eqb j) js ≡ bit (ltb j n)
 pub record Prepared (h : Hash) (pts : List Float) (n i : ℕ) (w : List ℕ) (f : List Float) : Type 0 where
   pub inside : i < n
   pub room : n + 10 ≤ length f
-  pub hashed : Hashed h pts n w
+  pub hashed : HashedAll h pts n w
 
 -- the r numbers in the region of the least distances are the least squares from point i to its other neighbours, of all points
 abbrev pub Decided : Around → List Float → ℕ → ℕ → List ℕ → List Float → ℕ → Type 0

@@ -12,7 +12,7 @@ use Rattle.domain.specs.declared.BallPivotingConfig.{BallPivotingConfig}
 use Rattle.grid.specs.declared.SpatialGrid.{SpatialGrid}
 use Rattle.grid.specs.Index.{Indexed}
 use Rattle.spatial_hash.specs.declared.Hash.{Hash}
-use Rattle.spatial_hash.specs.Near.{Hashed}
+use Rattle.spatial_hash.specs.Near.{HashedAll}
 use Rattle.radii.specs.declared.Radii.{Radii}
 use Rattle.radii.specs.Radii.{average}
 
@@ -20,7 +20,7 @@ use Rattle.radii.specs.Radii.{average}
 pub record Ready (c : BallPivotingConfig) (g : SpatialGrid) (h : Hash) (pts : List Float) (n : ℕ) (w : List ℕ) (f : List Float) : Type 0 where
   pub some : 0 < n
   pub indexed : Indexed g pts n w
-  pub hashed : Hashed h pts n w
+  pub hashed : HashedAll h pts n w
   pub room : 4 * n + 64 ≤ length f
   pub percentiles : c .«percentile_count» ≤ 8
   pub additional : c .«additional_count» ≤ 8

@@ -15,7 +15,7 @@ ghost use lib.Ieee.{nan, le};
 ghost use Rattle.numbers.specs.Root.{root};
 ghost use Rattle.patch.specs.Search.{Below};
 ghost use Rattle.grid.specs.Index.{Indexed};
-ghost use Rattle.spatial_hash.specs.Near.{Hashed};
+ghost use Rattle.spatial_hash.specs.Near.{HashedAll};
 ghost use Rattle.radii.specs.Radii.{nearest};
 ghost use Rattle.radii.specs.Squares.{isNear, aroundOf, withSquare, leastSquares, Prepared, Looked, Found};
 
@@ -183,7 +183,7 @@ pub fn find_nearest(
     w: &mut [u32],
     f: &mut [f32],
 ) -> usize
-    requires { ⌜ (i < n) × (n + 10 ≤ length (now f)) × Hashed hash (now points) n (now w) × Indexed grid (now points) n (now w) ⌝ }
+    requires { ⌜ (i < n) × (n + 10 ≤ length (now f)) × HashedAll hash (now points) n (now w) × Indexed grid (now points) n (now w) ⌝ }
     ensures { λ r. ⌜ (take r (drop n (now (f .exit))) ≡ nearest config grid (now (points .entry)) n i)
         × (r ≤ 10)
         × (take n (now (f .exit)) ≡ take n (now (f .entry)))

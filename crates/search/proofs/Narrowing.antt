@@ -180,7 +180,7 @@ collected {s} {pts = pts} {f = f} {b = b} h c g = record {
   most = g .most;
   below = g .gathers .below;
   once = g .gathers .once;
-  complete = λ k l free t. g .gathers .complete k l (not-false (λ o. true-not-false (is-true (lt (f .limit) (squared (pointAt pts k) (f .center))) (c (pointAt pts k) (h .ready .numbers k l) o)) t));
+  complete = λ k l free t. g .gathers .complete k l (h .unused-in k l free) (not-false (λ o. true-not-false (is-true (lt (f .limit) (squared (pointAt pts k) (f .center))) (c (pointAt pts k) (h .linked .ready .numbers k l) o)) t));
   kept = record { before = g .before; after = g .after };
 }
   where

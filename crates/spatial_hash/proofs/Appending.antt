@@ -7,9 +7,9 @@ use lib.ListN.{length, take, drop, set, length-set, length-drop, length-append}
 use lib.Seq.{take-set-le, drop-set-lt, drop-set-add, take-suc-set}
 use lib.Ieee.{Float}
 use Rattle.spatial_hash.specs.declared.Hash.{Hash}
-use Rattle.spatial_hash.specs.Buckets.{Appended}
+use Rattle.spatial_hash.specs.Buckets.{linksOf, Appended}
 use Rattle.spatial_hash.specs.Near.{Room}
-use Rattle.spatial_hash.proofs.Kept.{hashed-behind}
+use Rattle.spatial_hash.proofs.Kept.{links-behind, linked-behind}
 
 appended-none : (n : ℕ) (w : List ℕ) (at : ℕ) → Appended n w w at at []
 appended-none n w at = record { total = omega arith; appended = sym (append-nil (take at (drop (4 * n) w))); before = refl; after = refl; length-same = refl }
@@ -44,11 +44,12 @@ appended-both {n} {w} {u} {v} {at} {r} {s} {js} {ks} a b =
 pub record Walking (h : Hash) (pts : List Float) (n : ℕ) (w₀ : List ℕ) (from : ℕ) (whole : List ℕ) (w : List ℕ) (at : ℕ) (rest : List ℕ) : Type 0 where
   pub leads : (u : List ℕ) (r : ℕ) → Appended n w u at r rest → Appended n w₀ u from r whole
   pub room : Room h pts n w at rest
+  pub links-same : linksOf n w ≡ linksOf n w₀
   pub length-same : length w ≡ length w₀
 
 module _ {h : Hash} {pts : List Float} {n : ℕ} {w₀ : List ℕ} {from : ℕ} {whole : List ℕ} where
   pub walking-start : Room h pts n w₀ from whole → Walking h pts n w₀ from whole w₀ from whole
-  walking-start r = record { leads = λ u s a. a; room = r; length-same = refl }
+  walking-start r = record { leads = λ u s a. a; room = r; links-same = refl; length-same = refl }
 
   -- the rest is written otherwise
   pub walking-as : {w : List ℕ} {at : ℕ} {rest rest' : List ℕ} → rest ≡ rest' → Walking h pts n w₀ from whole w at rest → Walking h pts n w₀ from whole w at rest'
@@ -56,15 +57,16 @@ module _ {h : Hash} {pts : List Float} {n : ℕ} {w₀ : List ℕ} {from : ℕ} 
 
   -- there is room for the next part
   pub walking-room : {w : List ℕ} {at : ℕ} (js rest : List ℕ) → Walking h pts n w₀ from whole w at (js ++ rest) → Room h pts n w at js
-  walking-room js rest s = record { hashed = s .room .hashed; enough = let o = s .room .enough in let l = length-append js rest in omega arith }
+  walking-room js rest s = record { linked = s .room .linked; enough = let o = s .room .enough in let l = length-append js rest in omega arith }
 
   pub walking-step : {w u : List ℕ} {at r : ℕ} (js rest : List ℕ) → Walking h pts n w₀ from whole w at (js ++ rest) → Appended n w u at r js → Walking h pts n w₀ from whole u r rest
   walking-step {w} {u} {at} {r} js rest s a = record {
     leads = λ v q b. s .leads v q (appended-both a b);
     room = record {
-      hashed = hashed-behind h pts n (5 * n) w u (omega arith) (a .after) (a .length-same) (s .room .hashed);
+      linked = linked-behind h pts n (5 * n) w u (omega arith) (a .after) (a .length-same) (s .room .linked);
       enough = let o = s .room .enough in let l = length-append js rest in let t = a .total in omega arith;
     };
+    links-same = links-behind h pts n (5 * n) w u (omega arith) (a .after) (a .length-same) ∙ s .links-same;
     length-same = a .length-same ∙ s .length-same;
   }
 

@@ -1,8 +1,9 @@
 -- The points of the buckets between the bounds' cells: each within the bounds is there, none twice. Assumes nothing.
 use mathlib.Core.Path.{_≡_, sym, ap, _∙_, subst}
-use mathlib.Core.Bool.{true, _&&_}
+use mathlib.Core.Logic.{⊎-elim}
+use mathlib.Core.Bool.{true, false, _&&_}
 use mathlib.Core.List.{List}
-use Prim.Native.Nat.{ℕ, _*_, _%_, _≤_}
+use Prim.Native.Nat.{ℕ, _+_, _*_, _%_, _≤_, _<_}
 use native.Mathlib.Nat.{mod-lt, mul-le-mul}
 use native.Mathlib.Decide.{decLt}
 use native.Mathlib.Omega.{arith}
@@ -14,13 +15,14 @@ use Rattle.vector.specs.declared.Point3f.{Point3f}
 use Rattle.points.specs.Points.{pointAt}
 use Rattle.patch.specs.Count.{count}
 use Rattle.patch.specs.Search.{Below}
-use Rattle.patch.proofs.Counts.{pigeons, and-both}
+use Rattle.patch.proofs.Counts.{either, pigeons, and-both}
 use Rattle.spatial_hash.specs.declared.Bounds.{Bounds}
 use Rattle.spatial_hash.specs.declared.Hash.{Hash}
 use Rattle.spatial_hash.specs.declared.Span.{Span}
-use Rattle.spatial_hash.specs.Buckets.{slot, bucketOf, bucketAt, spanned, Spanning, rows, boxOf, pointsIn, Appended}
+use Rattle.spatial_hash.specs.Buckets.{slot, bucketOf, buckets, linksOf, isOut, bucketIn, spanned, Spanning, rows, boxOf, pointsIn, Appended}
 use Rattle.spatial_hash.specs.Cover.{between}
-use Rattle.spatial_hash.specs.Near.{within, Gathers, Gathered, Hashed, Room, Finite}
+use Rattle.spatial_hash.specs.Near.{within, Gathers, Gathered, Linked, Room, Finite}
+use Rattle.spatial_hash.proofs.Inside.{bucket-in, bucket-out}
 use Rattle.spatial_hash.proofs.Chains.{listed-has, listed-beyond}
 use Rattle.spatial_hash.proofs.Residues.{residues-once, residues-below, rows-count}
 use Rattle.spatial_hash.proofs.Slots.{slot-above, slot-under}
@@ -29,7 +31,7 @@ use Rattle.spatial_hash.proofs.Slots.{slot-above, slot-under}
 abbrev pub Axis : Hash → Float → Float → Float → Span → Type 0
 Axis h least lo hi s = Spanning (h .side) (slot (h .scale) least lo) (slot (h .scale) least hi) s
 
-module _ (h : Hash) (pts : List Float) (n : ℕ) (w : List ℕ) (b : Bounds) (xs ys zs : Span) (s : Hashed h pts n w)
+module _ (h : Hash) (pts : List Float) (n : ℕ) (w : List ℕ) (b : Bounds) (xs ys zs : Span) (s : Linked h pts n w)
     (on-x : Axis h (h .least .x) (b .lo .x) (b .hi .x) xs)
     (on-y : Axis h (h .least .y) (b .lo .y) (b .hi .y) ys)
     (on-z : Axis h (h .least .z) (b .lo .z) (b .hi .z) zs) where
@@ -79,26 +81,64 @@ module _ (h : Hash) (pts : List Float) (n : ℕ) (w : List ℕ) (b : Bounds) (xs
       let z = met-within _ _ _ (p .z) zs on-z (c .z-finite) (f .z-finite) (r .1) in
       rw (visited p) (mul-le-mul (mul-le-mul x y) z)
 
-  pub box-gathers : Gathers pts n b (pointsIn h pts n (boxOf (h .side) xs ys zs))
+  -- the bucket of those that are out is none of these
+  outside : count (eqb (buckets h)) (boxOf (h .side) xs ys zs) ≡ 0
+  outside =
+      let m = h .side in
+      let b = below _ _ _ xs on-x m in
+      let z : count (eqb m) (spanned m xs) ≡ 0 = elim (decLt 0 (count (eqb m) (spanned m xs))) [ yes k ↦ absurd (omega (arith, b k)) | no k ↦ omega arith ] in
+      let p : m * m ≡ m * m + 0 = omega arith in
+      let q : m * m * m ≡ m * m * m + 0 = omega arith in
+      let pairs : count (eqb (m * m)) (rows m (spanned m xs) (spanned m ys)) ≡ 0 * count (eqb 0) (spanned m ys) =
+      ap (λ (c : ℕ). count (eqb c) (rows m (spanned m xs) (spanned m ys))) p
+      ∙ rows-count m m 0 (s .sound .some) (spanned m xs) (spanned m ys) (below _ _ _ ys on-y)
+      ∙ ap (λ (c : ℕ). c * count (eqb 0) (spanned m ys)) z in
+      let none : count (eqb (m * m)) (rows m (spanned m xs) (spanned m ys)) ≡ 0 = omega arith in
+      let all : count (eqb (m * m * m)) (boxOf m xs ys zs) ≡ 0 * count (eqb 0) (spanned m zs) =
+      ap (λ (c : ℕ). count (eqb c) (boxOf m xs ys zs)) q
+      ∙ rows-count m (m * m) 0 (s .sound .some) (rows m (spanned m xs) (spanned m ys)) (spanned m zs) (below _ _ _ zs on-z)
+      ∙ ap (λ (c : ℕ). c * count (eqb 0) (spanned m zs)) none in
+      omega arith
+
+  -- the links, the points visited, and how often point j is
+  abbrev ls : List ℕ
+  ls = linksOf n w
+
+  abbrev visits : List ℕ
+  visits = pointsIn h pts n ls (boxOf (h .side) xs ys zs)
+
+  met-in : (j : ℕ) → j < n → isOut n ls j ≡ false → count (eqb j) visits ≡ count (eqb (bucketOf h (pointAt pts j))) (boxOf (h .side) xs ys zs)
+  met-in j k i = listed-has (bucketIn h pts n ls) n (boxOf (h .side) xs ys zs) j k ∙ ap (λ (c : ℕ). count (eqb c) (boxOf (h .side) xs ys zs)) (bucket-in h pts n ls j i)
+
+  met-out : (j : ℕ) → j < n → isOut n ls j ≡ true → count (eqb j) visits ≡ 0
+  met-out j k i = listed-has (bucketIn h pts n ls) n (boxOf (h .side) xs ys zs) j k ∙ ap (λ (c : ℕ). count (eqb c) (boxOf (h .side) xs ys zs)) (bucket-out h pts n ls j i) ∙ outside
+
+  once : (j : ℕ) → count (eqb j) visits ≤ 1
+  once j = elim (decLt j n) [
+    | yes k ↦ ⊎-elim
+        (λ (o : isOut n ls j ≡ true). omega (arith, met-out j k o))
+        (λ (o : isOut n ls j ≡ false). omega (arith, met-in j k o, visited-once (pointAt pts j)))
+        (either (isOut n ls j))
+    | no k ↦ omega (arith, listed-beyond (bucketIn h pts n ls) n (boxOf (h .side) xs ys zs) j (omega arith))
+  ]
+
+  pub box-gathers : Gathers pts n (isOut n ls) b visits
   box-gathers = record {
-    below = λ j l. elim (decLt j n) [ yes k ↦ k | no k ↦ absurd (omega (arith, listed-beyond (bucketAt h pts) n (boxOf (h .side) xs ys zs) j (omega arith))) ];
-    once = λ j. elim (decLt j n) [
-      | yes k ↦ omega (arith, listed-has (bucketAt h pts) n (boxOf (h .side) xs ys zs) j k, visited-once (pointAt pts j))
-      | no k ↦ omega (arith, listed-beyond (bucketAt h pts) n (boxOf (h .side) xs ys zs) j (omega arith))
-    ];
-    complete = λ j k i. omega (arith, listed-has (bucketAt h pts) n (boxOf (h .side) xs ys zs) j k, visited-within (pointAt pts j) (s .ready .numbers j k) i);
+    below = λ j l. elim (decLt j n) [ yes k ↦ k | no k ↦ absurd (omega (arith, listed-beyond (bucketIn h pts n ls) n (boxOf (h .side) xs ys zs) j (omega arith))) ];
+    once = once;
+    complete = λ j k o i. omega (arith, met-in j k o, visited-within (pointAt pts j) (s .ready .numbers j k) i);
   }
 
-  few : length (pointsIn h pts n (boxOf (h .side) xs ys zs)) ≤ n
-  few = pigeons n (pointsIn h pts n (boxOf (h .side) xs ys zs)) (box-gathers .once) (box-gathers .below)
+  few : length visits ≤ n
+  few = pigeons n visits once (box-gathers .below)
 
-  pub box-room : Room h pts n w 0 (pointsIn h pts n (boxOf (h .side) xs ys zs))
-  box-room = record { hashed = s; enough = let l = few in omega arith }
+  pub box-room : Room h pts n w 0 visits
+  box-room = record { linked = s; enough = let l = few in omega arith }
 
-  pub box-gathered : (u : List ℕ) (r : ℕ) → Appended n w u 0 r (pointsIn h pts n (boxOf (h .side) xs ys zs)) → Gathered pts n b w u r
+  pub box-gathered : (u : List ℕ) (r : ℕ) → Appended n w u 0 r visits → Gathered pts n b w u r
   box-gathered u r a = record {
     most = let l = few in let t = a .total in omega arith;
-    gathers = subst (Gathers pts n b) (sym (a .appended)) box-gathers;
+    gathers = subst (Gathers pts n (isOut n ls) b) (sym (a .appended)) box-gathers;
     before = a .before;
     after = a .after;
   }

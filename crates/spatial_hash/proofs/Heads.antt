@@ -14,10 +14,12 @@ use lib.Ieee.{Float}
 use Rattle.vector.specs.declared.Point3f.{Point3f}
 use Rattle.patch.proofs.Counts.{either}
 use Rattle.spatial_hash.specs.declared.Hash.{Hash}
-use Rattle.spatial_hash.specs.Buckets.{bucketOf, bucketAt, buckets, Chained}
-use Rattle.spatial_hash.specs.Near.{Empty}
+use Rattle.spatial_hash.specs.Buckets.{bucketOf, bucketAt, buckets, linksOf, isOut, bucketIn, Chained}
+use Rattle.spatial_hash.specs.Near.{Empty, Ready, Sound, HashedAll}
 use Rattle.spatial_hash.proofs.Sizes.{joined-below}
-use Rattle.spatial_hash.proofs.Chains.{chained-start, chained-step}
+use Rattle.spatial_hash.proofs.Chains.{last-le, chained-start, chained-step}
+use Rattle.spatial_hash.proofs.Inside.{link-in, bucket-in}
+use Rattle.spatial_hash.proofs.Unlinking.{chained-same}
 
 -- the heads below b are empty, and what lies before the links is as it was
 pub record Cleared (w₀ : List ℕ) (n : ℕ) (w : List ℕ) (b : ℕ) : Type 0 where
@@ -66,3 +68,13 @@ linking-step h pts n w₀ w u j b e l q s i =
 
 pub linking-end : (h : Hash) (pts : List Float) (n : ℕ) (w₀ w : List ℕ) (j : ℕ) → n ≤ j → Linking h pts n w₀ w j → Chained (bucketAt h pts) n (buckets h) w n
 linking-end h pts n w₀ w j l s = let e : j ≡ n = let m = s .most in omega arith in subst (Chained (bucketAt h pts) n (buckets h) w) e (s .chained)
+
+-- where all points are chained nobody is out
+pub hashed-all : (h : Hash) (pts : List Float) (n : ℕ) (w : List ℕ) → Ready pts n w → Sound h n → Chained (bucketAt h pts) n (buckets h) w n → HashedAll h pts n w
+hashed-all h pts n w r s c = record {
+  linked = record { ready = r; sound = s; chained = chained-same (bucketAt h pts) (bucketIn h pts n (linksOf n w)) n (buckets h) w (λ i l. bucket-in h pts n (linksOf n w) i (inside i l)) c };
+  all-in = inside;
+}
+  where
+    inside : (j : ℕ) → j < n → isOut n (linksOf n w) j ≡ false
+    inside j l = link-in n j w (omega (arith, c .links j l (bucket-below h _ (s .some)), last-le (bucketAt h pts) (bucketAt h pts j) j))

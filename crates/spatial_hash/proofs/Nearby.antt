@@ -3,7 +3,7 @@
 use mathlib.Core.Path.{_≡_, refl, sym, ap, subst, _∙_}
 use mathlib.Core.Bool.{Bool, true, false, cond}
 use mathlib.Core.List.{List, [], _∷_}
-use Prim.Native.Nat.{ℕ, zero, suc, _+_, _≤_, _<_}
+use Prim.Native.Nat.{ℕ, zero, suc, _+_, _*_, _≤_, _<_}
 use native.Mathlib.Omega.{arith}
 use borrow.Author.Tests.{eq-eqb, eqb-true, eqb-false, ltb-true, ltb-false}
 use lib.Dec.{T, eqb, ltb}
@@ -17,7 +17,8 @@ use Rattle.points.specs.Points.{pointAt, upFrom}
 use Rattle.patch.specs.Count.{count, bit}
 use Rattle.patch.specs.Search.{Below}
 use Rattle.spatial_hash.specs.declared.Bounds.{Bounds}
-use Rattle.spatial_hash.specs.Near.{Finite, within, Covers, Gathers}
+use Rattle.spatial_hash.specs.Near.{Finite, within, Covers, nobody, Gathers, Gathered, HashedAll}
+use Rattle.spatial_hash.specs.declared.Hash.{Hash}
 
 -- ---- lists with the same members
 no-count : {k : ℕ} → (1 ≤ k → ⊥) → k ≡ 0
@@ -75,12 +76,15 @@ module _ (test : ℕ → Bool) where
           omega arith
 
 -- ---- what was gathered
-pub near-gathered : (pts : List Float) (n : ℕ) (b : Bounds) (js : List ℕ) (p : Point3f) (t : Float) → ((j : ℕ) → j < n → Finite (pointAt pts j)) → Covers p t b → Gathers pts n b js
+pub gathered-all : {h : Hash} {pts : List Float} {n : ℕ} {b : Bounds} {w u : List ℕ} {r : ℕ} → HashedAll h pts n w → Gathered pts n b w u r → Gathers pts n nobody b (take r (drop (4 * n) u))
+gathered-all s g = record { below = g .gathers .below; once = g .gathers .once; complete = λ j h _ i. g .gathers .complete j h (s .all-in j h) i }
+
+pub near-gathered : (pts : List Float) (n : ℕ) (b : Bounds) (js : List ℕ) (p : Point3f) (t : Float) → ((j : ℕ) → j < n → Finite (pointAt pts j)) → Covers p t b → Gathers pts n nobody b js
     → (j : ℕ) → j < n → T (le (squared (pointAt pts j) p) t) → 1 ≤ count (eqb j) js
 near-gathered pts n b js p t numbers covers g j h l = go (within b (pointAt pts j)) refl
   where
     go : (x : Bool) → within b (pointAt pts j) ≡ x → 1 ≤ count (eqb j) js
-    go true e = g .complete j h e
+    go true e = g .complete j h refl e
     go false e =
         absurd (le-not-lt (squared (pointAt pts j) p) t l (covers (pointAt pts j) (numbers j h) e))
 
@@ -133,7 +137,7 @@ up-whole n j = go (ltb j n) refl
     go false e = let l = ltb-false j n e in no-count (λ h. let k = up-in j 0 n h in omega arith)
 
 -- a test that only points pass whose squared distance is not above the limit is passed as often by those gathered as by all
-pub gathered-count : (pts : List Float) (n : ℕ) (b : Bounds) (js all : List ℕ) (p : Point3f) (t : Float) → ((j : ℕ) → j < n → Finite (pointAt pts j)) → Covers p t b → Gathers pts n b js → ((j : ℕ) → count (eqb j) all ≡ bit (ltb j n))
+pub gathered-count : (pts : List Float) (n : ℕ) (b : Bounds) (js all : List ℕ) (p : Point3f) (t : Float) → ((j : ℕ) → j < n → Finite (pointAt pts j)) → Covers p t b → Gathers pts n nobody b js → ((j : ℕ) → count (eqb j) all ≡ bit (ltb j n))
     → (test : ℕ → Bool) → ((j : ℕ) → j < n → test j ≡ true → T (le (squared (pointAt pts j) p) t)) → count test js ≡ count test all
 gathered-count pts n b js all p t numbers covers g whole test near = count-same test js all (λ (j : ℕ) (h : test j ≡ true). go j h (ltb j n) refl)
   where

@@ -1,9 +1,9 @@
 -- Cells, buckets and their chains, and how a walk through them appends to a list. Definitions only.
 use Prim.Native.Nat.{ℕ, zero, suc, _+_, _*_, _%_, _≤_, _<_}
 use mathlib.Core.Path.{_≡_}
-use mathlib.Core.Bool.{true, false}
+use mathlib.Core.Bool.{Bool, true, false}
 use mathlib.Core.List.{List, [], _∷_, _++_}
-use lib.Dec.{eqb}
+use lib.Dec.{eqb, ltb}
 use lib.ListN.{length, take, drop, getD}
 use lib.Ieee.{Float}
 use Rattle.numbers.specs.Rounded.{_⊖_, _⊗_}
@@ -34,6 +34,20 @@ bucketAt h pts j = bucketOf h (pointAt pts j)
 abbrev pub buckets : Hash → ℕ
 buckets h = h .side * h .side * h .side
 
+-- ---- who is in a bucket
+
+-- the points' links
+abbrev pub linksOf : ℕ → List ℕ → List ℕ
+linksOf n w = drop (linksAt n) w
+
+-- point j was taken out of its bucket: its link is beyond that of every point
+unfoldable pub isOut : ℕ → List ℕ → ℕ → Bool
+isOut n ls j = ltb n (getD ls j 0)
+
+-- the bucket that point j is in, which is none of the hash's if it was taken out
+unfoldable pub bucketIn : Hash → List Float → ℕ → List ℕ → ℕ → ℕ
+bucketIn h pts n ls j = elim (isOut n ls j) [ true ↦ buckets h | false ↦ bucketAt h pts j ]
+
 -- ---- chains, where f gives each point's bucket
 
 -- of the points below j in bucket b the last one's number plus 1; 0 if there is none
@@ -46,10 +60,34 @@ unfoldable pub chain : (ℕ → ℕ) → ℕ → ℕ → List ℕ
 chain f b zero = []
 chain f b (suc j) = elim (eqb (f j) b) [ true ↦ j ∷ chain f b j | false ↦ chain f b j ]
 
--- the n points' words when the first j are chained into m buckets: each bucket has its last point, and each point the one before it in its bucket
+-- the n points' words when the first j are chained into m buckets: each bucket has its last point, and each point in one of them the one before it there
 pub record Chained (f : ℕ → ℕ) (n m : ℕ) (w : List ℕ) (j : ℕ) : Type 0 where
   pub heads : (b : ℕ) → b < m → getD w (headsAt n + b) 0 ≡ lastIn f b j
-  pub links : (i : ℕ) → i < j → getD w (linksAt n + i) 0 ≡ lastIn f (f i) i
+  pub links : (i : ℕ) → i < j → f i < m → getD w (linksAt n + i) 0 ≡ lastIn f (f i) i
+
+-- the word that has the last point of bucket b below p: the bucket's own for p = n, else that of point p, which is in the bucket
+unfoldable pub wordOf : ℕ → ℕ → ℕ → ℕ
+wordOf n b p = elim (eqb p n) [ true ↦ headsAt n + b | false ↦ linksAt n + p ]
+
+-- point k is one of n that are chained into m buckets, and is in bucket b
+pub record Chains (f : ℕ → ℕ) (n : ℕ) (w : List ℕ) (b k : ℕ) : Type 0 where
+  pub many : ℕ
+  pub few : n ≤ 4096
+  pub fitting : many ≤ 4 * n + 64
+  pub long : 24 * n + 64 ≤ length w
+  pub chained : Chained f n many w n
+  pub bucket-below : b < many
+  pub below : k < n
+  pub inside : f k ≡ b
+
+-- r is the word that leads to point k in bucket b
+pub record Leads (f : ℕ → ℕ) (n b k r : ℕ) : Type 0 where
+  pub place : ℕ
+  pub most : place ≤ n
+  pub above : k < place
+  pub inside : place < n → f place ≡ b
+  pub last : lastIn f b place ≡ k + 1
+  pub is : r ≡ wordOf n b place
 
 -- ---- the buckets that a walk visits
 
@@ -97,8 +135,8 @@ listed f n [] = []
 listed f n (b ∷ bs) = chain f b n ++ listed f n bs
 
 -- the n points of several buckets of a hash
-abbrev pub pointsIn : Hash → List Float → ℕ → List ℕ → List ℕ
-pointsIn h pts n bs = listed (bucketAt h pts) n bs
+abbrev pub pointsIn : Hash → List Float → ℕ → List ℕ → List ℕ → List ℕ
+pointsIn h pts n ls bs = listed (bucketIn h pts n ls) n bs
 
 -- ---- appending to the list of neighbours
 

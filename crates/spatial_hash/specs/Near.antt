@@ -1,6 +1,7 @@
 -- Places within bounds, lists of the points there, and what the hash asks and keeps. Definitions only.
 use Prim.Native.Nat.{ℕ, _+_, _*_, _≤_, _<_}
 use mathlib.Core.Path.{_≡_}
+use mathlib.Core.Logic.{_≢_}
 use mathlib.Core.Bool.{Bool, false, true, _&&_}
 use mathlib.Core.List.{List}
 use lib.Dec.{T, eqb}
@@ -14,11 +15,11 @@ use Rattle.vector.specs.declared.Point3f.{Point3f}
 use Rattle.points.specs.Points.{pointAt}
 use Rattle.regions.specs.Regions.{neighborsAt, usedAt, linksAt, headsAt}
 use Rattle.patch.specs.Count.{count}
-use Rattle.patch.specs.Search.{Below}
+use Rattle.patch.specs.Search.{Below, unused}
 use Rattle.spatial_hash.specs.declared.Bounds.{Bounds}
 use Rattle.spatial_hash.specs.declared.Hash.{Hash}
 pub use Rattle.spatial_hash.specs.Cover.{between}
-use Rattle.spatial_hash.specs.Buckets.{Chained, bucketAt, buckets}
+use Rattle.spatial_hash.specs.Buckets.{Chained, bucketIn, buckets, linksOf, isOut}
 
 -- a place whose coordinates are numbers
 pub record Finite (p : Point3f) : Type 0 where
@@ -38,11 +39,15 @@ Limit r t = (s : Float) → T (fits binary32 s) → T (lt t s) → T (lt r (root
 abbrev pub Covers : Point3f → Float → Bounds → Type 0
 Covers p t b = (q : Point3f) → Finite q → within b q ≡ false → T (lt t (squared q p))
 
--- js has every point within the bounds, each at most once, and none but the n of the cloud
-pub record Gathers (pts : List Float) (n : ℕ) (b : Bounds) (js : List ℕ) : Type 0 where
+-- js has every point within the bounds but some that are out, each at most once, and none but the n of the cloud
+pub record Gathers (pts : List Float) (n : ℕ) (out : ℕ → Bool) (b : Bounds) (js : List ℕ) : Type 0 where
   pub below : Below n js
   pub once : (j : ℕ) → count (eqb j) js ≤ 1
-  pub complete : (j : ℕ) → j < n → within b (pointAt pts j) ≡ true → 1 ≤ count (eqb j) js
+  pub complete : (j : ℕ) → j < n → out j ≡ false → within b (pointAt pts j) ≡ true → 1 ≤ count (eqb j) js
+
+-- out is nobody
+abbrev pub nobody : ℕ → Bool
+nobody j = false
 
 -- n points whose coordinates are numbers, and room for what is kept of them
 pub record Ready (pts : List Float) (n : ℕ) (w : List ℕ) : Type 0 where
@@ -66,25 +71,42 @@ pub record Empty (h : Hash) (pts : List Float) (n : ℕ) (w : List ℕ) : Type 0
   pub sound : Sound h n
   pub empty : (b : ℕ) → b < buckets h → getD w (headsAt n + b) 0 ≡ 0
 
--- what `build` leaves and `gather` needs: it lies in the words from `linksAt` on
-pub record Hashed (h : Hash) (pts : List Float) (n : ℕ) (w : List ℕ) : Type 0 where
+-- what `gather` needs and `remove` keeps: it lies in the words from `linksAt` on
+pub record Linked (h : Hash) (pts : List Float) (n : ℕ) (w : List ℕ) : Type 0 where
   pub ready : Ready pts n w
   pub sound : Sound h n
-  pub chained : Chained (bucketAt h pts) n (buckets h) w n
+  pub chained : Chained (bucketIn h pts n (linksOf n w)) n (buckets h) w n
+
+-- whoever is out is used
+pub record Hashed (h : Hash) (pts : List Float) (n : ℕ) (w : List ℕ) : Type 0 where
+  pub linked : Linked h pts n w
+  pub unused-in : (j : ℕ) → j < n → unused (take n (drop (usedAt n) w)) j ≡ true → isOut n (linksOf n w) j ≡ false
+
+-- what `build` leaves: nobody is out
+pub record HashedAll (h : Hash) (pts : List Float) (n : ℕ) (w : List ℕ) : Type 0 where
+  pub linked : Linked h pts n w
+  pub all-in : (j : ℕ) → j < n → isOut n (linksOf n w) j ≡ false
 
 -- a hash, and room for so many more neighbours
 pub record Room (h : Hash) (pts : List Float) (n : ℕ) (w : List ℕ) (at : ℕ) (js : List ℕ) : Type 0 where
-  pub hashed : Hashed h pts n w
+  pub linked : Linked h pts n w
   pub enough : at + length js ≤ n
 
 pub record Built (h : Hash) (pts : List Float) (n : ℕ) (w u : List ℕ) : Type 0 where
-  pub hashed : Hashed h pts n u
+  pub hashed : HashedAll h pts n u
   pub before : take (linksAt n) u ≡ take (linksAt n) w
   pub length-same : length u ≡ length w
 
 -- r points were gathered, and only the list of neighbours was changed: w before, u after
 pub record Gathered (pts : List Float) (n : ℕ) (b : Bounds) (w u : List ℕ) (r : ℕ) : Type 0 where
   pub most : r ≤ n
-  pub gathers : Gathers pts n b (take r (drop (neighborsAt n) u))
+  pub gathers : Gathers pts n (isOut n (linksOf n w)) b (take r (drop (neighborsAt n) u))
   pub before : take (neighborsAt n) u ≡ take (neighborsAt n) w
   pub after : drop (usedAt n) u ≡ drop (usedAt n) w
+
+-- point k was taken out, and nobody else; only words from `linksAt` on were changed: w before, u after
+pub record Removed (h : Hash) (pts : List Float) (n : ℕ) (w u : List ℕ) (k : ℕ) : Type 0 where
+  pub linked : Linked h pts n u
+  pub gone : isOut n (linksOf n u) k ≡ true
+  pub others : (j : ℕ) → j < n → j ≢ k → isOut n (linksOf n u) j ≡ isOut n (linksOf n w) j
+  pub before : take (linksAt n) u ≡ take (linksAt n) w

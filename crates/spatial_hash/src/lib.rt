@@ -1,13 +1,14 @@
 // The points near a place: a spatial hash over the cloud, in the words of the work slice from 9n on. How its cells are sized is a guess that decides nothing;
-// what is promised is that no point within the bounds asked for is left out.
+// what is promised is that no point within the bounds asked for is left out, but those that were removed.
 mod cells;
 mod cover;
 mod links;
+mod unlink;
 mod walk;
 
 use vector::Point3f;
-ghost use Prim.Native.Nat.{_*_, _≤_};
-ghost use Rattle.spatial_hash.specs.Near.{Finite, Limit, Covers, Ready, Hashed, Gathered, Built};
+ghost use Prim.Native.Nat.{_*_, _≤_, _<_};
+ghost use Rattle.spatial_hash.specs.Near.{Finite, Limit, Covers, Ready, Linked, Gathered, Built, Removed};
 
 // The places between two corners, both included.
 pub struct Bounds {
@@ -87,13 +88,26 @@ pub fn build(points: &[f32], n: usize, size: f32, w: &mut [u32]) -> Hash
     hash
 }
 
-// Writes the numbers of points into the region of the neighbours, those within the bounds among them, and returns how many they are.
+// Writes the numbers of points into the region of the neighbours, those within the bounds that are not out among them, and returns how many they are.
 pub fn gather(points: &[f32], w: &mut [u32], n: usize, hash: Hash, bounds: Bounds) -> usize
-    requires { ⌜ Hashed hash (now points) n (now w) ⌝ }
+    requires { ⌜ Linked hash (now points) n (now w) ⌝ }
     ensures { λ r. ⌜ Gathered (now (points .entry)) n bounds (now (w .entry)) (now (w .exit)) r ⌝ }
 {
     let xs = cells::span(hash, hash.least.x, bounds.lo.x, bounds.hi.x);
     let ys = cells::span(hash, hash.least.y, bounds.lo.y, bounds.hi.y);
     let zs = cells::span(hash, hash.least.z, bounds.lo.z, bounds.hi.z);
     walk::visit_planes(points, w, n, hash, xs, ys, zs)
+}
+
+// Takes point k out of its bucket, if it is still there.
+pub fn remove(points: &[f32], w: &mut [u32], n: usize, hash: Hash, k: usize)
+    requires { ⌜ Linked hash (now points) n (now w) × (k < n) ⌝ }
+    ensures { λ _. ⌜ Removed hash (now (points .entry)) n (now (w .entry)) (now (w .exit)) k ⌝ }
+{
+    if unlink::is_out(w, n, k) {
+        return;
+    }
+    let b = cells::bucket_of(hash, points::point_at(points, k));
+    let at = unlink::word_to(w, n, b, k);
+    unlink::pass_over(w, n, at, k);
 }

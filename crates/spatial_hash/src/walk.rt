@@ -5,7 +5,7 @@ use crate::Hash;
 use crate::Span;
 ghost use mathlib.Core.Path.{_≡_};
 ghost use Prim.Native.Nat.{_+_, _*_, _≤_, _<_};
-ghost use Rattle.spatial_hash.specs.Buckets.{bucketAt, chain, rowOf, planeOf, boxOf, pointsIn, Appended};
+ghost use Rattle.spatial_hash.specs.Buckets.{bucketIn, linksOf, chain, rowOf, planeOf, boxOf, pointsIn, Appended};
 ghost use Rattle.spatial_hash.specs.Near.{Room};
 
 // The points of one bucket, the one with the remainder z in a row.
@@ -19,8 +19,8 @@ fn visit_chain(
     count: usize,
 ) -> usize
     requires { ⌜ (at < hash .side * hash .side) × (z < hash .side)
-        × Room hash (now points) n (now w) count (chain (bucketAt hash (now points)) (at * hash .side + z) n) ⌝ }
-    ensures { λ r. ⌜ Appended n (now (w .entry)) (now (w .exit)) count r (chain (bucketAt hash (now (points .entry))) (at * hash .side + z) n) ⌝ }
+        × Room hash (now points) n (now w) count (chain (bucketIn hash (now points) n (linksOf n (now w))) (at * hash .side + z) n) ⌝ }
+    ensures { λ r. ⌜ Appended n (now (w .entry)) (now (w .exit)) count r (chain (bucketIn hash (now (points .entry)) n (linksOf n (now (w .entry)))) (at * hash .side + z) n) ⌝ }
 {
     let b = at * hash.side + z;
     let mut total = count;
@@ -45,8 +45,8 @@ fn visit_row(
     count: usize,
 ) -> usize
     requires { ⌜ (at < hash .side * hash .side) × (zs .first < hash .side)
-        × Room hash (now points) n (now w) count (pointsIn hash (now points) n (rowOf (hash .side) at zs)) ⌝ }
-    ensures { λ r. ⌜ Appended n (now (w .entry)) (now (w .exit)) count r (pointsIn hash (now (points .entry)) n (rowOf (hash .side) at zs)) ⌝ }
+        × Room hash (now points) n (now w) count (pointsIn hash (now points) n (linksOf n (now w)) (rowOf (hash .side) at zs)) ⌝ }
+    ensures { λ r. ⌜ Appended n (now (w .entry)) (now (w .exit)) count r (pointsIn hash (now (points .entry)) n (linksOf n (now (w .entry))) (rowOf (hash .side) at zs)) ⌝ }
 {
     let mut total = count;
     let mut z = zs.first;
@@ -71,8 +71,8 @@ fn visit_plane(
     count: usize,
 ) -> usize
     requires { ⌜ (x < hash .side) × (ys .first < hash .side) × (zs .first < hash .side)
-        × Room hash (now points) n (now w) count (pointsIn hash (now points) n (planeOf (hash .side) x ys zs)) ⌝ }
-    ensures { λ r. ⌜ Appended n (now (w .entry)) (now (w .exit)) count r (pointsIn hash (now (points .entry)) n (planeOf (hash .side) x ys zs)) ⌝ }
+        × Room hash (now points) n (now w) count (pointsIn hash (now points) n (linksOf n (now w)) (planeOf (hash .side) x ys zs)) ⌝ }
+    ensures { λ r. ⌜ Appended n (now (w .entry)) (now (w .exit)) count r (pointsIn hash (now (points .entry)) n (linksOf n (now (w .entry))) (planeOf (hash .side) x ys zs)) ⌝ }
 {
     let mut total = count;
     let mut y = ys.first;
@@ -96,8 +96,8 @@ pub fn visit_planes(
     zs: Span,
 ) -> usize
     requires { ⌜ (xs .first < hash .side) × (ys .first < hash .side) × (zs .first < hash .side)
-        × Room hash (now points) n (now w) 0 (pointsIn hash (now points) n (boxOf (hash .side) xs ys zs)) ⌝ }
-    ensures { λ r. ⌜ Appended n (now (w .entry)) (now (w .exit)) 0 r (pointsIn hash (now (points .entry)) n (boxOf (hash .side) xs ys zs)) ⌝ }
+        × Room hash (now points) n (now w) 0 (pointsIn hash (now points) n (linksOf n (now w)) (boxOf (hash .side) xs ys zs)) ⌝ }
+    ensures { λ r. ⌜ Appended n (now (w .entry)) (now (w .exit)) 0 r (pointsIn hash (now (points .entry)) n (linksOf n (now (w .entry))) (boxOf (hash .side) xs ys zs)) ⌝ }
 {
     let mut total: usize = 0;
     let mut x = xs.first;

@@ -14,7 +14,7 @@ abbrev μ-loop : tie.MeasureT-loop
 μ-loop s points count faces₀ w₀ hash radii c₀ i₀ faces w c i = count - i
 
 begin-requires : tie.Need-begin-requires Inv-loop μ-loop
-begin-requires c κs = sized (c .before .before .before .before .pre .0)
+begin-requires c κs = let g = c .before .before .before .before .pre .0 in record { some = g .some; few = g .held .few; long = g .held .work-long }
 
 loop-holds : tie.Need-loop-holds Inv-loop μ-loop
 loop-holds c =

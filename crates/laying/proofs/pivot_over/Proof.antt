@@ -1,6 +1,6 @@
 -- `laying::pivot_over` meets its contract. Assumes nothing.
 use native.Mathlib.Omega.{arith}
-use Rattle.laying.proofs.Pivots.{edge-below, free-point, pivot-room, few-pivots, pivot-laid, pivot-missed}
+use Rattle.laying.proofs.Pivots.{edge-below, free-point, searched, pivot-room, few-pivots, pivot-laid, pivot-missed}
 use borrow.Author.Needs.{needs}
 use Rattle.laying.proofs.pivot_over.Statement.{statement}
 use Rattle.laying.proofs.pivot_over.Tie as tie
@@ -11,6 +11,9 @@ start-of t = t .before .before .before .before .before
 abbrev search-of : tie.After-found → tie.After-try-ball-pivot
 search-of f = f .before .before .before .before
 
+abbrev found-of : tie.After-remove → tie.After-found
+found-of r = r .before .before .before
+
 try-ball-pivot-requires : tie.Need-try-ball-pivot-requires
 try-ball-pivot-requires c κs =
     let s = c .before .before .before .before in
@@ -20,9 +23,16 @@ try-ball-pivot-requires c κs =
 enum-known-found : tie.Need-enum-known-found
 enum-known-found c = search needs
 
+remove-requires : tie.Need-remove-requires
+remove-requires c κs =
+    let f = c .before .before in
+    let t = search-of f in
+    let s = start-of t in
+    (searched (s .args .radius) (s .pre) (t .try-ball-pivot .ensures .0) (t .try-ball-pivot .ensures .1) (t .try-ball-pivot .kept .1 .1 .0) .hashed .linked, free-point (s .args .radius) (s .pre) (t .try-ball-pivot .ensures .0) (t .try-ball-pivot .ensures .1) (t .try-ball-pivot .kept .1 .1 .0) (f .found .given .1) .below)
+
 cast-lay-pivot : tie.Need-cast-lay-pivot
 cast-lay-pivot c =
-    let f = c .before .before .before in
+    let f = found-of (c .before .before .before .before) in
     let t = search-of f in
     let s = start-of t in
     let h = free-point (s .args .radius) (s .pre) (t .try-ball-pivot .ensures .0) (t .try-ball-pivot .ensures .1) (t .try-ball-pivot .kept .1 .1 .0) (f .found .given .1) in
@@ -30,10 +40,11 @@ cast-lay-pivot c =
 
 lay-pivot-requires : tie.Need-lay-pivot-requires
 lay-pivot-requires c κs =
-    let f = c .before .before .before in
+    let r = c .before .before .before .before in
+    let f = found-of r in
     let t = search-of f in
     let s = start-of t in
-    pivot-room (s .args .radius) (s .pre) (t .try-ball-pivot .ensures .0) (t .try-ball-pivot .ensures .1) (t .try-ball-pivot .kept .1 .1 .0) (f .found .given .1)
+    pivot-room (s .args .radius) (s .pre) (t .try-ball-pivot .ensures .0) (t .try-ball-pivot .ensures .1) (t .try-ball-pivot .kept .1 .1 .0) (f .found .given .1) (r .remove .ensures) (r .remove .kept .1 .0)
 
 enum-told : tie.Need-enum-told
 enum-told c = search needs
@@ -42,7 +53,7 @@ miss-requires : tie.Need-miss-requires
 miss-requires c κs =
     let t = c .before .before .before .before in
     let s = start-of t in
-    few-pivots (s .args .radius) (s .pre) (t .try-ball-pivot .ensures .0) (t .try-ball-pivot .ensures .1) (t .try-ball-pivot .kept .1 .1 .0)
+    few-pivots (s .args .radius) (s .pre)
 
 same-length : tie.Need-same-length
 same-length c = search needs
@@ -53,10 +64,11 @@ same-length-2 c = search needs
 returns : tie.Need-returns
 returns c =
     let p = c .before .before .before .before in
-    let f = p .before .before .before .before in
+    let r = p .before .before .before .before .before in
+    let f = found-of r in
     let t = search-of f in
     let s = start-of t in
-    pivot-laid (s .args .radius) (s .pre) (t .try-ball-pivot .ensures .0) (t .try-ball-pivot .ensures .1) (t .try-ball-pivot .kept .1 .1 .0) (f .found .given .1) (p .lay-pivot .ensures .0) (p .lay-pivot .ensures .1)
+    pivot-laid (s .args .radius) (s .pre) (t .try-ball-pivot .ensures .0) (t .try-ball-pivot .ensures .1) (t .try-ball-pivot .kept .1 .1 .0) (f .found .given .1) (r .remove .ensures) (r .remove .kept .1 .0) (p .lay-pivot .ensures .0) (p .lay-pivot .ensures .1)
 
 same-length-3 : tie.Need-same-length-3
 same-length-3 c = search needs
@@ -73,6 +85,7 @@ pivot-over-spec =
     (tie.spec
     try-ball-pivot-requires
     enum-known-found
+    remove-requires
     cast-lay-pivot
     lay-pivot-requires
     enum-told

@@ -36,7 +36,7 @@ same-length : tie.Need-same-length Inv-loop μ-loop
 same-length c = c .before .before .loop .inv .face-words
 
 same-length-2 : tie.Need-same-length-2 Inv-loop μ-loop
-same-length-2 c = c .before .before .loop .inv .lays .only .length-same
+same-length-2 c = c .before .before .loop .inv .lays .length-same
 
 returns : tie.Need-returns Inv-loop μ-loop
 returns c =

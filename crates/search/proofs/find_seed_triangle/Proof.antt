@@ -16,7 +16,7 @@ unfolding searching
 returns c =
     let a = c .before .before .before .before in
     let x = a .args in
-    (sym (ap seedFound (hopeless-nothing (x .s) (x .points .now) (x .radius) (usedIn (x .s) (x .w .now)) 1000 (a .pre .2 .ready .numbers) (c .before .is-hopeless .ensures (c .if1 .taken)))), kept-self (x .s) (x .w .now))
+    (sym (ap seedFound (hopeless-nothing (x .s) (x .points .now) (x .radius) (usedIn (x .s) (x .w .now)) 1000 (a .pre .2 .linked .ready .numbers) (c .before .is-hopeless .ensures (c .if1 .taken)))), kept-self (x .s) (x .w .now))
 
 limits-of-requires : tie.Need-limits-of-requires
 limits-of-requires c κs = search needs

@@ -2,6 +2,7 @@
 use mathlib.Core.Path.{_∙_}
 use Rattle.spatial_hash.specs.Near.{Sound}
 use Rattle.spatial_hash.proofs.Kept.{ready-same}
+use Rattle.spatial_hash.proofs.Heads.{hashed-all}
 use borrow.Author.Needs.{needs}
 use Rattle.spatial_hash.proofs.build.Statement.{statement}
 use Rattle.spatial_hash.proofs.build.Tie as tie
@@ -44,7 +45,7 @@ returns c =
     let e = c .before .before .before .before .before .before .clear-heads in
     let l = c .before .before .link-points in
     record {
-      hashed = record { ready = ready-same _ _ _ _ (l .kept .1 .0 ∙ e .kept .0) (s .pre); sound = sound (c .before .before .before .before .before .before .before .before); chained = l .ensures .0 };
+      hashed = hashed-all _ _ _ _ (ready-same _ _ _ _ (l .kept .1 .0 ∙ e .kept .0) (s .pre)) (sound (c .before .before .before .before .before .before .before .before)) (l .ensures .0);
       before = l .ensures .1 ∙ e .ensures .1;
       length-same = l .kept .1 .0 ∙ e .kept .0;
     }

@@ -5,12 +5,12 @@ use lib.Dec.{T}
 use lib.ListN.{length}
 use lib.Ieee.{Float, le}
 use borrow.Author.Needs.{needs}
-use Rattle.spatial_hash.specs.Near.{Hashed}
+use Rattle.spatial_hash.specs.Near.{HashedAll}
 use Rattle.estimate.proofs.nearest.least_distance.Statement.{statement}
 use Rattle.estimate.proofs.nearest.least_distance.Tie as tie
 
 abbrev Inv-loop : tie.InvT-loop
-Inv-loop points n hash i guess w₀ everywhere limit₀ tries₀ w limit tries = Hashed hash points n w × (length w ≡ length w₀) × (tries ≤ 6)
+Inv-loop points n hash i guess w₀ everywhere limit₀ tries₀ w limit tries = HashedAll hash points n w × (length w ≡ length w₀) × (tries ≤ 6)
 
 abbrev μ-loop : tie.MeasureT-loop
 μ-loop points n hash i guess w₀ everywhere limit₀ tries₀ w limit tries = 6 - tries

@@ -16,7 +16,7 @@ sqrt-requires c κs = search needs
 covering-requires : tie.Need-covering-requires
 covering-requires c κs =
     let s = c .before .before .before .before in
-    subst (λ (p : Point3f). Finite p) (sym (c .before .point-at .ensures)) (s .pre .1 .ready .numbers (s .args .i) (s .pre .0))
+    subst (λ (p : Point3f). Finite p) (sym (c .before .point-at .ensures)) (s .pre .1 .linked .ready .numbers (s .args .i) (s .pre .0))
 
 gather-requires : tie.Need-gather-requires
 gather-requires c κs = search needs

@@ -13,7 +13,7 @@ use Rattle.radii.proofs.nearest.find_nearest.Statement.{statement}
 use Rattle.radii.proofs.nearest.find_nearest.Tie as tie
 
 point-at-requires : tie.Need-point-at-requires
-point-at-requires c κs = let s = c .before .before .before in omega (arith, s .pre .0, s .pre .2 .ready .points-long)
+point-at-requires c κs = let s = c .before .before .before in omega (arith, s .pre .0, s .pre .2 .linked .ready .points-long)
 
 around-of-requires : tie.Need-around-of-requires
 around-of-requires c κs = search needs
@@ -43,7 +43,7 @@ returns c =
     let is : c .before .before .before .before .before .before .before .before .before .before .before .around-of .result ≡ aroundOf (s .args .config) (s .args .grid) _ = c .before .before .before .before .before .before .before .before .before .before .before .around-of .ensures ∙ ap (aroundOf (s .args .config) (s .args .grid)) (c .before .before .before .before .before .before .before .before .before .before .before .before .point-at .ensures) in (
       t .0
           ∙ ap (map root) (q .ensures .decided ∙ ap (λ (a : Around). leastSquares (isNear a u (s .args .n)) (s .args .points .now) (s .args .i) (upFrom 0 (s .args .n))) is)
-          ∙ nearest-is (s .args .config) (s .args .grid) (s .args .points .now) (s .args .n) (s .args .i) u (s .pre .0) (s .pre .2 .ready .numbers) (indexed-kept u (s .pre .3) (q .kept .1 .1 .1 .1 .1 .1 .0) (k .before)),
+          ∙ nearest-is (s .args .config) (s .args .grid) (s .args .points .now) (s .args .n) (s .args .i) u (s .pre .0) (s .pre .2 .linked .ready .numbers) (indexed-kept u (s .pre .3) (q .kept .1 .1 .1 .1 .1 .1 .0) (k .before)),
       q .ensures .few,
       t .1 ∙ k .front,
       k .before,

@@ -27,7 +27,7 @@ is-enough-requires : tie.Need-is-enough-requires Inv-loop μ-loop
 is-enough-requires c κs =
     let l = c .before .before .before .before .before .before .before .before .before .loop in
     let s = c .before .before .before .before .before .before .before .before .before .before .before .before .before in
-    (s .pre .hashed .ready .few, omega (arith, s .pre .room, l .inv .1, c .before .before .before .before .before .look-within .kept .1 .1 .1 .1 .1 .1 .1 .0))
+    (s .pre .hashed .linked .ready .few, omega (arith, s .pre .room, l .inv .1, c .before .before .before .before .before .look-within .kept .1 .1 .1 .1 .1 .1 .1 .0))
 
 same-length : tie.Need-same-length Inv-loop μ-loop
 same-length c = search needs
@@ -47,7 +47,7 @@ wider-requires : tie.Need-wider-requires Inv-loop μ-loop
 wider-requires c κs =
     let l = c .before .before .before .before .before .before .before .before .before .before .before .before .loop in
     let s = c .before .before .before .before .before .before .before .before .before .before .before .before .before .before .before .before in
-    (s .pre .hashed .ready .few, omega (arith, s .pre .room, l .inv .1, c .before .before .before .before .before .before .before .before .look-within .kept .1 .1 .1 .1 .1 .1 .1 .0))
+    (s .pre .hashed .linked .ready .few, omega (arith, s .pre .room, l .inv .1, c .before .before .before .before .before .before .before .before .look-within .kept .1 .1 .1 .1 .1 .1 .1 .0))
 
 add-tries : tie.Need-add-tries Inv-loop μ-loop
 add-tries c = search needs

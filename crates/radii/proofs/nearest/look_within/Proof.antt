@@ -9,7 +9,7 @@ use Rattle.radii.proofs.nearest.look_within.Statement.{statement}
 use Rattle.radii.proofs.nearest.look_within.Tie as tie
 
 point-at-requires : tie.Need-point-at-requires
-point-at-requires c κs = let s = c .before .before .before in omega (arith, s .pre .inside, s .pre .hashed .ready .points-long)
+point-at-requires c κs = let s = c .before .before .before in omega (arith, s .pre .inside, s .pre .hashed .linked .ready .points-long)
 
 sqrt-requires : tie.Need-sqrt-requires
 sqrt-requires c κs = search needs
@@ -17,16 +17,16 @@ sqrt-requires c κs = search needs
 covering-requires : tie.Need-covering-requires
 covering-requires c κs =
     let s = c .before .before .before .before .before in
-    subst (λ (p : Point3f). Finite p) (sym (c .before .point-at .ensures)) (s .pre .hashed .ready .numbers (s .args .i) (s .pre .inside))
+    subst (λ (p : Point3f). Finite p) (sym (c .before .point-at .ensures)) (s .pre .hashed .linked .ready .numbers (s .args .i) (s .pre .inside))
 
 gather-requires : tie.Need-gather-requires
-gather-requires c κs = let s = c .before .before .before .before .before .before .before in s .pre .hashed
+gather-requires c κs = let s = c .before .before .before .before .before .before .before in s .pre .hashed .linked
 
 least-squares-requires : tie.Need-least-squares-requires
 least-squares-requires c κs =
     let s = c .before .before .before .before .before .before .before .before .before .before .before .before in
     let g = c .before .before .before .before .gather in
-    let r = s .pre .hashed .ready in (
+    let r = s .pre .hashed .linked .ready in (
       s .pre .inside,
       r .few,
       g .ensures .most,

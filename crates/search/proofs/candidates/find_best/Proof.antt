@@ -24,7 +24,7 @@ filter-of-requires c κs = search needs
 gather-near-requires : tie.Need-gather-near-requires
 gather-near-requires c κs =
     let n = c .before .before .before .before .before .before .before in
-    (n .pre .2, subst Finite (sym (c .before .filter-of .ensures .center-is ∙ c .before .before .before .before .point-at .ensures)) (n .pre .2 .ready .numbers (n .args .a) (n .pre .3)))
+    (n .pre .2, subst Finite (sym (c .before .filter-of .ensures .center-is ∙ c .before .before .before .before .point-at .ensures)) (n .pre .2 .linked .ready .numbers (n .args .a) (n .pre .3)))
 
 best-of-requires : tie.Need-best-of-requires
 best-of-requires c κs =

@@ -21,7 +21,7 @@ filter-of-requires c κs = search needs
 gather-near-requires : tie.Need-gather-near-requires
 gather-near-requires c κs =
     let a = c .before .before .before .before .before in
-    (a .pre .2, subst Finite (sym (c .before .filter-of .ensures .center-is ∙ c .before .before .point-at .ensures)) (a .pre .2 .ready .numbers (a .args .i) (a .pre .3)))
+    (a .pre .2, subst Finite (sym (c .before .filter-of .ensures .center-is ∙ c .before .before .point-at .ensures)) (a .pre .2 .linked .ready .numbers (a .args .i) (a .pre .3)))
 
 try-listed-requires : tie.Need-try-listed-requires
 try-listed-requires c κs =
@@ -31,7 +31,7 @@ try-listed-requires c κs =
       cells-kept (a .args .s .grid) (a .args .points .now) (a .args .s .n) (a .args .w .now) (g .last .1 .1 .0) (a .pre .1 .cells) (g .ensures .kept .before),
       listing (c .before .before .before .before .before .before .point-at .ensures) (c .before .before .before .before .before .filter-of .ensures) (g .ensures),
       a .pre .3,
-      record { numbers = a .pre .2 .ready .numbers; limits = a .pre .4 },
+      record { numbers = a .pre .2 .linked .ready .numbers; limits = a .pre .4 },
     )
 
 same-length : tie.Need-same-length
