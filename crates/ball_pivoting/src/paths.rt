@@ -51,11 +51,13 @@ fn find_plain(
     settings: BallPivotingConfig,
     radii: Radii,
     faces: &mut [u32],
+    words: &mut [u32],
+    floats: &mut [f32],
 ) -> Finding
-    requires { ⌜ (length (now points) / 3 ≤ 4096) × Listed [] radii ⌝ }
+    requires { ⌜ (length (now points) / 3 ≤ 4096) × (length (now points) / 3 ≤ length (now words)) × (length (now points) / 3 ≤ length (now floats)) × Listed [] radii ⌝ }
     ensures { λ r. ⌜ Finds (plainly settings (now (points .entry))) [] (now (faces .entry)) r (now (faces .exit)) ⌝ }
 {
-    let count = plain::simple_triangulate(points, settings.radius, faces);
+    let count = plain::simple_triangulate(points, settings.radius, words, floats, faces);
     Finding {
         faces: count,
         seeds: 0,
@@ -120,7 +122,7 @@ pub fn find(
         floats,
     );
     if radii.count == 0 {
-        return find_plain(points, settings, radii, faces);
+        return find_plain(points, settings, radii, faces, words, floats);
     }
     find_pivoting(scene, points, radii, faces, words, hash)
 }

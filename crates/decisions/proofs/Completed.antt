@@ -4,17 +4,21 @@ use mathlib.Core.Path.{_≡_, refl, sym, ap, _∙_}
 use mathlib.Core.Bool.{Bool, true, false, cond}
 use mathlib.Core.List.{List}
 use lib.Ieee.{Float, lt}
-use Rattle.numbers.specs.Rounded.{f32}
+use Rattle.numbers.specs.Rounded.{_⊗_}
+use Rattle.numbers.specs.Root.{root}
 use Rattle.vector.specs.Vector.{distance}
-use Rattle.triangle.specs.Quality.{area, radiusOf, measures, degenerate, acceptable}
-use Rattle.triangle.specs.Bound.{qualityOf}
+use Rattle.triangle.specs.Quality.{area, acceptable}
+use Rattle.triangle.specs.Bound.{shapeOf, scoreBound, qualityOf}
+use Rattle.triangle.specs.declared.Shape.{Shape}
 use Rattle.triangle.specs.declared.TriangleQuality.{TriangleQuality}
 use Rattle.vector.proofs.Distances.{distance-turned}
-use Rattle.triangle.proofs.Bounds.{quality-is}
+use Rattle.triangle.proofs.Bounds.{shape-area, quality-area, quality-edges, quality-is}
+use Rattle.triangle.proofs.Aspect.{bound-low}
 use Rattle.points.specs.Points.{pointAt}
 use Rattle.decisions.specs.declared.Scene.{Scene}
 use Rattle.decisions.specs.Decisions.{reach, apart, qualityAt, isClose, accepts, completes}
-use Rattle.decisions.specs.Found.{areaAt}
+use Rattle.decisions.specs.Found.{areaAt, ShapeRefused}
+use Rattle.decisions.proofs.Refusals.{low-refused}
 
 -- ---- the triangle
 
@@ -24,24 +28,44 @@ quality-at pts i j k =
     ap (λ (b : Float). qualityOf (distance (pointAt pts j) (pointAt pts i)) b (distance (pointAt pts i) (pointAt pts k)) (area (pointAt pts i) (pointAt pts j) (pointAt pts k))) (distance-turned (pointAt pts j) (pointAt pts k))
     ∙ quality-is (pointAt pts i) (pointAt pts j) (pointAt pts k)
 
-quality-area : (a b c area : Float) → qualityOf a b c area .area ≡ area
-unfolding qualityOf measures degenerate
-quality-area a b c area = go (lt area (f32 0x2edbe6ff))
-  where
-    go : (t : Bool) → cond t (degenerate area) (measures a b c area (radiusOf a b c area)) .area ≡ area
-    go true = refl
-    go false = refl
-
 refused : (s : Scene) (r : Float) (q : TriangleQuality) → lt (q .area) (s .«min_triangle_area») ≡ true → false ≡ accepts s r q
 unfolding accepts acceptable
 refused s r q h = rw h
 
 module _ (s : Scene) (pts : List Float) (r : Float) (i j k : ℕ) {area : Float} (e : area ≡ areaAt pts i j k) where
   pub accepted-small : lt area (s .«min_triangle_area») ≡ true → false ≡ accepts s r (qualityAt pts i j k)
-  accepted-small h = refused s r (qualityAt pts i j k) (rw (← quality-at pts i j k, quality-area (apart pts j i) (apart pts j k) (apart pts i k) (areaAt pts i j k), ← e) h)
+  accepted-small h = refused s r (qualityAt pts i j k) (rw (← quality-at pts i j k, quality-area (apart pts j i) (apart pts j k) (apart pts i k) (areaAt pts i j k), shape-area (apart pts j i) (apart pts j k) (apart pts i k) (areaAt pts i j k), ← e) h)
 
   pub accepted-at : {side toJ toI : Float} {q : TriangleQuality} {t : Bool} → side ≡ apart pts j i → toJ ≡ apart pts j k → toI ≡ apart pts i k → qualityOf side toJ toI area ≡ q → t ≡ accepts s r q → t ≡ accepts s r (qualityAt pts i j k)
   accepted-at es ej ei eq et = et ∙ ap (accepts s r) (sym eq ∙ rw (es, ej, ei, e) (quality-at pts i j k))
+
+  pub accepted-shape : {side toJ toI : Float} {v : Shape} → side ≡ apart pts j i → toJ ≡ apart pts j k → toI ≡ apart pts i k → v ≡ shapeOf side toJ toI area → ShapeRefused s r v → false ≡ accepts s r (qualityAt pts i j k)
+  accepted-shape {side} {toJ} {toI} es ej ei ev h = sym (ap (accepts s r) (sym (rw (es, ej, ei, e) (quality-at pts i j k))) ∙ h side toJ toI area ev)
+
+-- ---- the shape
+
+long-refused : (q : TriangleQuality) (r m threshold factor : Float) → lt (r ⊗ factor) (q .«edge_ratio» ⊗ root (q .area)) ≡ true → acceptable q r m threshold factor ≡ false
+unfolding acceptable
+long-refused q r m threshold factor h = rw h (neither (lt (q .area) m) (lt (q .«quality_score») threshold))
+  where
+    neither : (x y : Bool) → cond x false (cond y false false) ≡ false
+    neither true y = refl
+    neither false true = refl
+    neither false false = refl
+
+module _ (s : Scene) (r : Float) {v : Shape} where
+  pub shape-low : {x : Float} → x ≡ scoreBound v → lt x (s .«quality_threshold») ≡ true → ShapeRefused s r v
+  unfolding accepts
+  shape-low {x} e h a b c t g = low-refused (qualityOf a b c t) r (s .«min_triangle_area») (s .«quality_threshold») (s .«max_edge_factor») (bound-low (s .«quality_threshold») a b c t (rw (← g, ← e, h) tt))
+
+  pub shape-long : {x : Float} → x ≡ root (v .area) → lt (r ⊗ s .«max_edge_factor») (v .«edge_ratio» ⊗ x) ≡ true → ShapeRefused s r v
+  unfolding accepts
+  shape-long {x} e h a b c t g =
+      let q = qualityOf a b c t in
+      let edges : q .«edge_ratio» ≡ v .«edge_ratio» = quality-edges a b c t ∙ ap (λ (y : Shape). y .«edge_ratio») (sym g) in
+      let root-is : root (q .area) ≡ x = ap root (quality-area a b c t ∙ ap (λ (y : Shape). y .area) (sym g)) ∙ sym e in
+      long-refused q r (s .«min_triangle_area») (s .«quality_threshold») (s .«max_edge_factor»)
+      (ap (λ (y : Float). lt (r ⊗ s .«max_edge_factor») (y ⊗ root (q .area))) edges ∙ ap (λ (y : Float). lt (r ⊗ s .«max_edge_factor») (v .«edge_ratio» ⊗ y)) root-is ∙ h)
 
 -- ---- the tests
 

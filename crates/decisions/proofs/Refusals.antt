@@ -44,7 +44,7 @@ thin-low p q t threshold α limit a l h =
     let k : T (le (shapeOf (distance q p) (distance t q) (distance p t) (area p q t) .«aspect_ratio») α) = rw (distance-turned q p, distance-turned t q, distance-is p q, distance-is q t, distance-is p t, area-is p q t) (h .acb .below α l) in
     rw (← quality-is p q t) (aspect-low threshold α (distance q p) (distance t q) (distance p t) (area p q t) a k)
 
-low-refused : (q : TriangleQuality) (r m threshold factor : Float) → lt (q .«quality_score») threshold ≡ true → acceptable q r m threshold factor ≡ false
+pub low-refused : (q : TriangleQuality) (r m threshold factor : Float) → lt (q .«quality_score») threshold ≡ true → acceptable q r m threshold factor ≡ false
 unfolding acceptable
 low-refused q r m threshold factor h = rw h (either (lt (q .area) m))
   where

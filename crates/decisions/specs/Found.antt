@@ -1,10 +1,13 @@
 -- The definition's answers as the code gives them, and what it works out on the way. Definitions only.
 use Prim.Native.Nat.{ℕ}
-use mathlib.Core.Bool.{cond}
+use mathlib.Core.Path.{_≡_}
+use mathlib.Core.Bool.{false, cond}
 use mathlib.Core.List.{List}
 use mathlib.Core.Option.{Option, none, some}
 use lib.Ieee.{Float, le}
 use Rattle.triangle.specs.Quality.{area}
+use Rattle.triangle.specs.Bound.{shapeOf, qualityOf}
+use Rattle.triangle.specs.declared.Shape.{Shape}
 use Rattle.triangle.specs.declared.TriangleQuality.{TriangleQuality}
 use Rattle.points.specs.Points.{pointAt}
 use Rattle.decisions.specs.Decisions.{accepts}
@@ -28,3 +31,7 @@ areaAt pts i j k = area (pointAt pts i) (pointAt pts j) (pointAt pts k)
 -- the score of a triangle that the settings accept at a radius
 unfoldable pub acceptedScore : Scene → Float → TriangleQuality → Option Float
 acceptedScore s r q = cond (accepts s r q) (some (q .«quality_score»)) none
+
+-- the settings accept no triangle of a shape at a radius
+abbrev pub ShapeRefused : Scene → Float → Shape → Type 0
+ShapeRefused s r v = (a b c area : Float) → v ≡ shapeOf a b c area → accepts s r (qualityOf a b c area) ≡ false

@@ -2,15 +2,17 @@
 pub mod refused;
 
 use grid::SpatialGrid;
+use triangle::Shape;
 use triangle::TriangleQuality;
 use vector::Point3f;
 ghost use mathlib.Core.Path.{_≡_};
+ghost use mathlib.Core.Bool.{true};
 ghost use Prim.Native.Nat.{_*_, _<_, _+_};
 ghost use lib.ListN.{length};
 ghost use Rattle.triangle.specs.Bound.{qualityOf};
 ghost use Rattle.patch.specs.Lay.{edge};
 ghost use Rattle.decisions.specs.Decisions.{apart, isClose, qualityAt, accepts, completes, halfway, middle, pivotable, scoreAt};
-ghost use Rattle.decisions.specs.Found.{scoreFound, atLeast, areaAt, acceptedScore};
+ghost use Rattle.decisions.specs.Found.{scoreFound, atLeast, areaAt, acceptedScore, ShapeRefused};
 
 // What the decisions go by: the number of points, the index and whether it is used, and the thresholds of the settings.
 pub struct Scene {
@@ -143,8 +145,18 @@ pub fn score_at_least(
     score_from(s, radius, side, to_b, to_a, area_at(points, a, b, k), top)
 }
 
+// Whether the settings refuse every triangle of a shape at a radius, whatever its angles.
+fn is_shape_refused(s: Scene, radius: f32, shape: Shape) -> bool
+    ensures { λ r. ⌜ (r ≡ true → ShapeRefused s radius shape) ⌝ }
+{
+    if triangle::score_bound(shape) < s.quality_threshold {
+        return true;
+    }
+    shape.edge_ratio * numbers::sqrt(shape.area) > radius * s.max_edge_factor
+}
+
 // Whether the settings accept the triangle of points i, j and k, `to_i` and `to_j` being the lengths of two edges.
-// The area is asked first, since it needs no other length and no angle.
+// The area is asked first, since it needs no other length, then the shape, since it needs no angle.
 fn is_accepted_at(
     s: Scene,
     points: &[f32],
@@ -164,6 +176,9 @@ fn is_accepted_at(
     }
     let side = apart_at(points, j, i);
     let shape = triangle::shape_of(side, to_j, to_i, area);
+    if is_shape_refused(s, radius, shape) {
+        return false;
+    }
     is_accepted(s, radius, triangle::quality_of(side, to_j, to_i, shape))
 }
 

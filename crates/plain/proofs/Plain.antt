@@ -1,15 +1,18 @@
--- The plain path's definitions, number by number, as loops over b, a and i go through them. Assumes nothing.
+-- The plain path's definitions, step by step, as loops over b, a and i go through them. Assumes nothing.
 use Prim.Native.Nat.{ℕ, zero, suc, _+_, _-_, _/_, _≤_, _<_}
 use native.Mathlib.Nat.{min-le-left}
-use mathlib.Core.Path.{_≡_, refl, ap, _∙_}
-use mathlib.Core.Bool.{Bool, true, false, cond, _&&_}
+use native.Mathlib.Numerals.{add-one}
+use mathlib.Core.Path.{_≡_, refl, sym, ap, _∙_}
+use mathlib.Core.Bool.{Bool, true, false, cond}
 use mathlib.Core.List.{List, [], _∷_, _++_}
 use native.Mathlib.Omega.{arith}
-use lib.ListN.{length, take, length-take}
+use lib.ListN.{length, take, drop, getD, length-take, drop-of-length-le}
+use lib.Seq.{length-take-le, drop-cons, getD-take}
 use lib.Ieee.{Float}
-use Rattle.points.specs.Points.{upFrom}
+use Rattle.vector.specs.declared.Point3f.{Point3f}
+use Rattle.points.specs.Points.{pointAt, upFrom}
 use Rattle.patch.specs.Lay.{Face, face}
-use Rattle.plain.specs.Plain.{candidate, candidates, valid, facesOver, facesAt, facesOf, plainFaces}
+use Rattle.plain.specs.Plain.{candidate, candidates, sound, valid, facesOver, facesAt, facesOf, plainFaces}
 
 -- ---- the numbers from k up to n
 up-more : (k n : ℕ) → k < n → upFrom k (n - k) ≡ k ∷ upFrom (k + 1) (n - (k + 1))
@@ -29,47 +32,55 @@ module _ (points : List Float) (radius : Float) where
     abbrev pub from : ℕ → List ℕ
     from k = candidates points radius i (upFrom k (i - k))
 
-    from-more : (k : ℕ) → k < i → from k ≡ cond (candidate points radius i k) (k ∷ from (k + 1)) (from (k + 1))
+    pub from-more : (k : ℕ) → k < i → from k ≡ cond (candidate points radius i k) (k ∷ from (k + 1)) (from (k + 1))
     unfolding candidates
     from-more k h = ap (candidates points radius i) (up-more k i h)
 
-    from-none : (k : ℕ) → i ≤ k → from k ≡ []
+    pub from-none : (k : ℕ) → i ≤ k → from k ≡ []
     unfolding candidates
     from-none k h = ap (candidates points radius i) (up-none k i h)
 
-    -- b goes from a + 1 to i
-    module _ (a : ℕ) where
-      one : (b : ℕ) (bs : List ℕ) (t : Bool) → facesOver points radius i a (cond t (b ∷ bs) bs) ≡ cond (t && valid points radius i a b) (face i a b ∷ []) [] ++ facesOver points radius i a bs
-      unfolding facesOver
-      one b bs false = refl
-      one b bs true = put (valid points radius i a b)
-        where
-          put : (v : Bool) → cond v (face i a b ∷ facesOver points radius i a bs) (facesOver points radius i a bs) ≡ cond v (face i a b ∷ []) [] ++ facesOver points radius i a bs
-          put true = refl
-          put false = refl
-
-      pub over-more : (b : ℕ) → b < i → facesOver points radius i a (from b) ≡ cond (candidate points radius i b && valid points radius i a b) (face i a b ∷ []) [] ++ facesOver points radius i a (from (b + 1))
-      over-more b h = ap (facesOver points radius i a) (from-more b h) ∙ one b (from (b + 1)) (candidate points radius i b)
-
-      pub over-none : (b : ℕ) → i ≤ b → facesOver points radius i a (from b) ≡ []
-      unfolding facesOver
-      over-none b h = ap (facesOver points radius i a) (from-none b h)
-
-    -- a goes from 0 to i
-    pub at-more : (a : ℕ) → a < i → facesAt points radius i (from a) ≡ cond (candidate points radius i a) (facesOver points radius i a (from (a + 1))) [] ++ facesAt points radius i (from (a + 1))
-    unfolding facesAt
-    at-more a h = ap (facesAt points radius i) (from-more a h) ∙ first (candidate points radius i a)
+    -- b goes through a list
+    pub over-more : (a b : ℕ) (bs : List ℕ) → facesOver points radius i a (b ∷ bs) ≡ cond (valid points radius i a b) (face i a b ∷ []) [] ++ facesOver points radius i a bs
+    unfolding facesOver
+    over-more a b bs = put (valid points radius i a b)
       where
-        first : (t : Bool) → facesAt points radius i (cond t (a ∷ from (a + 1)) (from (a + 1))) ≡ cond t (facesOver points radius i a (from (a + 1))) [] ++ facesAt points radius i (from (a + 1))
-        first true = refl
-        first false = refl
+        put : (v : Bool) → cond v (face i a b ∷ facesOver points radius i a bs) (facesOver points radius i a bs) ≡ cond v (face i a b ∷ []) [] ++ facesOver points radius i a bs
+        put true = refl
+        put false = refl
 
-    pub at-none : (a : ℕ) → i ≤ a → facesAt points radius i (from a) ≡ []
-    unfolding facesAt
-    at-none a h = ap (facesAt points radius i) (from-none a h)
+    -- both go through the same one, a before b
+    module _ (w : List ℕ) (n : ℕ) (fits : n ≤ length w) where
+      abbrev pub rest : ℕ → List ℕ
+      rest k = drop k (take n w)
 
-    pub at-start : facesAt points radius i (candidates points radius i (upFrom 0 i)) ≡ facesAt points radius i (from 0)
-    at-start = ap (λ (l : List ℕ). facesAt points radius i (candidates points radius i l)) (up-start i)
+      shown : (k : ℕ) → k < n → rest k ≡ getD w k 0 ∷ rest (k + 1)
+      shown k h =
+          let l : k < length (take n w) = rw (length-take-le n w) h in
+          drop-cons (take n w) k 0 l ∙ ap (λ (v : ℕ). v ∷ drop (suc k) (take n w)) (getD-take n w k 0 h) ∙ ap (λ (m : ℕ). getD w k 0 ∷ drop m (take n w)) (sym (add-one k))
+
+      hidden : (k : ℕ) → n ≤ k → rest k ≡ []
+      hidden k h = drop-of-length-le (take n w) {i = k} (rw (length-take-le n w) h)
+
+      pub over-step : (a k : ℕ) → k < n → facesOver points radius i a (rest k) ≡ cond (valid points radius i a (getD w k 0)) (face i a (getD w k 0) ∷ []) [] ++ facesOver points radius i a (rest (k + 1))
+      over-step a k h = ap (facesOver points radius i a) (shown k h) ∙ over-more a (getD w k 0) (rest (k + 1))
+
+      pub over-end : (a k : ℕ) → n ≤ k → facesOver points radius i a (rest k) ≡ []
+      unfolding facesOver
+      over-end a k h = ap (facesOver points radius i a) (hidden k h)
+
+      pub at-step : (k : ℕ) → k < n → facesAt points radius i (rest k) ≡ facesOver points radius i (getD w k 0) (rest (k + 1)) ++ facesAt points radius i (rest (k + 1))
+      unfolding facesAt
+      at-step k h = ap (facesAt points radius i) (shown k h)
+
+      pub at-end : (k : ℕ) → n ≤ k → facesAt points radius i (rest k) ≡ []
+      unfolding facesAt
+      at-end k h = ap (facesAt points radius i) (hidden k h)
+
+    -- three points that were read
+    pub valid-is : (a b : ℕ) {p q o : Point3f} {t : Bool} → p ≡ pointAt points i → q ≡ pointAt points a → o ≡ pointAt points b → t ≡ sound p q o radius → valid points radius i a b ≡ t
+    unfolding valid
+    valid-is a b e f g h = cc
 
   -- i goes from 0 to n
   pub of-more : (i n : ℕ) → i < n → facesOf points radius (upFrom i (n - i)) ≡ facesAt points radius i (candidates points radius i (upFrom 0 i)) ++ facesOf points radius (upFrom (i + 1) (n - (i + 1)))

@@ -1,4 +1,4 @@
--- The least squares among the points that were gathered are those of all neighbours, if ten are not above the limit or there is none,
+-- The least squares among the points that were gathered are those of all neighbours, if ten are not above the limit,
 -- and their roots are the least distances of the definition. Assumes nothing.
 use mathlib.Core.Path.{_≡_, refl, sym, ap, _∙_, subst}
 use mathlib.Core.Bool.{Bool, true, false, cond, not, _&&_}
@@ -9,11 +9,11 @@ use borrow.Author.Tests.{eq-eqb, ltb-true, ltb-false, lt-ltb, le-ltb, eqb-true, 
 use lib.Dec.{T, eqb, ltb}
 use lib.ListN.{length, take, drop, getD, length-take, length-drop}
 use lib.Seq.{getD-take, getD-drop, length-take-le, take-take}
-use lib.Ieee.{Float, nan, inf, lt, le, isNan}
+use lib.Ieee.{Float, nan, lt, le, isNan}
 use lib.Ieee.Bits.{is-true}
 use Rattle.numbers.specs.Rounded.{f32, _⊗_}
 use Rattle.numbers.specs.Root.{root}
-use Rattle.numbers.proofs.OrderLaws.{le-refl, le-trans, le-right, le-top, lt-le, le-not-lt, not-le-lt}
+use Rattle.numbers.proofs.OrderLaws.{le-refl, le-trans, le-right, lt-le, not-le-lt}
 use Rattle.vector.specs.declared.Point3f.{Point3f}
 use Rattle.vector.specs.Vector.{squared}
 use Rattle.points.specs.Points.{pointAt, upFrom}
@@ -148,15 +148,6 @@ module _ (near : ℕ → Bool) (pts : List Float) (n i : ℕ) (b : Bounds) (js a
           let r = rising-upto limit (sorted ys) 9 (sorted-rising ys (squares-good near pts i n inside numbers js (g .below))) many (subst (λ (x : Float). T (le x limit)) (sym tenth) l) in
           omega (arith, sorted-count (atMost limit) ys, squares-count near pts i limit js)
 
-  -- no limit
-  pub decided-everywhere : limit ≡ inf false → leastSquares near pts i js ≡ leastSquares near pts i all
-  unfolding isNan
-  decided-everywhere e =
-      same (subst (λ (x : Float). T (not (isNan x))) (sym e) tt) (λ (v : Float) (l : T (lt limit v)). absurd (none v (subst (λ (x : Float). T (lt x v)) e l)))
-    where
-      none : (v : Float) → T (lt (inf false) v) → ⊥
-      none v l = le-not-lt v (inf false) (le-top v (le-right (inf false) v (lt-le (inf false) v l))) l
-
 -- ---- a look
 pub looked : (a : Around) (pts : List Float) (n i : ℕ) (limit : Float) (w u : List ℕ) (f g : List Float) (h : Hash) (p : Point3f) (b : Bounds) (found r : ℕ)
     → Prepared h pts n i w f → length g ≡ length f → p ≡ pointAt pts i → Covers p limit b → Gathered pts n b w u found
@@ -165,7 +156,6 @@ looked a pts n i limit w u f g h p b found r x size hp covers gathered squares f
   few = few;
   full = λ (e : r ≡ 10) (l : T (le (getD g (n + 9) nan) limit)).
       squares ∙ decided-full near pts n i b js (upFrom 0 n) limit (x .inside) (x .hashed .linked .ready .numbers) covers' (gathered-all (x .hashed) gathered) (up-whole n) g (omega (arith, x .room)) (ap (λ (k : ℕ). take k (drop n g)) (sym e) ∙ squares) l;
-  everywhere = λ (e : limit ≡ inf false). squares ∙ decided-everywhere near pts n i b js (upFrom 0 n) limit (x .inside) (x .hashed .linked .ready .numbers) covers' (gathered-all (x .hashed) gathered) (up-whole n) e;
   kept = record { front = front; before = gathered .before; after = gathered .after };
 }
   where

@@ -4,20 +4,23 @@ use mathlib.Core.Bool.{Bool, true, false, cond, not, _&&_}
 use mathlib.Core.List.{List, [], _∷_, _++_, map}
 use Prim.Native.Nat.{ℕ, suc, _+_, _-_, _≤_, _<_}
 use native.Mathlib.Omega.{arith}
-use lib.Dec.{eqb}
+use lib.Dec.{T, eqb}
 use lib.ListN.{length, take, drop, getD, set, length-take, length-drop, length-set, drop-of-length-le}
 use lib.Seq.{drop-cons, take-set-le, drop-set-lt, drop-set-add, take-suc, take-suc-set, getD-drop, drop-drop}
-use lib.Ieee.{Float, nan}
+use lib.Ieee.{Float, nan, le}
 use Rattle.numbers.specs.Rounded.{_⊕_}
 use Rattle.numbers.specs.Root.{root}
 use Rattle.vector.specs.declared.Point3f.{Point3f}
 use Rattle.vector.specs.Vector.{squared}
-use Rattle.points.specs.Points.{pointAt}
+use Rattle.points.specs.Points.{pointAt, upFrom}
 use Rattle.sorting.specs.Sorted.{insert, insertAll}
 use Rattle.sorting.proofs.Insertion.{part-length, part-at}
 use Rattle.sorting.proofs.Least.{least-step, least-end}
+use Rattle.spatial_hash.specs.Near.{Finite}
+use Rattle.spatial_hash.proofs.Squares.{squared-good}
 use Rattle.radii.specs.Radii.{total}
-use Rattle.radii.specs.Squares.{squaresTo, withSquare}
+use Rattle.radii.specs.Squares.{squaresTo, leastSquares, withSquare, Settled}
+use Rattle.radii.proofs.Rising.{Ordered, least-ordered}
 
 -- ---- the rest of a part of a slice
 part-next : {A : Type 0} (w : List A) (at count k : ℕ) (d : A) → at + count ≤ length w → k < count → drop k (take count (drop at w)) ≡ getD w (at + k) d ∷ drop (k + 1) (take count (drop at w))
@@ -43,6 +46,37 @@ module _ (near : ℕ → Bool) (pts : List Float) (i j : ℕ) (kept : List Float
       let same : s ≡ squared (pointAt pts j) (pointAt pts i) = cc in
       rw t (ap (λ (x : Float). take 10 (insert x kept)) same)
 
+-- ten that are in rising order, and a square that is not below the last
+module _ (near : ℕ → Bool) (pts : List Float) (i j : ℕ) where
+  pub with-far : (f : List Float) (n m : ℕ) (p q : Point3f) (s : Float) → n + 10 ≤ length f → p ≡ pointAt pts j → q ≡ pointAt pts i → s ≡ squared p q
+      → Settled (take m (drop n f)) (squared (pointAt pts j) (pointAt pts i)) → m ≡ 10 → T (le (getD f (n + 9) nan) s) → take m (drop n f) ≡ withSquare near pts i j (take m (drop n f))
+  unfolding withSquare
+  with-far f n m p q s long hp hq hs settled e h = go (not (eqb j i) && near j)
+    where
+      same : s ≡ squared (pointAt pts j) (pointAt pts i)
+      same = cc
+
+      room : n + m ≤ length f
+      room = omega arith
+
+      ten : length (take m (drop n f)) ≡ 10
+      ten = part-length f n m room ∙ e
+
+      last : T (le (getD (take m (drop n f)) 9 nan) (squared (pointAt pts j) (pointAt pts i)))
+      last = subst (λ (x : Float). T (le x (squared (pointAt pts j) (pointAt pts i)))) (sym (part-at f n m room 9 nan (omega arith))) (subst (λ (x : Float). T (le (getD f (n + 9) nan) x)) same h)
+
+      go : (b : Bool) → take m (drop n f) ≡ cond b (take 10 (insert (squared (pointAt pts j) (pointAt pts i)) (take m (drop n f)))) (take m (drop n f))
+      go true = sym (settled ten last)
+      go false = refl
+
+  pub with-ordered : (n : ℕ) (kept kept' : List Float) → i < n → j < n → ((k : ℕ) → k < n → Finite (pointAt pts k)) → kept' ≡ withSquare near pts i j kept → Ordered kept → Ordered kept'
+  unfolding withSquare
+  with-ordered n kept kept' hi hj numbers e o = subst (λ (l : List Float). Ordered l) (sym e) (go (not (eqb j i) && near j))
+    where
+      go : (b : Bool) → Ordered (cond b (take 10 (insert (squared (pointAt pts j) (pointAt pts i)) kept)) kept)
+      go true = least-ordered 10 (squared (pointAt pts j) (pointAt pts i)) kept (squared-good (pointAt pts j) (pointAt pts i) (numbers j hj) (numbers i hi)) o
+      go false = o
+
 -- ---- the points to come are looked at
 module _ (near : ℕ → Bool) (pts : List Float) (i : ℕ) where
   turn : (j : ℕ) (js : List ℕ) (kept : List Float) → take 10 (insertAll kept (squaresTo near pts i (j ∷ js))) ≡ take 10 (insertAll (withSquare near pts i j kept) (squaresTo near pts i js))
@@ -65,6 +99,26 @@ module _ (near : ℕ → Bool) (pts : List Float) (i : ℕ) where
     unfolding squaresTo
     look-end k f m h few =
         ap (λ (js : List ℕ). take 10 (insertAll (take m f) (squaresTo near pts i js))) (part-over w at count k long h) ∙ least-end 10 (take m f) (simp length-take (omega arith))
+
+  -- all points, from j on
+  pub all-start : (n : ℕ) (f : List Float) → leastSquares near pts i (upFrom 0 n) ≡ take 10 (insertAll (take 0 f) (squaresTo near pts i (upFrom 0 (n - 0))))
+  unfolding leastSquares
+  all-start n f = let e : n ≡ n - 0 = omega arith in ap (λ (k : ℕ). take 10 (insertAll [] (squaresTo near pts i (upFrom 0 k)))) e
+
+  pub all-step : (n j : ℕ) (kept kept' : List Float) → j < n → kept' ≡ withSquare near pts i j kept
+      → take 10 (insertAll kept (squaresTo near pts i (upFrom j (n - j)))) ≡ take 10 (insertAll kept' (squaresTo near pts i (upFrom (j + 1) (n - (j + 1)))))
+  unfolding upFrom
+  all-step n j kept kept' h e =
+      let m : n - j ≡ suc (n - (j + 1)) = omega arith in
+      ap (λ (k : ℕ). take 10 (insertAll kept (squaresTo near pts i (upFrom j k)))) m
+      ∙ turn j (upFrom (j + 1) (n - (j + 1))) kept
+      ∙ ap (λ (l : List Float). take 10 (insertAll l (squaresTo near pts i (upFrom (j + 1) (n - (j + 1)))))) (sym e)
+
+  pub all-end : (n j : ℕ) (f : List Float) (m : ℕ) → n ≤ j → m ≤ 10 → take 10 (insertAll (take m f) (squaresTo near pts i (upFrom j (n - j)))) ≡ take m f
+  unfolding upFrom squaresTo
+  all-end n j f m h few =
+      let z : n - j ≡ 0 = omega arith in
+      ap (λ (k : ℕ). take 10 (insertAll (take m f) (squaresTo near pts i (upFrom j k)))) z ∙ least-end 10 (take m f) (simp length-take (omega arith))
 
 -- ---- the sum
 module _ (f : List Float) (at count : ℕ) (long : at + count ≤ length f) where

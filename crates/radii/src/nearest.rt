@@ -8,16 +8,18 @@ use vector::Point3f;
 ghost use mathlib.Core.Path.{_≡_};
 ghost use mathlib.Core.Bool.{not, _&&_};
 ghost use mathlib.Core.List.{map};
-ghost use Prim.Native.Nat.{_+_, _*_, _≤_, _<_};
+ghost use Prim.Native.Nat.{ℕ, _+_, _*_, _≤_, _<_};
 ghost use lib.Dec.{eqb};
 ghost use lib.ListN.{length, take, drop, getD};
 ghost use lib.Ieee.{nan, le};
 ghost use Rattle.numbers.specs.Root.{root};
 ghost use Rattle.patch.specs.Search.{Below};
 ghost use Rattle.grid.specs.Index.{Indexed};
-ghost use Rattle.spatial_hash.specs.Near.{HashedAll};
+ghost use Rattle.vector.specs.Vector.{squared};
+ghost use Rattle.points.specs.Points.{pointAt};
+ghost use Rattle.spatial_hash.specs.Near.{Finite, HashedAll};
 ghost use Rattle.radii.specs.Radii.{nearest};
-ghost use Rattle.radii.specs.Squares.{isNear, aroundOf, withSquare, leastSquares, Prepared, Looked, Found};
+ghost use Rattle.radii.specs.Squares.{isNear, aroundOf, withSquare, leastSquares, Settled, Decided, Prepared, Looked, Found};
 
 // The neighbours of a place at 3 × radius.
 fn around_of(config: BallPivotingConfig, grid: SpatialGrid, place: Point3f) -> Around
@@ -43,7 +45,7 @@ fn is_other(w: &[u32], n: usize, around: Around, i: usize, j: usize) -> bool
     grid::search::is_near(w, n, around.indexed, around.range, cell, j)
 }
 
-// Looks at point j for the least squared distances from point i, of which `kept` are in the region of the least distances.
+// Looks at point j for the least squared distances from point i, of which `kept` are in the region of the least distances. Most points are too far, which the square tells soonest.
 fn look_at(
     points: &[f32],
     n: usize,
@@ -54,15 +56,19 @@ fn look_at(
     f: &mut [f32],
     kept: usize,
 ) -> usize
-    requires { ⌜ (i < n) × (j < n) × (n ≤ 4096) × (3 * n ≤ length (now points)) × (4 * n ≤ length (now w)) × (n + 10 ≤ length (now f)) × (kept ≤ 10) ⌝ }
+    requires { ⌜ (i < n) × (j < n) × (n ≤ 4096) × (3 * n ≤ length (now points)) × (4 * n ≤ length (now w)) × (n + 10 ≤ length (now f)) × (kept ≤ 10)
+        × Settled (take kept (drop n (now f))) (squared (pointAt (now points) j) (pointAt (now points) i)) ⌝ }
     ensures { λ r. ⌜ (take r (drop n (now (f .exit))) ≡ withSquare (isNear around (now (w .entry)) n) (now (points .entry)) i j (take kept (drop n (now (f .entry)))))
         × (r ≤ 10)
         × (take n (now (f .exit)) ≡ take n (now (f .entry))) ⌝ }
 {
+    let p = points::point_at(points, j);
+    let q = points::point_at(points, i);
+    let s = vector::distance_squared(p, q);
+    if is_enough(f, n, kept, s) {
+        return kept;
+    }
     if is_other(w, n, around, i, j) {
-        let p = points::point_at(points, j);
-        let q = points::point_at(points, i);
-        let s = vector::distance_squared(p, q);
         return sorting::insert_least(f, n, kept, 10, s);
     }
     kept
@@ -78,7 +84,8 @@ fn least_squares(
     found: usize,
     f: &mut [f32],
 ) -> usize
-    requires { ⌜ (i < n) × (n ≤ 4096) × (found ≤ n) × (3 * n ≤ length (now points)) × (5 * n ≤ length (now w)) × (n + 10 ≤ length (now f)) × Below n (take found (drop (4 * n) (now w))) ⌝ }
+    requires { ⌜ (i < n) × (n ≤ 4096) × (found ≤ n) × (3 * n ≤ length (now points)) × (5 * n ≤ length (now w)) × (n + 10 ≤ length (now f)) × Below n (take found (drop (4 * n) (now w)))
+        × ((j : ℕ) → j < n → Finite (pointAt (now points) j)) ⌝ }
     ensures { λ r. ⌜ (take r (drop n (now (f .exit))) ≡ leastSquares (isNear around (now (w .entry)) n) (now (points .entry)) i (take found (drop (4 * n) (now (w .entry)))))
         × (r ≤ 10)
         × (take n (now (f .exit)) ≡ take n (now (f .entry))) ⌝ }
@@ -130,7 +137,38 @@ fn wider(f: &[f32], n: usize, kept: usize, limit: f32) -> f32
     if kept == 10 { f[n + 9] } else { limit * 16.0 }
 }
 
-// The least squared distances from point i to its other neighbours. The last look goes everywhere.
+// The least squared distances from point i to its other neighbours, of all points.
+fn look_everywhere(
+    points: &[f32],
+    n: usize,
+    around: Around,
+    i: usize,
+    w: &[u32],
+    f: &mut [f32],
+) -> usize
+    requires { ⌜ (i < n) × (n ≤ 4096) × (3 * n ≤ length (now points)) × (4 * n ≤ length (now w)) × (n + 10 ≤ length (now f))
+        × ((j : ℕ) → j < n → Finite (pointAt (now points) j)) ⌝ }
+    ensures { λ r. ⌜ Decided around (now (points .entry)) n i (now (w .entry)) (now (f .exit)) r
+        × (r ≤ 10)
+        × (take n (now (f .exit)) ≡ take n (now (f .entry))) ⌝ }
+{
+    let mut kept: usize = 0;
+    let mut j: usize = 0;
+    while j < n {
+        kept = look_at(points, n, around, i, j, w, f, kept);
+        j += 1;
+    }
+    kept
+}
+
+// How many of the three looks near by are left out: all where there are so few points that a look at each is quicker.
+fn first_try(n: usize) -> u32
+    ensures { λ r. ⌜ r ≤ 3 ⌝ }
+{
+    if n < 200 { 3 } else { 0 }
+}
+
+// The least squared distances from point i to its other neighbours.
 fn find_squares(
     points: &[f32],
     n: usize,
@@ -144,9 +182,8 @@ fn find_squares(
     requires { ⌜ Prepared hash (now points) n i (now w) (now f) ⌝ }
     ensures { λ r. ⌜ Found around (now (points .entry)) n i (now (w .entry)) (now (w .exit)) (now (f .entry)) (now (f .exit)) r ⌝ }
 {
-    let everywhere = 1.0 / 0.0;
     let mut limit = guess * guess;
-    let mut tries: u32 = 0;
+    let mut tries = first_try(n);
     while tries < 3 {
         let kept = look_within(points, n, hash, around, i, limit, w, f);
         if is_enough(f, n, kept, limit) {
@@ -155,7 +192,7 @@ fn find_squares(
         limit = wider(f, n, kept, limit);
         tries += 1;
     }
-    look_within(points, n, hash, around, i, everywhere, w, f)
+    look_everywhere(points, n, around, i, w, f)
 }
 
 // Takes the root of each of the count numbers that start at `at`.

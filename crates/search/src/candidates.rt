@@ -33,6 +33,7 @@ fn is_far(points: &[f32], limit: f32, k: usize, i: usize) -> bool
 }
 
 // The score of point k with the edge a, b, of length `side`, if it may be met and the score is not below `top`.
+// Most points that are looked at are used or too far away, so that is asked first.
 fn score_of(
     s: Scene,
     points: &[f32],
@@ -48,12 +49,6 @@ fn score_of(
     requires { ⌜ Held s (now points) (now w) × (a < s .n) × (b < s .n) × (k < s .n) × (side ≡ apart (now points) b a) × Limit radius limit ⌝ }
     ensures { λ r. ⌜ r ≡ scoreFound (atLeast top (scoreOf (floatsOf s (now (points .entry))) radius (usedIn s (now (w .entry))) (edge a b) k)) ⌝ }
 {
-    if k == a {
-        return Score::None;
-    }
-    if k == b {
-        return Score::None;
-    }
     if !crate::is_unused(s, w, k) {
         return Score::None;
     }
@@ -61,6 +56,12 @@ fn score_of(
         return Score::None;
     }
     if is_far(points, limit, k, b) {
+        return Score::None;
+    }
+    if k == a {
+        return Score::None;
+    }
+    if k == b {
         return Score::None;
     }
     decisions::score_at_least(s, points, radius, a, b, k, side, top)

@@ -1,5 +1,5 @@
 -- A score is at most that of the least angle pi, a larger aspect ratio and the edge ratio 1 (`score-under`), so that one test gives an aspect ratio up to which no score reaches a threshold (`aspect-limit-is`),
--- and with it the score of every triangle whose aspect ratio is not above it (`aspect-low`). Assumes nothing.
+-- and with it the score of every triangle whose aspect ratio is not above it (`aspect-low`); and a bound that is below the threshold does the same (`bound-low`). Assumes nothing.
 use mathlib.Core.Path.{_≡_, refl, subst}
 use mathlib.Core.Bool.{Bool, true, false, not, cond}
 use lib.Dec.{T}
@@ -13,8 +13,8 @@ use Rattle.numbers.proofs.ProductOrder.{mul-number, mul-monotone}
 use Rattle.numbers.proofs.QuotientOrder.{div-monotone}
 use Rattle.numbers.proofs.Minimum.{minimum-le}
 use Rattle.triangle.specs.Quality.{radiusOf, score, measures, degenerate}
-use Rattle.triangle.specs.Bound.{shape, flat, shapeOf, qualityOf, AspectLimit}
-use Rattle.triangle.proofs.Bounds.{part, part-le}
+use Rattle.triangle.specs.Bound.{shape, flat, shapeOf, scoreBound, qualityOf, AspectLimit}
+use Rattle.triangle.proofs.Bounds.{part, part-le, flat-le}
 
 -- ---- sums below +infinity
 
@@ -85,25 +85,39 @@ edge-full = refl
 edge-le : (x : Float) → T (le (minimum (f32 0x40400000 ⊘ x) (f32 0x3f800000)) (minimum (f32 0x40400000 ⊘ f32 0x3f800000) (f32 0x3f800000)))
 edge-le x = rw (← edge-full) (minimum-le (f32 0x40400000 ⊘ x) (f32 0x3f800000) (unfold isNan ofBits in tt))
 
+mean-under : (x y u v e o : Float) → T (le x y) → T (le u v) → T (le e o) → Low ((y ⊕ v ⊕ o) ⊘ f32 0x40400000) → T (le ((x ⊕ u ⊕ e) ⊘ f32 0x40400000) ((y ⊕ v ⊕ o) ⊘ f32 0x40400000))
+mean-under x y u v e o h k m l =
+    let i = low-parts (y ⊕ v) o (low-third (y ⊕ v ⊕ o) l) in
+    let j = low-parts y v (i .0) in
+    div-monotone (x ⊕ u ⊕ e) (y ⊕ v ⊕ o) (f32 0x40400000) (unfold ofBits in tt) (add-under (x ⊕ u) e (y ⊕ v) o (add-under x u y v h k (j .0) (j .1)) m (i .0) (i .1))
+
 score-under : (x aspect edge t : Float) → T (le aspect t) → Low (score (f32 0x40490fdb) t (f32 0x3f800000)) → T (le (score x aspect edge) (score (f32 0x40490fdb) t (f32 0x3f800000)))
 unfolding score
 score-under x aspect edge t h l =
+    mean-under (part x) (part (f32 0x40490fdb)) (aspect ⊗ f32 0x40000000) (t ⊗ f32 0x40000000) (minimum (f32 0x40400000 ⊘ edge) (f32 0x3f800000)) (minimum (f32 0x40400000 ⊘ f32 0x3f800000) (f32 0x3f800000)) (part-le x) (doubled-le aspect t h) (edge-le edge) l
+
+-- with the angle pi alone
+angle-under : (x aspect edge : Float) → Low (score (f32 0x40490fdb) aspect edge) → T (le (score x aspect edge) (score (f32 0x40490fdb) aspect edge))
+unfolding score
+angle-under x aspect edge l =
     let p = part (f32 0x40490fdb) in
     let u = aspect ⊗ f32 0x40000000 in
-    let v = t ⊗ f32 0x40000000 in
     let e = minimum (f32 0x40400000 ⊘ edge) (f32 0x3f800000) in
-    let o = minimum (f32 0x40400000 ⊘ f32 0x3f800000) (f32 0x3f800000) in
-    let j = low-parts (p ⊕ v) o (low-third (p ⊕ v ⊕ o) l) in
-    let k = low-parts p v (j .0) in
-    div-monotone (part x ⊕ u ⊕ e) (p ⊕ v ⊕ o) (f32 0x40400000) (unfold ofBits in tt)
-    (add-under (part x ⊕ u) e (p ⊕ v) o (add-under (part x) u p v (part-le x) (doubled-le aspect t h) (k .0) (k .1)) (edge-le edge) (j .0) (j .1))
+    let i = low-parts (p ⊕ u) e (low-third (p ⊕ u ⊕ e) l) in
+    mean-under (part x) p u u e e (part-le x) (low-same u (low-parts p u (i .0) .1)) (low-same e (i .1)) l
+  where
+    low-same : (y : Float) → Low y → T (le y y)
+    low-same y h = le-refl y (le-left y (inf false) (lt-le y (inf false) h))
 
 -- ---- limits
+
+below-low : (x y : Float) → T (lt x y) → Low x
+below-low x y h = lt-le-trans x y (inf false) h (le-top y (le-right x y (lt-le x y h)))
 
 pub aspect-limit-is : (threshold t : Float) → T (lt (score (f32 0x40490fdb) t (f32 0x3f800000)) threshold) → AspectLimit threshold t
 aspect-limit-is threshold t h =
     let b = score (f32 0x40490fdb) t (f32 0x3f800000) in
-    record { below = λ x aspect edge k. le-lt-trans (score x aspect edge) b threshold (score-under x aspect edge t k (lt-le-trans b threshold (inf false) h (le-top threshold (le-right b threshold (lt-le b threshold h))))) h }
+    record { below = λ x aspect edge k. le-lt-trans (score x aspect edge) b threshold (score-under x aspect edge t k (below-low b threshold h)) h }
 
 pub no-aspect-limit : (threshold : Float) → AspectLimit threshold nan
 no-aspect-limit threshold = record { below = λ x aspect edge k. absurd (unfold isNan in le-right aspect nan k) }
@@ -122,3 +136,15 @@ aspect-low threshold t a b c area l = go (lt area (f32 0x2edbe6ff))
     go false h =
         let q = measures a b c area (radiusOf a b c area) in
         is-true (lt (q .«quality_score») threshold) (l .below (q .«min_angle») (q .«aspect_ratio») (q .«edge_ratio») h)
+
+-- a bound below the threshold bounds the score
+pub bound-low : (threshold a b c area : Float) → T (lt (scoreBound (shapeOf a b c area)) threshold) → lt (qualityOf a b c area .«quality_score») threshold ≡ true
+unfolding scoreBound shapeOf qualityOf shape flat measures degenerate
+bound-low threshold a b c area = go (lt area (f32 0x2edbe6ff))
+  where
+    go : (e : Bool) → T (lt (scoreBound (cond e (flat area) (shape a b c area))) threshold) → lt (cond e (degenerate area) (measures a b c area (radiusOf a b c area)) .«quality_score») threshold ≡ true
+    go true h = is-true (lt (f32 0) threshold) (le-lt-trans (f32 0) (score (f32 0x40490fdb) (f32 0) (inf false)) threshold flat-le h)
+    go false h =
+        let q = measures a b c area (radiusOf a b c area) in
+        let d = scoreBound (shape a b c area) in
+        is-true (lt (q .«quality_score») threshold) (le-lt-trans (q .«quality_score») d threshold (angle-under (q .«min_angle») (q .«aspect_ratio») (q .«edge_ratio») (below-low d threshold h)) h)

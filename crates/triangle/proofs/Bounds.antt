@@ -81,7 +81,7 @@ under : (top bound x : Float) → (T (not (isNan x)) → T (not (isNan bound)) �
 under top bound x f h = is-false (lt top x) (not-T (lt top x) (λ k. le-not-lt x top (le-trans x bound top (f (le-right top x (lt-le top x k)) (le-left bound top h)) h) k))
 
 -- a flat triangle's score is 0
-flat-le : T (le (f32 0) (score (f32 0x40490fdb) (f32 0) (inf false)))
+pub flat-le : T (le (f32 0) (score (f32 0x40490fdb) (f32 0) (inf false)))
 unfolding le score minimum add mul div lt isNan ofBits
 flat-le = tt
 
@@ -94,3 +94,22 @@ score-bounded top a b c area = go (lt area (f32 0x2edbe6ff))
     go false h =
         let q = measures a b c area (radiusOf a b c area) in
         under top (scoreBound (shape a b c area)) (q .«quality_score») (score-le (q .«min_angle») (q .«aspect_ratio») (q .«edge_ratio»)) h
+
+-- ---- the shape's part of a quality
+
+module _ (a b c area : Float) where
+  pub quality-area : qualityOf a b c area .area ≡ shapeOf a b c area .area
+  unfolding qualityOf shapeOf measures degenerate shape flat
+  quality-area = go (lt area (f32 0x2edbe6ff))
+    where
+      go : (t : Bool) → cond t (degenerate area) (measures a b c area (radiusOf a b c area)) .area ≡ cond t (flat area) (shape a b c area) .area
+      go true = refl
+      go false = refl
+
+  pub quality-edges : qualityOf a b c area .«edge_ratio» ≡ shapeOf a b c area .«edge_ratio»
+  unfolding qualityOf shapeOf measures degenerate shape flat
+  quality-edges = go (lt area (f32 0x2edbe6ff))
+    where
+      go : (t : Bool) → cond t (degenerate area) (measures a b c area (radiusOf a b c area)) .«edge_ratio» ≡ cond t (flat area) (shape a b c area) .«edge_ratio»
+      go true = refl
+      go false = refl

@@ -1,4 +1,5 @@
 -- By the radii one path or the other. Assumes nothing.
+use native.Mathlib.Omega.{arith}
 use Rattle.laying.proofs.Kept.{ground-searched}
 use Rattle.ball_pivoting.proofs.Found.{radii-ready, listed-at, listed-none, listed-self, finds-plain, finds-laid}
 use borrow.Author.Needs.{needs}
@@ -14,7 +15,12 @@ compute-adaptive-radii-requires c κs =
     radii-ready _ _ _ _ _ _ (i .0) (c .before .before .before .before .before .before .before .before .before .before .before .before .pre) (i .1)
 
 find-plain-requires : tie.Need-find-plain-requires
-find-plain-requires c κs = (c .before .before .before .before .before .before .before .before .before .before .before .before .before .before .before .before .before .before .before .before .pre .sized .few, listed-none _ _ (c .before .before .before .before .before .before .before .compute-adaptive-radii .ensures .0) (c .before .if1 .taken))
+find-plain-requires c κs =
+    let t = c .before .before .before in
+    let r = t .before .before .before .before .before .before in
+    let z = r .before .before .before .before .before .before .before .before .before .before .before .before .before .pre .sized in
+    let k = r .before .before .before .before .before .before .before .before .before .before .before .before .before .pre .floats-enough in
+    (z .few, omega (arith, z .words-enough), omega (arith, k), listed-none _ _ (r .compute-adaptive-radii .ensures .0) (t .if1 .taken))
 
 same-length : tie.Need-same-length
 same-length c = search needs
@@ -27,9 +33,11 @@ same-length-3 c = search needs
 
 returns : tie.Need-returns
 returns c =
-    let i = c .before .before .before .before .before .before .before .before .before .before .before .before .before .before .before .before .before .index-points .ensures in
-    let r = c .before .before .before .before .before .before .before .before .before .before .compute-adaptive-radii .ensures in
-    finds-plain _ _ _ _ _ _ _ (i .0) (listed-at _ _ _ _ (i .0) (r .0)) (c .before .before .before .before .if1 .taken) (c .before .before .find-plain .ensures)
+    let f = c .before .before .before .before .before .before in
+    let t = f .before .before .before .before in
+    let r = t .before .before .before .before .before .before in
+    let i = r .before .before .before .before .before .before .before .index-points .ensures in
+    finds-plain _ _ _ _ _ _ _ (i .0) (listed-at _ _ _ _ (i .0) (r .compute-adaptive-radii .ensures .0)) (t .if1 .taken) (f .find-plain .ensures)
 
 find-pivoting-requires : tie.Need-find-pivoting-requires
 find-pivoting-requires c κs =

@@ -13,20 +13,28 @@ simple-triangulate-requires c κs = search needs
 same-length : tie.Need-same-length
 same-length c = search needs
 
+same-length-2 : tie.Need-same-length-2
+same-length-2 c = search needs
+
+same-length-3 : tie.Need-same-length-3
+same-length-3 c = search needs
+
 returns : tie.Need-returns
 unfolding plainly
 returns c =
-    let e = c .before .before .simple-triangulate .ensures in
-    let a = c .before .before .before .before .before .before .args in
+    let t = c .before .before .before .before .before .before in
+    let s = t .before .before .before .before .before .before .before .before in
+    let e = t .simple-triangulate .ensures in
+    let a = s .args in
     record {
       faces = e .0;
       few = omega (arith, e .0, plain-most (a .points .now) (a .settings .radius));
       seeds = refl;
       looks = refl;
       pivots = refl;
-      radii = c .before .before .before .before .before .before .pre .1;
+      radii = s .pre .3;
       written-in = e .1;
     }
 
 pub find-plain-spec : {M : Type 1} → statement M
-find-plain-spec = tie.close (tie.spec simple-triangulate-requires same-length returns)
+find-plain-spec = tie.close (tie.spec simple-triangulate-requires same-length same-length-2 same-length-3 returns)

@@ -1,32 +1,34 @@
--- A look that finds ten squares, none above its limit, decides, and so does the last one, which has no limit. Assumes nothing.
+-- A look that finds ten squares, none above its limit, decides, and so does a look at all points. Assumes nothing.
 use mathlib.Core.Path.{_≡_, refl, sym, _∙_}
 use Prim.Native.Nat.{_+_, _-_, _≤_}
 use native.Mathlib.Omega.{arith}
 use lib.ListN.{length, getD}
 use lib.Ieee.{nan}
 use borrow.Author.Needs.{needs}
-use Rattle.numbers.proofs.Compare.{infinite}
 use Rattle.radii.specs.Squares.{Kept}
 use Rattle.radii.proofs.Deciding.{prepared-kept, kept-start, kept-then, enough}
 use Rattle.radii.proofs.nearest.find_squares.Statement.{statement}
 use Rattle.radii.proofs.nearest.find_squares.Tie as tie
 
 abbrev Inv-loop : tie.InvT-loop
-Inv-loop points n hash around i guess w₀ f₀ everywhere limit₀ tries₀ w f limit tries = (length w ≡ length w₀) × (length f ≡ length f₀) × (tries ≤ 3) × Kept n w₀ w f₀ f
+Inv-loop points n hash around i guess w₀ f₀ limit₀ tries₀ w f limit tries = (length w ≡ length w₀) × (length f ≡ length f₀) × (tries ≤ 3) × Kept n w₀ w f₀ f
 
 abbrev μ-loop : tie.MeasureT-loop
-μ-loop points n hash around i guess w₀ f₀ everywhere limit₀ tries₀ w f limit tries = 3 - tries
+μ-loop points n hash around i guess w₀ f₀ limit₀ tries₀ w f limit tries = 3 - tries
+
+first-try-requires : tie.Need-first-try-requires Inv-loop μ-loop
+first-try-requires c κs = search needs
 
 loop-holds : tie.Need-loop-holds Inv-loop μ-loop
-loop-holds c = let s = c .before .before .before in (refl, refl, search needs, kept-start (s .args .n) (s .args .w .now) (s .args .f .now))
+loop-holds c = let s = c .before .before .before .before in (refl, refl, search needs, kept-start (s .args .n) (s .args .w .now) (s .args .f .now))
 
 look-within-requires : tie.Need-look-within-requires Inv-loop μ-loop
-look-within-requires c κs = let l = c .before .before .before .loop in prepared-kept (c .before .before .before .before .before .before .before .pre) (l .inv .0) (l .inv .1) (l .inv .3)
+look-within-requires c κs = let l = c .before .before .before .loop in prepared-kept (c .before .before .before .before .before .before .before .before .pre) (l .inv .0) (l .inv .1) (l .inv .3)
 
 is-enough-requires : tie.Need-is-enough-requires Inv-loop μ-loop
 is-enough-requires c κs =
     let l = c .before .before .before .before .before .before .before .before .before .loop in
-    let s = c .before .before .before .before .before .before .before .before .before .before .before .before .before in
+    let s = c .before .before .before .before .before .before .before .before .before .before .before .before .before .before in
     (s .pre .hashed .linked .ready .few, omega (arith, s .pre .room, l .inv .1, c .before .before .before .before .before .look-within .kept .1 .1 .1 .1 .1 .1 .1 .0))
 
 same-length : tie.Need-same-length Inv-loop μ-loop
@@ -37,7 +39,7 @@ same-length-2 c = search needs
 
 returns : tie.Need-returns Inv-loop μ-loop
 returns c =
-    let s = c .before .before .before .before .before .before .before .before .before .before .before .before .before .before .before in
+    let s = c .before .before .before .before .before .before .before .before .before .before .before .before .before .before .before .before in
     let l = c .before .before .before .before .before .before .before .before .before .before .before .loop in
     let q = c .before .before .before .before .before .before .before .look-within in
     let t = enough (q .result) (getD (q .last .1 .1 .1 .1 .1 .1 .1 .0) (s .args .n + 9) nan) (l .limit) (sym (c .before .is-enough .ensures) ∙ c .if1 .taken) in
@@ -46,7 +48,7 @@ returns c =
 wider-requires : tie.Need-wider-requires Inv-loop μ-loop
 wider-requires c κs =
     let l = c .before .before .before .before .before .before .before .before .before .before .before .before .loop in
-    let s = c .before .before .before .before .before .before .before .before .before .before .before .before .before .before .before .before in
+    let s = c .before .before .before .before .before .before .before .before .before .before .before .before .before .before .before .before .before in
     (s .pre .hashed .linked .ready .few, omega (arith, s .pre .room, l .inv .1, c .before .before .before .before .before .before .before .before .look-within .kept .1 .1 .1 .1 .1 .1 .1 .0))
 
 add-tries : tie.Need-add-tries Inv-loop μ-loop
@@ -65,8 +67,12 @@ loop-again c =
       kept-then (l .inv .3) (q .ensures .kept),
     )
 
-look-within-requires-2 : tie.Need-look-within-requires-2 Inv-loop μ-loop
-look-within-requires-2 c κs = let l = c .before .before .before .loop in prepared-kept (c .before .before .before .before .before .before .before .pre) (l .inv .0) (l .inv .1) (l .inv .3)
+look-everywhere-requires : tie.Need-look-everywhere-requires Inv-loop μ-loop
+look-everywhere-requires c κs =
+    let l = c .before .before .before .loop in
+    let s = c .before .before .before .before .before .before .before .before in
+    let r = s .pre .hashed .linked .ready in
+    (s .pre .inside, r .few, r .points-long, omega (arith, r .work-long, l .inv .0), omega (arith, s .pre .room, l .inv .1), r .numbers)
 
 same-length-3 : tie.Need-same-length-3 Inv-loop μ-loop
 same-length-3 c = search needs
@@ -76,9 +82,9 @@ same-length-4 c = search needs
 
 returns-2 : tie.Need-returns-2 Inv-loop μ-loop
 returns-2 c =
-    let l = c .before .before .before .before .before .before .before .before .loop in
-    let q = c .before .before .before .before .look-within2 in
-    record { few = q .ensures .few; decided = q .ensures .everywhere infinite; kept = kept-then (l .inv .3) (q .ensures .kept) }
+    let l = c .before .before .before .before .before .before .loop in
+    let q = c .before .before .look-everywhere in
+    record { few = q .ensures .1; decided = q .ensures .0; kept = kept-then (l .inv .3) (record { front = q .ensures .2; before = refl; after = refl }) }
 
 pub find-squares-spec : {M : Type 1} → statement M
 find-squares-spec =
@@ -86,6 +92,7 @@ find-squares-spec =
     (tie.spec
     Inv-loop
     μ-loop
+    first-try-requires
     loop-holds
     look-within-requires
     is-enough-requires
@@ -96,7 +103,7 @@ find-squares-spec =
     add-tries
     loop-less
     loop-again
-    look-within-requires-2
+    look-everywhere-requires
     same-length-3
     same-length-4
     returns-2)

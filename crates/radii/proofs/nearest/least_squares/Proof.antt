@@ -7,20 +7,21 @@ use borrow.Author.Needs.{needs}
 use Rattle.sorting.specs.Sorted.{insertAll}
 use Rattle.spatial_hash.proofs.Nearby.{listed-point}
 use Rattle.radii.specs.Squares.{isNear, squaresTo, leastSquares}
-use Rattle.radii.proofs.Looking.{look-step, look-end}
+use Rattle.radii.proofs.Looking.{with-ordered, look-step, look-end}
+use Rattle.radii.proofs.Rising.{Ordered, rising-settled}
 use Rattle.radii.proofs.nearest.least_squares.Statement.{statement}
 use Rattle.radii.proofs.nearest.least_squares.Tie as tie
 
 abbrev Inv-loop : tie.InvT-loop
 Inv-loop points n around i w found f₀ kept₀ k₀ f kept k =
-    (length f ≡ length f₀) × (k ≤ found) × (kept ≤ 10) × (leastSquares (isNear around w n) points i (take found (drop (4 * n) w)) ≡ take 10 (insertAll (take kept (drop n f)) (squaresTo (isNear around w n) points i (drop k (take found (drop (4 * n) w)))))) × (take n f ≡ take n f₀)
+    (length f ≡ length f₀) × (k ≤ found) × (kept ≤ 10) × (leastSquares (isNear around w n) points i (take found (drop (4 * n) w)) ≡ take 10 (insertAll (take kept (drop n f)) (squaresTo (isNear around w n) points i (drop k (take found (drop (4 * n) w)))))) × (take n f ≡ take n f₀) × Ordered (take kept (drop n f))
 
 abbrev μ-loop : tie.MeasureT-loop
 μ-loop points n around i w found f₀ kept₀ k₀ f kept k = found - k
 
 loop-holds : tie.Need-loop-holds Inv-loop μ-loop
 unfolding leastSquares
-loop-holds c = (refl, search needs, search needs, refl, refl)
+loop-holds c = (refl, search needs, search needs, refl, refl, (tt, tt))
 
 mul-look-at : tie.Need-mul-look-at Inv-loop μ-loop
 mul-look-at c = search needs
@@ -51,6 +52,7 @@ look-at-requires c κs =
       omega (arith, s .pre .4),
       omega (arith, l .inv .0, s .pre .5),
       l .inv .2,
+      rising-settled (take (l .kept) (drop (s .args .n) (l .f))) _ (l .inv .5 .0),
     )
 
 add-k : tie.Need-add-k Inv-loop μ-loop
@@ -70,6 +72,8 @@ loop-again c =
       l .inv .3
           ∙ look-step (isNear (s .args .around) (s .args .w .now) (s .args .n)) (s .args .points .now) (s .args .i) (s .args .w .now) (4 * s .args .n) (s .args .found) (omega (arith, s .pre .2, s .pre .4)) (l .k) (take (l .kept) (drop (s .args .n) (l .f))) (take (e .result) (drop (s .args .n) (e .last .1 .1 .1 .1 .1 .1 .0))) (c .before .before .before .before .before .loop-test .taken) (e .ensures .0),
       e .ensures .2 ∙ l .inv .4,
+      with-ordered (isNear (s .args .around) (s .args .w .now) (s .args .n)) (s .args .points .now) (s .args .i) _ (s .args .n) (take (l .kept) (drop (s .args .n) (l .f))) (take (e .result) (drop (s .args .n) (e .last .1 .1 .1 .1 .1 .1 .0))) (s .pre .0)
+          (listed-point (s .args .w .now) (4 * s .args .n) (s .args .n) (s .args .found) (l .k) (omega (arith, s .pre .2, s .pre .4)) (c .before .before .before .before .before .loop-test .taken) (s .pre .6)) (s .pre .7) (e .ensures .0) (l .inv .5),
     )
 
 same-length : tie.Need-same-length Inv-loop μ-loop

@@ -34,6 +34,7 @@ least-squares-requires c κs =
       omega (arith, r .work-long, g .kept .1 .0),
       s .pre .room,
       g .ensures .gathers .below,
+      r .numbers,
     )
 
 same-length : tie.Need-same-length

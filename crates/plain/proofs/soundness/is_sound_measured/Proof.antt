@@ -1,9 +1,9 @@
--- `plain::is_sound` meets its contract. Assumes nothing.
+-- `plain::soundness::is_sound_measured` meets its contract. Assumes nothing.
 use mathlib.Core.Path.{sym}
 use Rattle.plain.specs.Plain.{sound}
 use borrow.Author.Needs.{needs}
-use Rattle.plain.proofs.is_sound.Statement.{statement}
-use Rattle.plain.proofs.is_sound.Tie as tie
+use Rattle.plain.proofs.soundness.is_sound_measured.Statement.{statement}
+use Rattle.plain.proofs.soundness.is_sound_measured.Tie as tie
 
 normal-length-requires : tie.Need-normal-length-requires
 normal-length-requires c κs = search needs
@@ -19,6 +19,6 @@ returns-2 : tie.Need-returns-2
 unfolding sound
 returns-2 c = rw (sym (c .before .normal-length .ensures), c .if1 .left)
 
-pub is-sound-spec : {M : Type 1} → statement M
-is-sound-spec =
+pub is-sound-measured-spec : {M : Type 1} → statement M
+is-sound-measured-spec =
     tie.close (tie.spec normal-length-requires compute-circumradius-requires returns returns-2)

@@ -1,7 +1,7 @@
--- `plain::normal_length` meets its contract. Assumes nothing.
+-- `plain::soundness::normal_length` meets its contract. Assumes nothing.
 use borrow.Author.Needs.{needs}
-use Rattle.plain.proofs.normal_length.Statement.{statement}
-use Rattle.plain.proofs.normal_length.Tie as tie
+use Rattle.plain.proofs.soundness.normal_length.Statement.{statement}
+use Rattle.plain.proofs.soundness.normal_length.Tie as tie
 
 difference-requires : tie.Need-difference-requires
 difference-requires c κs = search needs
