@@ -1,17 +1,27 @@
 -- A score not below `top`, by the tests that it takes. Assumes nothing.
 use Prim.Native.Nat.{ℕ}
-use mathlib.Core.Path.{_≡_, refl, sym, ap, _∙_}
+use mathlib.Core.Path.{_≡_, refl, sym, ap, _∙_, subst}
 use mathlib.Core.Bool.{Bool, true, false, cond, _&&_}
 use mathlib.Core.List.{List}
 use mathlib.Core.Option.{Option, none, some}
 use lib.Dec.{T, not-T}
 use lib.Ieee.{Float, lt, le}
 use lib.Ieee.Bits.{is-true, is-false}
-use Rattle.numbers.proofs.OrderLaws.{le-left, le-refl, lt-le, lt-le-trans}
+use Rattle.numbers.proofs.OrderLaws.{le-left, le-refl, lt-le, lt-le-trans, le-not-lt}
+use Rattle.numbers.specs.Rounded.{_⊗_}
+use Rattle.numbers.specs.Root.{root}
+use Rattle.vector.specs.Vector.{squared, distance, magnitude}
+use Rattle.vector.specs.declared.Point3f.{Point3f}
+use Rattle.vector.proofs.Distances.{squared-fits}
+use Rattle.area_bounds.specs.AreaBound.{crossSquared}
+use Rattle.thin.specs.Thin.{AllThin}
+use Rattle.spatial_hash.specs.Near.{Limit}
+use Rattle.triangle.specs.Quality.{half, area}
 use Rattle.triangle.specs.Bound.{shapeOf, scoreBound, qualityOf}
 use Rattle.triangle.specs.declared.Shape.{Shape}
 use Rattle.triangle.specs.declared.TriangleQuality.{TriangleQuality}
 use Rattle.triangle.proofs.Bounds.{quality-turned, score-bounded}
+use Rattle.triangle.proofs.Aspect.{aspect-low}
 use Rattle.points.specs.Points.{pointAt}
 use Rattle.patch.specs.Lay.{edge}
 use Rattle.patch.proofs.Counts.{true-not-false}
@@ -19,7 +29,9 @@ use Rattle.decisions.specs.declared.Scene.{Scene}
 use Rattle.decisions.specs.declared.Score.{Score}
 use Rattle.decisions.specs.declared.Score.the-variants.{None}
 use Rattle.decisions.specs.Decisions.{apart, qualityAt, accepts, scoreAt}
-use Rattle.decisions.specs.Found.{scoreFound, atLeast, areaAt, acceptedScore}
+use Rattle.decisions.specs.Found.{scoreFound, atLeast, acceptedScore}
+use Rattle.decisions.specs.declared.pivots.Side.{Side}
+use Rattle.decisions.specs.Over.{sideOf, scoreNear, scoreOver, Thinned}
 
 -- ---- of a triangle
 
@@ -67,21 +79,74 @@ score-bound s r top a b c area h e g =
 
 -- ---- of an edge and a point, by their distances
 
-module _ (s : Scene) (pts : List Float) (r top : Float) (a b k : ℕ) {toA : Float} (ea : toA ≡ apart pts k a) where
-  far : (le (apart pts k a) r && (le (apart pts k b) r && accepts s r (qualityAt pts a b k))) ≡ false → None ≡ scoreFound (atLeast top (scoreAt s pts r (edge a b) k))
-  unfolding atLeast scoreAt
-  far h = rw h
+-- one that is accepted counts if it is near
+module _ (s : Scene) (r top a b c area : Float) where
+  pub score-near : le c r ≡ true → le b r ≡ true → {o : Score} → o ≡ scoreFound (atLeast top (acceptedScore s r (qualityOf a b c area))) → o ≡ scoreFound (atLeast top (scoreNear s r a b c area))
+  unfolding scoreNear acceptedScore
+  score-near h g e = rw (h, g) e
 
-  pub score-far : le toA r ≡ false → None ≡ scoreFound (atLeast top (scoreAt s pts r (edge a b) k))
-  score-far h = far (rw (← ea, h))
+  pub score-far : le c r ≡ false → None ≡ scoreFound (atLeast top (scoreNear s r a b c area))
+  unfolding scoreNear atLeast
+  score-far h = rw h
 
-  module _ {toB : Float} (eb : toB ≡ apart pts k b) (ha : le toA r ≡ true) where
-    pub score-far-too : le toB r ≡ false → None ≡ scoreFound (atLeast top (scoreAt s pts r (edge a b) k))
-    score-far-too h = far (rw (← ea, ha, ← eb, h))
+  pub score-far-too : le b r ≡ false → None ≡ scoreFound (atLeast top (scoreNear s r a b c area))
+  unfolding scoreNear atLeast
+  score-far-too h = rw (h, and-false (le c r))
+    where
+      and-false : (t : Bool) → (t && false) ≡ false
+      and-false true = refl
+      and-false false = refl
 
-    pub score-near : {side area : Float} {o : Score} → le toB r ≡ true → side ≡ apart pts b a → area ≡ areaAt pts a b k
-        → o ≡ scoreFound (atLeast top (acceptedScore s r (qualityOf side toB toA area))) → o ≡ scoreFound (atLeast top (scoreAt s pts r (edge a b) k))
-    score-near hb es er eo = rw (es, eb, ea, er) at eo ∙ ap (λ (x : Option Float). scoreFound (atLeast top x)) (near (rw (← ea, ha)) (rw (← eb, hb)))
-      where
-        near : le (apart pts k a) r ≡ true → le (apart pts k b) r ≡ true → acceptedScore s r (qualityOf (apart pts b a) (apart pts k b) (apart pts k a) (areaAt pts a b k)) ≡ scoreAt s pts r (edge a b) k
-        near h g = unfold acceptedScore scoreAt qualityAt areaAt apart in rw (h, g, quality-turned (pointAt pts a) (pointAt pts b) (pointAt pts k))
+  -- an aspect ratio so low that no score reaches `top`
+  pub score-thin : {limit : Float} → (l : Thinned top limit) → T (le (shapeOf a b c area .«aspect_ratio») (l .aspect)) → None ≡ scoreFound (atLeast top (scoreNear s r a b c area))
+  unfolding scoreNear atLeast
+  score-thin l h = ap scoreFound (sym (go (le c r && (le b r && accepts s r (qualityOf a b c area)))))
+    where
+      x : Float
+      x = qualityOf a b c area .«quality_score»
+
+      low : le top x ≡ false
+      low = is-false (le top x) (not-T (le top x) (λ k. le-not-lt top x k (subst T (sym (aspect-low top (l .aspect) a b c area (l .aspects) h)) tt)))
+
+      go : (t : Bool) → atLeast top (cond t (some x) none) ≡ none
+      go true = rw low
+      go false = refl
+
+-- ---- of points
+
+beyond : (r far : Float) (p q : Point3f) → Limit r far → lt far (squared p q) ≡ true → le (root (squared p q)) r ≡ false
+beyond r far p q l h = is-false (le (root (squared p q)) r) (not-T (le (root (squared p q)) r) (λ k. le-not-lt (root (squared p q)) r k (l (squared p q) (squared-fits p q) (subst T (sym h) tt))))
+
+module _ (s : Scene) (r top : Float) (p q t : Point3f) where
+  abbrev over : Score
+  over = scoreFound (atLeast top (scoreOver s r p q t))
+
+  over-is : scoreNear s r (root (squared q p)) (root (squared t q)) (root (squared t p)) (root (crossSquared p q t) ⊗ half) ≡ scoreOver s r p q t
+  unfolding scoreOver distance area magnitude crossSquared
+  over-is = refl
+
+  pub over-found : {o : Score} → o ≡ scoreFound (atLeast top (scoreNear s r (root (squared q p)) (root (squared t q)) (root (squared t p)) (root (crossSquared p q t) ⊗ half))) → o ≡ over
+  over-found e = e ∙ ap (λ (x : Option Float). scoreFound (atLeast top x)) over-is
+
+  pub over-far : (far : Float) → Limit r far → lt far (squared t p) ≡ true → None ≡ over
+  over-far far l h = over-found (score-far s r top (root (squared q p)) (root (squared t q)) (root (squared t p)) (root (crossSquared p q t) ⊗ half) (beyond r far t p l h))
+
+  pub over-far-too : (far : Float) → Limit r far → lt far (squared t q) ≡ true → None ≡ over
+  over-far-too far l h = over-found (score-far-too s r top (root (squared q p)) (root (squared t q)) (root (squared t p)) (root (crossSquared p q t) ⊗ half) (beyond r far t q l h))
+
+  pub over-thin : {limit : Float} → Thinned top limit → AllThin limit (squared q p) (squared t q) (squared t p) (crossSquared p q t) → None ≡ over
+  over-thin l h = over-found (score-thin s r top (root (squared q p)) (root (squared t q)) (root (squared t p)) (root (crossSquared p q t) ⊗ half) l (h .abc .below (l .aspect) (l .thins)))
+
+-- points by their numbers
+over-points : (s : Scene) (pts : List Float) (r : Float) (a b k : ℕ) → scoreOver s r (pointAt pts a) (pointAt pts b) (pointAt pts k) ≡ scoreAt s pts r (edge a b) k
+unfolding scoreOver scoreNear scoreAt qualityAt apart
+over-points s pts r a b k = rw (quality-turned (pointAt pts a) (pointAt pts b) (pointAt pts k))
+
+pub over-at : (s : Scene) (pts : List Float) (r : Float) (a b k : ℕ) {side : Side} {t : Point3f} → side ≡ sideOf (pointAt pts a) (pointAt pts b) → t ≡ pointAt pts k → scoreOver s r (side .p) (side .q) t ≡ scoreAt s pts r (edge a b) k
+over-at s pts r a b k {side} {t} es et =
+    ap (λ (x : Side). scoreOver s r (x .p) (x .q) t) es
+    ∙ ap (scoreOver s r (pointAt pts a) (pointAt pts b)) et
+    ∙ over-points s pts r a b k
+
+pub side-own : {side : Side} (p q : Point3f) → side ≡ sideOf p q → side ≡ sideOf (side .p) (side .q)
+side-own p q e = subst (λ (x : Side). x ≡ sideOf (x .p) (x .q)) (sym e) refl

@@ -2,3 +2,4 @@
 pub mod Decisions
 pub mod Found
 pub mod Refused
+pub mod Over

@@ -1,4 +1,5 @@
 // What the floats decide of points by their numbers: which are near enough to each other, which triangles are acceptable, and how good they are.
+pub mod pivots;
 pub mod refused;
 
 use grid::SpatialGrid;
@@ -11,7 +12,7 @@ ghost use Prim.Native.Nat.{_*_, _<_, _+_};
 ghost use lib.ListN.{length};
 ghost use Rattle.triangle.specs.Bound.{qualityOf};
 ghost use Rattle.patch.specs.Lay.{edge};
-ghost use Rattle.decisions.specs.Decisions.{apart, isClose, qualityAt, accepts, completes, halfway, middle, pivotable, scoreAt};
+ghost use Rattle.decisions.specs.Decisions.{apart, isClose, qualityAt, accepts, completes, halfway, middle, pivotable};
 ghost use Rattle.decisions.specs.Found.{scoreFound, atLeast, areaAt, acceptedScore, ShapeRefused};
 
 // What the decisions go by: the number of points, the index and whether it is used, and the thresholds of the settings.
@@ -117,32 +118,6 @@ fn score_from(s: Scene, radius: f32, a: f32, b: f32, c: f32, area: f32, top: f32
         return Score::None;
     }
     Score::Of(q.quality_score)
-}
-
-// The score of the edge a, b with point k, if k is near enough to both ends, the triangle is acceptable and the score is not below `top`.
-// `side` is the edge's length.
-pub fn score_at_least(
-    s: Scene,
-    points: &[f32],
-    radius: f32,
-    a: usize,
-    b: usize,
-    k: usize,
-    side: f32,
-    top: f32,
-) -> Score
-    requires { ⌜ (3 * a + 2 < length (now points)) × (3 * b + 2 < length (now points)) × (3 * k + 2 < length (now points)) × (side ≡ apart (now points) b a) ⌝ }
-    ensures { λ r. ⌜ r ≡ scoreFound (atLeast top (scoreAt s (now (points .entry)) radius (edge a b) k)) ⌝ }
-{
-    let to_a = apart_at(points, k, a);
-    if !(to_a <= radius) {
-        return Score::None;
-    }
-    let to_b = apart_at(points, k, b);
-    if !(to_b <= radius) {
-        return Score::None;
-    }
-    score_from(s, radius, side, to_b, to_a, area_at(points, a, b, k), top)
 }
 
 // Whether the settings refuse every triangle of a shape at a radius, whatever its angles.

@@ -1,7 +1,7 @@
 -- A triangle is sound if its tests say `Narrow` (`narrow-sound`), and not if they say `Wide` (`wide-unsound`) or its cross product is too short (`thin-unsound`). Assumes nothing.
 use mathlib.Core.Path.{_≡_, refl, sym, _∙_, subst}
 use mathlib.Core.Logic.{_⊎_, inl, inr}
-use mathlib.Core.Bool.{Bool, true, false, not, cond, _&&_, true≢false}
+use mathlib.Core.Bool.{Bool, true, false, not, _&&_, true≢false}
 use Prim.Native.Nat.{zero, suc, _^_}
 use native.Mathlib.Nat.{zero-lt-suc}
 use lib.Dec.{T, not-T, lt→ltb, eqb·suc-zero}

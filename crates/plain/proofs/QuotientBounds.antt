@@ -1,13 +1,13 @@
 -- Quotients of numbers above 0: a product that is above x bounds the quotient (`quotient-most`), one that is below x does from below (`quotient-least`),
 -- and a larger divisor gives no larger quotient (`quotient-antitone`). Assumes nothing.
 use mathlib.Core.Path.{_≡_}
-use Prim.Native.Nat.{ℕ, zero, suc, _*_, _≤_, _<_}
+use Prim.Native.Nat.{zero, suc, _*_, _≤_, _<_}
 use native.Mathlib.Nat.{mul-pos, mul-comm, mul-assoc, mul-left-comm, mul-le-mul-left, le-of-lt}
 use native.Mathlib.Omega.{arith}
 use native.Mathlib.Decide.{decLe}
-use mathlib.Core.Bool.{Bool, true, false, not}
+use mathlib.Core.Bool.{true, false}
 use lib.Dec.{T, ltb→lt, eqb·suc-zero}
-use lib.Ieee.{Float, nan, inf, fin, binary32, up, down, round, div, fits, lt, le, isNan}
+use lib.Ieee.{Float, nan, inf, fin, binary32, round, div, fits, lt, le}
 use lib.Ieee.Fits.{up-pos}
 use lib.Ieee.Order.{round-mono}
 use lib.Ieee.Positive.{positive, num, den, den-pos, own-value, le→cross, mul-at}

@@ -38,9 +38,9 @@ fn limits_of(radius: f32) -> Limits
         reach: reach,
         square: spatial_hash::square_limit(reach),
         widest: widest,
-        beyond: widest * 1.0001,
-        low: 0.4999 / widest,
-        high: 0.5001 / widest,
+        beyond: widest * 1.00001,
+        low: 0.49999 / widest,
+        high: 0.50001 / widest,
     }
 }
 

@@ -105,11 +105,12 @@ fn is_sound_closer(
     requires { ⌜ Limited radius limits × (a ≡ distance p1 p2) × (c ≡ distance p1 p3) × (edge ≡ squared p3 p2) × (s ≡ crossSquared p1 p2 p3) × T (le least s) × T (le s largest) ⌝ }
     ensures { λ r. ⌜ r ≡ sound p1 p2 p3 radius ⌝ }
 {
-    let g = (b + edge / b) * 0.5;
+    let h = (b + edge / b) * 0.5;
+    let g = (h + edge / h) * 0.5;
     if is_narrow(a, g * 1.000001, c, edge, s, limits) {
         return true;
     }
-    if is_wide(a, g * 0.998, c, edge, s, limits) {
+    if is_wide(a, g * 0.999997, c, edge, s, limits) {
         return false;
     }
     is_sound_measured(p1, p2, p3, radius)

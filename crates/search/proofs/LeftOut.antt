@@ -113,24 +113,12 @@ module _ (s : Scene) (pts : List Float) (r : Float) (used : List ℕ) where
     unfolding scoreAt
     score-far h = rw (too-far a h)
 
-    score-far-too : lt r (apart pts k b) ≡ true → scoreAt s pts r (edge a b) k ≡ none
-    unfolding scoreAt
-    score-far-too h = rw (too-far b h, and-false (le (apart pts k a) r))
-
     unmet : scoreAt s pts r (edge a b) k ≡ none → scoreOf (floatsOf s pts) r used (edge a b) k ≡ none
     unfolding floatsOf
     unmet h = ⊎-elim
         (λ (t : (not (eqb k a) && (not (eqb k b) && unused used k)) ≡ true). sym (met (floatsOf s pts) r used (edge a b) k t) ∙ h)
         (λ (t : (not (eqb k a) && (not (eqb k b) && unused used k)) ≡ false). not-met (floatsOf s pts) r used (edge a b) k t)
         (either (not (eqb k a) && (not (eqb k b) && unused used k)))
-
-    pub score-beyond : (t : Float) → Limit r t → lt t (squared (pointAt pts k) (pointAt pts a)) ≡ true → scoreOf (floatsOf s pts) r used (edge a b) k ≡ none
-    unfolding apart
-    score-beyond t l h = unmet (score-far (beyond pts r k a t l h))
-
-    pub score-beyond-too : (t : Float) → Limit r t → lt t (squared (pointAt pts k) (pointAt pts b)) ≡ true → scoreOf (floatsOf s pts) r used (edge a b) k ≡ none
-    unfolding apart
-    score-beyond-too t l h = unmet (score-far-too (beyond pts r k b t l h))
 
     pub score-out : (unused used k ≡ false) ⊎ (lt r (apart pts k a) ≡ true) → scoreOf (floatsOf s pts) r used (edge a b) k ≡ none
     score-out = ⊎-elim

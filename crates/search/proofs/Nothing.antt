@@ -1,4 +1,4 @@
--- Where nothing is found: around a point whose near points lie in too small a spread (`small-nothing`) or make only triangles that limits refuse (`all-refused-nothing`), with a second point that is too near (`near-nothing`),
+-- Where nothing is found: around a point whose near points lie in too small a spread (`small-nothing`) or no two of which make a seed with it (`all-fruitless-nothing`), with a second point that is too near (`near-nothing`),
 -- and at a radius that is hopeless (`hopeless-nothing`). Assumes nothing.
 use Prim.Native.Nat.{ℕ, zero, suc, _+_, _≤_, _<_}
 use mathlib.Core.Path.{_≡_, refl, sym, ap, _∙_, subst}
@@ -23,15 +23,15 @@ use Rattle.patch.specs.Count.{bit, count}
 use Rattle.patch.specs.Search.{Floats, unused, isSecond, isThird, thirdOf, secondOf, firstOf, numbers, Below}
 use Rattle.patch.proofs.Counts.{either, not-true, true-not-false, and-both}
 use Rattle.decisions.specs.declared.Scene.{Scene}
-use Rattle.decisions.specs.Decisions.{reach, apart, isClose, accepts, qualityAt, floatsOf}
+use Rattle.decisions.specs.Decisions.{reach, apart, isClose, accepts, qualityAt, completes, floatsOf}
 use Rattle.decisions.specs.declared.refused.Limits.{Limits}
 use Rattle.decisions.specs.Refused.{Refused, Hopeless}
 use Rattle.decisions.proofs.Within.{within}
 use Rattle.decisions.proofs.Refusals.{refused-turned, refused-accepts, hopeless-accepts}
 use Rattle.search.specs.declared.nearby.Filter.{Filter}
-use Rattle.search.specs.Ready.{Listed, usedIn, listed, withSecond, withFirst}
+use Rattle.search.specs.Ready.{usedIn, listed, withSecond, withFirst}
 use Rattle.search.specs.Narrow.{insertAll, inReach, cellAt, passes, Filters, Collected, Narrowed}
-use Rattle.search.specs.Spread.{spread, tooSmall, AllRefused, Spans, Judged, Listing}
+use Rattle.search.specs.Spread.{spread, tooSmall, Fruitless, AllFruitless, Spans, Judged, Listing}
 use Rattle.search.proofs.Keeping.{kept-self}
 use Rattle.search.proofs.Ordered.{and-false, insert-count}
 use Rattle.search.proofs.Laws.{chosen, passed, orElse, third-miss, third-end, second-step, second-end, first-tried, first-used, first-spent, first-end}
@@ -159,13 +159,29 @@ near-nothing {s} {pts} {r} {i = i} {j = j} {ks = ks} {u = u} {v = v} used g hi h
     (spread-accepts s pts r i j k (finite-point (g .numbers i hi)) (finite-point (g .numbers j hj)) (finite-point (g .numbers k (x .below k (x .among k c)))) (j ∷ []) (x .all) one (x .among k c)
     (ap (λ (z : Point3f). tooSmall s z (spread pts (pointAt pts i) (x .all))) (sym e) ∙ ap (tooSmall s u) (sym (x .is)) ∙ h)))
 
--- ---- points all triangles of which are refused
+-- ---- points no two of which make a seed
+
+-- the tests of a third point are those of `completes`, and others
+completes-third : (s : Scene) (pts : List Float) (r : Float) (used : List ℕ) (i j k : ℕ) → completes s pts r i j k ≡ false → isThird (floatsOf s pts) r used i j k ≡ false
+unfolding isThird floatsOf completes
+completes-third s pts r used i j k h = rw h (nothing (not (eqb i k)) (not (eqb j k)) (unused used k))
+  where
+    nothing : (a b c : Bool) → (a && (b && (c && false))) ≡ false
+    nothing a b c = rw (and-false c, and-false b, and-false a)
+
+refused-completes : {s : Scene} {pts : List Float} {r : Float} {l : Limits} {i j k : ℕ} → Judged s pts r l → i < s .n → j < s .n → k < s .n → Refused l (pointAt pts i) (pointAt pts j) (pointAt pts k) → isClose pts r i j ≡ true → completes s pts r i j k ≡ false
+unfolding completes
+refused-completes {s} {pts} {r} {l} {i} {j} {k} g hi hj hk h close = not-true (λ done.
+    let p = and-both {p = isClose pts r i k} done in
+    let q = and-both {p = isClose pts r j k} (p .1) in
+    true-not-false (q .1) (refused-accepts s pts r i j k (finite-point (g .numbers i hi)) (finite-point (g .numbers j hj)) (finite-point (g .numbers k hk)) close (p .0) (q .0) (g .limits) h))
 
 pub limits-third : {s : Scene} {pts : List Float} {r : Float} {l : Limits} {i j k : ℕ} (used : List ℕ) → Judged s pts r l → i < s .n → j < s .n → k < s .n → isClose pts r i j ≡ true → Refused l (pointAt pts i) (pointAt pts j) (pointAt pts k)
     → isThird (floatsOf s pts) r used i j k ≡ false
-limits-third {s} {pts} {r} {l} {i} {j} {k} used g hi hj hk close h = not-true (λ third.
-    let p = third-parts s pts r used i j k third in
-    true-not-false (p .1 .1) (refused-accepts s pts r i j k (finite-point (g .numbers i hi)) (finite-point (g .numbers j hj)) (finite-point (g .numbers k hk)) close (p .0) (p .1 .0) (g .limits) h))
+limits-third {s} {pts} {r} {i = i} {j = j} {k = k} used g hi hj hk close h = completes-third s pts r used i j k (refused-completes g hi hj hk h close)
+
+pub refused-fruitless : {s : Scene} {pts : List Float} {r : Float} {l : Limits} {i j k : ℕ} → Judged s pts r l → i < s .n → j < s .n → k < s .n → Refused l (pointAt pts i) (pointAt pts j) (pointAt pts k) → Fruitless s pts r i j k
+refused-fruitless g hi hj hk h = record { forward = refused-completes g hi hj hk h; backward = refused-completes g hi hk hj (refused-turned h) }
 
 -- what is in a list stands somewhere
 place-of : (k : ℕ) (xs : List ℕ) → 1 ≤ count (eqb k) xs → (m : ℕ) × ((m < length xs) × (getD xs m 0 ≡ k))
@@ -182,15 +198,15 @@ same-third : (s : Scene) (pts : List Float) (r : Float) (used : List ℕ) (i j k
 unfolding isThird
 same-third s pts r used i j k e = rw (eq-eqb j k e) (and-false (not (eqb i k)))
 
-pub all-refused-nothing : {s : Scene} {pts : List Float} {r : Float} {l : Limits} {w : List ℕ} {c i : ℕ} (used : List ℕ) → Judged s pts r l → Listed s w c → i < s .n → AllRefused pts l w (neighborsAt (s .n)) c i
+pub all-fruitless-nothing : {s : Scene} {pts : List Float} {r : Float} {c i : ℕ} (used w : List ℕ) → AllFruitless s pts r w (neighborsAt (s .n)) c i
     → secondOf (floatsOf s pts) r used i (listed s w c) (listed s w c) ≡ none
-all-refused-nothing {s} {pts} {r} {l} {w} {c} {i} used g b hi h = second-nothing (floatsOf s pts) r used i (listed s w c) (listed s w c) (λ j hj second k hk. two j k second (listed-place s w c j hj) (listed-place s w c k hk))
+all-fruitless-nothing {s} {pts} {r} {c} {i} used w h = second-nothing (floatsOf s pts) r used i (listed s w c) (listed s w c) (λ j hj second k hk. two j k second (listed-place s w c j hj) (listed-place s w c k hk))
   where
     pair : (a d : ℕ) → a < c → d < c → isSecond (floatsOf s pts) r used i (getD w (neighborsAt (s .n) + a) 0) ≡ true → isThird (floatsOf s pts) r used i (getD w (neighborsAt (s .n) + a) 0) (getD w (neighborsAt (s .n) + d) 0) ≡ false
     pair a d ha hd second =
-        let third = limits-third used g hi (b .below a ha) (b .below d hd) (close-second s pts r used i (getD w (neighborsAt (s .n) + a) 0) second) in
-        ⊎-elim (λ (t : ltb a d ≡ true). third (h a ha d (let z = ltb-true a d t in omega arith) hd))
-        (λ (t : ltb a d ≡ false). ⊎-elim (λ (u : ltb d a ≡ true). third (refused-turned (h d hd a (let z = ltb-true d a u in omega arith) ha)))
+        let close = close-second s pts r used i (getD w (neighborsAt (s .n) + a) 0) second in
+        ⊎-elim (λ (t : ltb a d ≡ true). completes-third s pts r used i (getD w (neighborsAt (s .n) + a) 0) (getD w (neighborsAt (s .n) + d) 0) (h a ha d (let z = ltb-true a d t in omega arith) hd .forward close))
+        (λ (t : ltb a d ≡ false). ⊎-elim (λ (u : ltb d a ≡ true). completes-third s pts r used i (getD w (neighborsAt (s .n) + a) 0) (getD w (neighborsAt (s .n) + d) 0) (h d hd a (let z = ltb-true d a u in omega arith) ha .backward close))
         (λ (u : ltb d a ≡ false).
         let z : a ≡ d = omega (arith, ltb-false a d t, ltb-false d a u) in
         same-third s pts r used i (getD w (neighborsAt (s .n) + a) 0) (getD w (neighborsAt (s .n) + d) 0) (ap (λ (m : ℕ). getD w (neighborsAt (s .n) + m) 0) z))

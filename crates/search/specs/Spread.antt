@@ -1,7 +1,7 @@
 -- How far points spread around a point, and what the search for a seed knows of areas and limits. Definitions only.
 use Prim.Native.Nat.{ℕ, _+_, _≤_, _<_}
 use mathlib.Core.Path.{_≡_}
-use mathlib.Core.Bool.{Bool}
+use mathlib.Core.Bool.{Bool, true, false}
 use mathlib.Core.List.{List, [], _∷_}
 use lib.Dec.{eqb}
 use lib.ListN.{getD}
@@ -15,9 +15,9 @@ use Rattle.spatial_hash.specs.Near.{Finite}
 use Rattle.patch.specs.Count.{count}
 use Rattle.patch.specs.Search.{Below}
 use Rattle.decisions.specs.declared.Scene.{Scene}
-use Rattle.decisions.specs.Decisions.{reach}
+use Rattle.decisions.specs.Decisions.{reach, isClose, completes}
 use Rattle.decisions.specs.declared.refused.Limits.{Limits}
-use Rattle.decisions.specs.Refused.{Limiting, Refused}
+use Rattle.decisions.specs.Refused.{Limiting}
 use Rattle.search.specs.declared.nearby.Filter.{Filter}
 use Rattle.search.specs.Narrow.{Filters, Collected}
 
@@ -34,13 +34,18 @@ spread pts p ks = spreadFrom pts p (point (f32 0) (f32 0) (f32 0)) ks
 unfoldable pub tooSmall : Scene → Point3f → Point3f → Bool
 tooSmall s v w = lt (areaBound v w) (s .«min_triangle_area»)
 
--- limits refuse the triangles of points i, j and each of those that stand in w from `at` on, the first `from` left out
-abbrev pub RefusedAfter : List Float → Limits → List ℕ → ℕ → ℕ → ℕ → ℕ → ℕ → Type 0
-RefusedAfter pts l w at count i j from = (m : ℕ) → from ≤ m → m < count → Refused l (pointAt pts i) (pointAt pts j) (pointAt pts (getD w (at + m) 0))
+-- points j and k make no seed with point i, in either order
+pub record Fruitless (s : Scene) (pts : List Float) (r : Float) (i j k : ℕ) : Type 0 where
+  pub forward : isClose pts r i j ≡ true → completes s pts r i j k ≡ false
+  pub backward : isClose pts r i k ≡ true → completes s pts r i k j ≡ false
 
--- they refuse those of point i and two that stand there
-abbrev pub AllRefused : List Float → Limits → List ℕ → ℕ → ℕ → ℕ → Type 0
-AllRefused pts l w at count i = (m : ℕ) → m < count → RefusedAfter pts l w at count i (getD w (at + m) 0) (m + 1)
+-- point j makes none with point i and those that stand in w from `at` on, the first `from` left out
+abbrev pub FruitlessAfter : Scene → List Float → Float → List ℕ → ℕ → ℕ → ℕ → ℕ → ℕ → Type 0
+FruitlessAfter s pts r w at count i j from = (m : ℕ) → from ≤ m → m < count → Fruitless s pts r i j (getD w (at + m) 0)
+
+-- no two that stand there make one with point i
+abbrev pub AllFruitless : Scene → List Float → Float → List ℕ → ℕ → ℕ → ℕ → Type 0
+AllFruitless s pts r w at count i = (m : ℕ) → m < count → FruitlessAfter s pts r w at count i (getD w (at + m) 0) (m + 1)
 
 -- v is the spread, around point i, of points of the cloud that ks are among
 pub record Spans (s : Scene) (pts : List Float) (i : ℕ) (ks : List ℕ) (v : Point3f) : Type 0 where

@@ -1,4 +1,4 @@
-// Where no seed is found: among points in too small a spread, and among points all triangles of which are refused.
+// Where no seed is found: among points in too small a spread, and among points no two of which make one.
 use decisions::Scene;
 use decisions::refused::Limits;
 use vector::Point3f;
@@ -12,7 +12,7 @@ ghost use Rattle.area_bounds.specs.AreaBound.{widen};
 ghost use Rattle.regions.specs.Regions.{neighborsAt};
 ghost use Rattle.points.specs.Points.{pointAt};
 ghost use Rattle.search.specs.Ready.{Held, Listed, listed};
-ghost use Rattle.search.specs.Spread.{spread, tooSmall, RefusedAfter, AllRefused};
+ghost use Rattle.search.specs.Spread.{spread, tooSmall, Judged, Fruitless, FruitlessAfter, AllFruitless};
 
 // The largest of what v says and how far point k is from the center, on each axis.
 fn widened(points: &[f32], center: Point3f, v: Point3f, k: usize) -> Point3f
@@ -56,28 +56,51 @@ pub fn is_too_near(s: Scene, points: &[f32], i: usize, j: usize, wide: Point3f) 
     is_too_small(s, own, wide)
 }
 
-// Whether limits refuse the triangles of i, j and each of the listed points from a place on.
-fn are_refused_beside(
+// Whether points j and k make no seed with point i, in either order. Limits are asked first, since they need no root.
+fn is_fruitless(
+    s: Scene,
+    points: &[f32],
+    radius: f32,
+    limits: Limits,
+    i: usize,
+    j: usize,
+    k: usize,
+) -> bool
+    requires { ⌜ (length (now points) ≡ 3 * s .n) × (i < s .n) × (j < s .n) × (k < s .n) × Judged s (now points) radius limits ⌝ }
+    ensures { λ r. ⌜ (r ≡ true → Fruitless s (now (points .entry)) radius i j k) ⌝ }
+{
+    let first = points::point_at(points, i);
+    let second = points::point_at(points, j);
+    let third = points::point_at(points, k);
+    if decisions::refused::is_refused(limits, first, second, third) {
+        return true;
+    }
+    if decisions::is_completed(s, points, radius, i, j, k) {
+        return false;
+    }
+    !decisions::is_completed(s, points, radius, i, k, j)
+}
+
+// Whether point j makes no seed with point i and any of the listed points from a place on.
+fn are_fruitless_beside(
     s: Scene,
     points: &[f32],
     w: &[u32],
     count: usize,
+    radius: f32,
     limits: Limits,
     i: usize,
     j: usize,
     from: usize,
 ) -> bool
-    requires { ⌜ Held s (now points) (now w) × Listed s (now w) count × (i < s .n) × (j < s .n) ⌝ }
-    ensures { λ r. ⌜ (r ≡ true → RefusedAfter (now (points .entry)) limits (now (w .entry)) (neighborsAt (s .n)) count i j from) ⌝ }
+    requires { ⌜ Held s (now points) (now w) × Listed s (now w) count × (i < s .n) × (j < s .n) × Judged s (now points) radius limits ⌝ }
+    ensures { λ r. ⌜ (r ≡ true → FruitlessAfter s (now (points .entry)) radius (now (w .entry)) (neighborsAt (s .n)) count i j from) ⌝ }
 {
     let at = 4 * s.n;
-    let first = points::point_at(points, i);
-    let second = points::point_at(points, j);
     let mut m = from;
     while m < count {
         let k = w[at + m] as usize;
-        let third = points::point_at(points, k);
-        if !decisions::refused::is_refused(limits, first, second, third) {
+        if !is_fruitless(s, points, radius, limits, i, j, k) {
             return false;
         }
         m += 1;
@@ -85,24 +108,25 @@ fn are_refused_beside(
     true
 }
 
-// Whether limits refuse all triangles of i and two of the listed points.
-pub fn are_all_refused(
+// Whether no two of the listed points make a seed with point i.
+pub fn are_all_fruitless(
     s: Scene,
     points: &[f32],
     w: &[u32],
     count: usize,
+    radius: f32,
     limits: Limits,
     i: usize,
 ) -> bool
-    requires { ⌜ Held s (now points) (now w) × Listed s (now w) count × (i < s .n) ⌝ }
-    ensures { λ r. ⌜ (r ≡ true → AllRefused (now (points .entry)) limits (now (w .entry)) (neighborsAt (s .n)) count i) ⌝ }
+    requires { ⌜ Held s (now points) (now w) × Listed s (now w) count × (i < s .n) × Judged s (now points) radius limits ⌝ }
+    ensures { λ r. ⌜ (r ≡ true → AllFruitless s (now (points .entry)) radius (now (w .entry)) (neighborsAt (s .n)) count i) ⌝ }
 {
     let at = 4 * s.n;
     let mut m: usize = 0;
     while m < count {
         let j = w[at + m] as usize;
         m += 1;
-        if !are_refused_beside(s, points, w, count, limits, i, j, m) {
+        if !are_fruitless_beside(s, points, w, count, radius, limits, i, j, m) {
             return false;
         }
     }

@@ -3,6 +3,7 @@ use crate::Pivot;
 use crate::nearby::Filter;
 use decisions::Scene;
 use decisions::Score;
+use decisions::pivots::Side;
 use spatial_hash::Hash;
 ghost use mathlib.Core.Path.{_≡_};
 ghost use mathlib.Core.Bool.{not, _&&_, _||_};
@@ -11,29 +12,20 @@ ghost use Prim.Native.Nat.{_*_, _<_, _≤_, _+_};
 ghost use lib.ListN.{length};
 ghost use lib.Ieee.{lt};
 ghost use Rattle.numbers.specs.Rounded.{f32};
-ghost use Rattle.vector.specs.Vector.{squared};
 ghost use Rattle.points.specs.Points.{pointAt};
 ghost use Rattle.grid.specs.Grid.{inRange};
 ghost use Rattle.grid.specs.Index.{cellIn, Cells, Indexed, earlier};
 ghost use Rattle.spatial_hash.specs.Near.{Limit, Hashed};
 ghost use Rattle.patch.specs.Lay.{edge};
 ghost use Rattle.patch.specs.Search.{scoreOf, bestOf};
-ghost use Rattle.decisions.specs.Decisions.{apart, floatsOf};
+ghost use Rattle.decisions.specs.Decisions.{floatsOf};
 ghost use Rattle.decisions.specs.Found.{scoreFound, atLeast};
+ghost use Rattle.decisions.specs.Over.{sideOf, Thinned};
 ghost use Rattle.search.specs.Ready.{Held, Listed, Kept, usedIn, listed, pivotFound, pointOf, Met};
 ghost use Rattle.search.specs.Narrow.{cellAt};
 ghost use Rattle.search.specs.Best.{isBefore, ahead, leader, scoreIn};
 
-// Whether the square of the distance of points k and i is above a limit. It needs no root.
-fn is_far(points: &[f32], limit: f32, k: usize, i: usize) -> bool
-    requires { ⌜ (3 * k + 2 < length (now points)) × (3 * i + 2 < length (now points)) ⌝ }
-    ensures { λ r. ⌜ r ≡ lt limit (squared (pointAt (now (points .entry)) k) (pointAt (now (points .entry)) i)) ⌝ }
-{
-    vector::distance_squared(points::point_at(points, k), points::point_at(points, i)) > limit
-}
-
-// The score of point k with the edge a, b, of length `side`, if it may be met and the score is not below `top`.
-// Most points that are looked at are used or too far away, so that is asked first.
+// The score of point k over the edge a, b, if it may be met and the score is not below `top`.
 fn score_of(
     s: Scene,
     points: &[f32],
@@ -43,28 +35,24 @@ fn score_of(
     a: usize,
     b: usize,
     k: usize,
-    side: f32,
+    side: Side,
     top: f32,
+    thin: f32,
 ) -> Score
-    requires { ⌜ Held s (now points) (now w) × (a < s .n) × (b < s .n) × (k < s .n) × (side ≡ apart (now points) b a) × Limit radius limit ⌝ }
+    requires { ⌜ Held s (now points) (now w) × (k < s .n) × (side ≡ sideOf (pointAt (now points) a) (pointAt (now points) b)) × Limit radius limit × Thinned top thin ⌝ }
     ensures { λ r. ⌜ r ≡ scoreFound (atLeast top (scoreOf (floatsOf s (now (points .entry))) radius (usedIn s (now (w .entry))) (edge a b) k)) ⌝ }
 {
-    if !crate::is_unused(s, w, k) {
-        return Score::None;
-    }
-    if is_far(points, limit, k, a) {
-        return Score::None;
-    }
-    if is_far(points, limit, k, b) {
-        return Score::None;
-    }
     if k == a {
         return Score::None;
     }
     if k == b {
         return Score::None;
     }
-    decisions::score_at_least(s, points, radius, a, b, k, side, top)
+    if !crate::is_unused(s, w, k) {
+        return Score::None;
+    }
+    let t = points::point_at(points, k);
+    decisions::pivots::score_over(s, radius, limit, side, t, top, thin)
 }
 
 // Whether point k comes before the best one so far, if there is one.
@@ -103,14 +91,15 @@ fn score_ahead(
     a: usize,
     b: usize,
     k: usize,
-    side: f32,
+    side: Side,
     top: f32,
+    thin: f32,
     best: Pivot,
 ) -> Score
-    requires { ⌜ Held s (now points) (now w) × Cells (s .grid) (now points) (s .n) (now w) × (a < s .n) × (b < s .n) × (k < s .n) × (side ≡ apart (now points) b a) × Limit radius (f .limit) × Met s best ⌝ }
+    requires { ⌜ Held s (now points) (now w) × Cells (s .grid) (now points) (s .n) (now w) × (k < s .n) × (side ≡ sideOf (pointAt (now points) a) (pointAt (now points) b)) × Limit radius (f .limit) × Thinned top thin × Met s best ⌝ }
     ensures { λ r. ⌜ r ≡ scoreFound (ahead (earlier (s .indexed) (cellAt (s .grid) (now (points .entry)))) top (pointOf best) k (scoreIn s (now (points .entry)) radius (usedIn s (now (w .entry))) f (edge a b) k)) ⌝ }
 {
-    if let Score::Of(x) = score_of(s, points, w, radius, f.limit, a, b, k, side, top) {
+    if let Score::Of(x) = score_of(s, points, w, radius, f.limit, a, b, k, side, top, thin) {
         if is_ahead(s, w, f, k, x, top, best) {
             return Score::Of(x);
         }
@@ -133,15 +122,18 @@ fn best_of(
     ensures { λ r. ⌜ r ≡ pivotFound (leader (earlier (s .indexed) (cellAt (s .grid) (now (points .entry)))) (scoreIn s (now (points .entry)) radius (usedIn s (now (w .entry))) f (edge a b)) (listed s (now (w .entry)) count) (f32 0) none) ⌝ }
 {
     let at = 4 * s.n;
-    let side = decisions::apart_at(points, b, a);
+    let p = points::point_at(points, a);
+    let side = decisions::pivots::side_of(p, points::point_at(points, b));
     let mut top = 0.0;
+    let mut thin = decisions::pivots::thin_at(0.0);
     let mut best = Pivot::Nowhere;
     let mut m: usize = 0;
     while m < count {
         let k = w[at + m] as usize;
         m += 1;
-        if let Score::Of(x) = score_ahead(s, points, w, radius, f, a, b, k, side, top, best) {
+        if let Score::Of(x) = score_ahead(s, points, w, radius, f, a, b, k, side, top, thin, best) {
             top = x;
+            thin = decisions::pivots::thin_at(x);
             best = Pivot::To(k);
         }
     }

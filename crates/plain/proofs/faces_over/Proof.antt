@@ -1,8 +1,8 @@
 -- `plain::faces_over` meets its contract. The loop's invariant: what is left of the faces over a leads to all of them. Assumes nothing.
-use Prim.Native.Nat.{_+_, _-_, _≤_, _<_}
+use Prim.Native.Nat.{_+_, _-_, _≤_}
 use lib.ListN.{length, take, drop, getD}
 use lib.Ieee.{nan}
-use mathlib.Core.Path.{_≡_, refl, _∙_}
+use mathlib.Core.Path.{_≡_, refl}
 use native.Mathlib.Omega.{arith}
 use Rattle.plain.specs.Plain.{facesOver}
 use Rattle.plain.proofs.Plain.{over-step, over-end}

@@ -1,4 +1,4 @@
--- `are_all_refused` meets its contract. The loop's invariant: limits refuse point i, each point before the m-th and each after that. Assumes nothing.
+-- `are_all_fruitless` meets its contract. The loop's invariant: no point before the m-th makes a seed with point i and one after it. Assumes nothing.
 use Prim.Native.Nat.{ℕ, _+_, _-_, _<_}
 use mathlib.Core.Path.{sym, subst}
 use native.Mathlib.Omega.{arith}
@@ -6,16 +6,16 @@ use lib.Dec.{T}
 use lib.ListN.{getD}
 use borrow.Author.Needs.{needs}
 use borrow.Author.Tests.{not-false}
-use Rattle.search.specs.Spread.{RefusedAfter}
+use Rattle.search.specs.Spread.{FruitlessAfter}
 use Rattle.search.proofs.Spread.{below-next}
-use Rattle.search.proofs.areas.are_all_refused.Statement.{statement}
-use Rattle.search.proofs.areas.are_all_refused.Tie as tie
+use Rattle.search.proofs.areas.are_all_fruitless.Statement.{statement}
+use Rattle.search.proofs.areas.are_all_fruitless.Tie as tie
 
 abbrev Inv-loop : tie.InvT-loop
-Inv-loop s points w count limits i at m₀ m = (x : ℕ) → x < m → RefusedAfter points limits w at count i (getD w (at + x) 0) (x + 1)
+Inv-loop s points w count radius limits i at m₀ m = (x : ℕ) → x < m → FruitlessAfter s points radius w at count i (getD w (at + x) 0) (x + 1)
 
 abbrev μ-loop : tie.MeasureT-loop
-μ-loop s points w count limits i at m₀ m = count - m
+μ-loop s points w count radius limits i at m₀ m = count - m
 
 mul-at : tie.Need-mul-at Inv-loop μ-loop
 mul-at c = search needs
@@ -41,10 +41,10 @@ cast-j c =
 add-m : tie.Need-add-m Inv-loop μ-loop
 add-m c = search needs
 
-are-refused-beside-requires : tie.Need-are-refused-beside-requires Inv-loop μ-loop
-are-refused-beside-requires c κs =
+are-fruitless-beside-requires : tie.Need-are-fruitless-beside-requires Inv-loop μ-loop
+are-fruitless-beside-requires c κs =
     let a = c .before .before .before .before .before .before in
-    (a .pre .0, a .pre .1, a .pre .2, a .pre .1 .below (c .before .before .loop .m) (c .before .loop-test .taken))
+    (a .pre .0, a .pre .1, a .pre .2, a .pre .1 .below (c .before .before .loop .m) (c .before .loop-test .taken), a .pre .3)
 
 returns : tie.Need-returns Inv-loop μ-loop
 returns c = λ h. absurd (subst T (sym h) tt)
@@ -54,14 +54,14 @@ loop-less c = search needs
 
 loop-again : tie.Need-loop-again Inv-loop μ-loop
 loop-again c =
-    let t = c .before .are-refused-beside in
+    let t = c .before .are-fruitless-beside in
     below-next (c .before .before .before .before .loop .inv) (t .ensures (not-false (t .result) (c .if1 .left)))
 
 returns-2 : tie.Need-returns-2 Inv-loop μ-loop
 returns-2 c = λ h m b. c .before .loop .inv m (omega (arith, c .loop-test .left))
 
-pub are-all-refused-spec : {M : Type 1} → statement M
-are-all-refused-spec =
+pub are-all-fruitless-spec : {M : Type 1} → statement M
+are-all-fruitless-spec =
     tie.close
     (tie.spec
     Inv-loop
@@ -73,7 +73,7 @@ are-all-refused-spec =
     shared-slice-read-j
     cast-j
     add-m
-    are-refused-beside-requires
+    are-fruitless-beside-requires
     returns
     loop-less
     loop-again
