@@ -33,15 +33,15 @@ pub fn limits_of(s: Scene, radius: f32) -> Limits
 pub fn is_refused(l: Limits, p: Point3f, q: Point3f, t: Point3f) -> bool
     ensures { λ r. ⌜ (r ≡ true → Refused l p q t) ⌝ }
 {
+    let last = vector::distance_squared(q, t);
+    if last > l.far {
+        return true;
+    }
     let cross = area_bounds::cross_squared(p, q, t);
     if cross <= l.small {
         return true;
     }
     if cross >= l.large {
-        return true;
-    }
-    let last = vector::distance_squared(q, t);
-    if last > l.far {
         return true;
     }
     let first = vector::distance_squared(p, q);
