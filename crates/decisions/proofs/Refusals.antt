@@ -6,11 +6,12 @@ use mathlib.Core.Bool.{Bool, true, false, cond}
 use mathlib.Core.List.{List}
 use lib.Dec.{T, T-not}
 use lib.Ieee.{Float, inf, lt, le}
+use lib.Ieee.Bits.{is-true}
 use lib.Ieee.Scale.{finite}
-use Rattle.numbers.specs.Rounded.{_⊗_}
+use Rattle.numbers.specs.Rounded.{f32, _⊗_}
 use Rattle.numbers.specs.Root.{root}
 use Rattle.vector.specs.Vector.{difference, magnitude, squared, distance}
-use Rattle.triangle.specs.Quality.{half, area, quality, acceptable}
+use Rattle.triangle.specs.Quality.{half, tiny, area, degenerate, quality, acceptable}
 use Rattle.triangle.specs.Bound.{shapeOf, AspectLimit}
 use Rattle.area_bounds.specs.AreaBound.{crossSquared, areaBound}
 use Rattle.vector.specs.declared.Point3f.{Point3f}
@@ -25,7 +26,7 @@ use Rattle.points.specs.Points.{pointAt}
 use Rattle.decisions.specs.declared.Scene.{Scene}
 use Rattle.decisions.specs.Decisions.{reach, apart, isClose, qualityAt, accepts}
 use Rattle.decisions.specs.declared.refused.Limits.{Limits}
-use Rattle.decisions.specs.Refused.{Limiting, Refused, small, large, far, thin, Hopeless}
+use Rattle.decisions.specs.Refused.{Least, Limiting, Refused, small, large, far, thin, Hopeless}
 
 pub refused-turned : {l : Limits} {p q t : Point3f} → Refused l p q t → Refused l p t q
 refused-turned {l} {p} {q} {t} (small h) = small (rw (cross-squared-turned p t q) h)
@@ -51,6 +52,22 @@ low-refused q r m threshold factor h = rw h (either (lt (q .area) m))
     either : (b : Bool) → cond b false false ≡ false
     either true = refl
     either false = refl
+
+-- ---- too small
+
+-- below the settings' least area
+pub least-own : (s : Scene) → Least s (s .«min_triangle_area»)
+unfolding accepts
+least-own s = record { refuses = λ p q t r h. small-refused p q t r (s .«min_triangle_area») (s .«quality_threshold») (s .«max_edge_factor») h }
+
+-- next to no area has the score 0
+flat-score : (p q t : Point3f) → T (lt (area p q t) tiny) → quality p q t .«quality_score» ≡ f32 0
+unfolding quality degenerate
+flat-score p q t h = rw (is-true (lt (area p q t) tiny) h)
+
+pub least-flat : (s : Scene) → lt (f32 0) (s .«quality_threshold») ≡ true → Least s tiny
+unfolding accepts
+least-flat s g = record { refuses = λ p q t r h. low-refused (quality p q t) r (s .«min_triangle_area») (s .«quality_threshold») (s .«max_edge_factor») (rw (flat-score p q t h) g) }
 
 -- ---- triangles of the cloud's points
 
@@ -91,7 +108,7 @@ module _ (s : Scene) (pts : List Float) (r : Float) (i j k : ℕ) where
         let p = pointAt pts i in
         let q = pointAt pts j in
         let t = pointAt pts k in
-        small-refused p q t r (s .«min_triangle_area») (s .«quality_threshold») (s .«max_edge_factor») (area-limited p q t (s .«min_triangle_area») (l .small) (g .smalls) h)
+        g .leasts .refuses p q t r (area-limited p q t (g .least) (l .small) (g .smalls) h)
     refused-accepts {l} g (large h) =
         let p = pointAt pts i in
         let q = pointAt pts j in

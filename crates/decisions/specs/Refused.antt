@@ -1,8 +1,10 @@
 -- Triangles and radii that are known to be refused before anything is measured. Definitions only.
+use mathlib.Core.Path.{_≡_}
 use mathlib.Core.Bool.{false}
 use lib.Dec.{T}
 use lib.Ieee.{Float, inf, lt, le}
 use Rattle.vector.specs.Vector.{squared}
+use Rattle.triangle.specs.Quality.{area, quality}
 use Rattle.triangle.specs.Bound.{AspectLimit}
 use Rattle.vector.specs.declared.Point3f.{Point3f}
 use Rattle.area_bounds.specs.AreaBound.{crossSquared, AreaLimit, TooLong, LargeLimit}
@@ -10,11 +12,17 @@ use Rattle.thin.specs.Thin.{ThinLimit, AllThin}
 use Rattle.spatial_hash.specs.Near.{Limit}
 use Rattle.decisions.specs.declared.Scene.{Scene}
 use Rattle.decisions.specs.declared.refused.Limits.{Limits}
-use Rattle.decisions.specs.Decisions.{reach}
+use Rattle.decisions.specs.Decisions.{reach, accepts}
+
+-- triangles with an area below m are refused at every radius
+pub record Least (s : Scene) (m : Float) : Type 0 where
+  pub refuses : (p q t : Point3f) (r : Float) → T (lt (area p q t) m) → accepts s r (quality p q t) ≡ false
 
 -- limits are those of the settings at a radius: for the least area, the edge factor, twice the radius, and an aspect ratio up to which no score reaches the threshold
 pub record Limiting (s : Scene) (r : Float) (l : Limits) : Type 0 where
-  pub smalls : AreaLimit (s .«min_triangle_area») (l .small)
+  pub least : Float
+  pub leasts : Least s least
+  pub smalls : AreaLimit least (l .small)
   pub larges : LargeLimit r (s .«max_edge_factor») (l .large)
   pub fars : Limit (reach r) (l .far)
   pub aspect : Float

@@ -3,7 +3,7 @@ use crate::Scene;
 use vector::Point3f;
 ghost use mathlib.Core.Path.{_≡_};
 ghost use mathlib.Core.Bool.{true};
-ghost use Rattle.decisions.specs.Refused.{Limiting, Refused, Hopeless};
+ghost use Rattle.decisions.specs.Refused.{Least, Limiting, Refused, Hopeless};
 
 // Limits for squares, by which a triangle is refused: of twice the area a least and a largest, of a distance the largest, and one for the aspect ratio.
 pub struct Limits {
@@ -13,11 +13,23 @@ pub struct Limits {
     pub thin: f32,
 }
 
+// An area below which every triangle is refused: the least one, or what is next to none where that has no score and a score is asked for.
+fn least_area(s: Scene) -> f32
+    ensures { λ m. ⌜ Least s m ⌝ }
+{
+    if s.quality_threshold > 0.0 {
+        if s.min_triangle_area < 1e-10 {
+            return 1e-10;
+        }
+    }
+    s.min_triangle_area
+}
+
 // The limits at a radius.
 pub fn limits_of(s: Scene, radius: f32) -> Limits
     ensures { λ l. ⌜ Limiting s radius l ⌝ }
 {
-    let small = area_bounds::area_limit(s.min_triangle_area);
+    let small = area_bounds::area_limit(least_area(s));
     let large = area_bounds::large_limit(radius, s.max_edge_factor);
     let far = spatial_hash::square_limit(radius * 2.0);
     let thin = thin::thin_limit(triangle::aspect_limit(s.quality_threshold));

@@ -17,7 +17,8 @@ use Rattle.numbers.proofs.OrderLaws.{le-refl, le-trans, le-right, lt-le, not-le
 use Rattle.vector.specs.declared.Point3f.{Point3f}
 use Rattle.vector.specs.Vector.{squared}
 use Rattle.points.specs.Points.{pointAt, upFrom}
-use Rattle.sorting.specs.Sorted.{sorted}
+use Rattle.sorting.specs.Sorted.{sorted, All}
+use Rattle.sorting.proofs.Rising.{all-take}
 use Rattle.domain.specs.declared.BallPivotingConfig.{BallPivotingConfig}
 use Rattle.grid.specs.declared.SpatialGrid.{SpatialGrid}
 use Rattle.grid.specs.Grid.{precedes, byCell, orderOf}
@@ -36,7 +37,7 @@ use Rattle.spatial_hash.proofs.Nearby.{count-same, gathered-all, gathered-count
 use Rattle.radii.specs.declared.Around.{Around}
 use Rattle.radii.specs.Radii.{distancesTo, nearOf, nearest}
 use Rattle.radii.specs.Squares.{aroundOf, isNear, squaresTo, leastSquares, Whole, Prepared, Kept, Looked}
-use Rattle.radii.proofs.Rising.{All, atMost, insert-count, sorted-count, sorted-rising, least-same, least-roots, rising-upto}
+use Rattle.radii.proofs.Rising.{atMost, insert-count, sorted-count, sorted-rising, sorted-good, roots-good, least-same, least-roots, rising-upto}
 
 -- ---- squares of some points
 abbrev key : List Float → ℕ → ℕ → Float
@@ -242,3 +243,11 @@ nearest-is c g pts n i w inside numbers x =
     ∙ sym (least-roots 10 (squaresTo near pts i all) (squares-good near pts i n inside numbers all (whole-below n all (order-whole (c .«use_spatial_index») g pts n))))
     ∙ ap (λ (ds : List Float). take 10 (sorted ds)) (sym (distances-are pts n i inside numbers a w all (order-of-below (c .«use_spatial_index») g pts n)))
     ∙ ap (λ (js : List ℕ). take 10 (sorted (distancesTo pts i js))) (near-is g (c .«use_spatial_index») pts n w (pointAt pts i) (c .radius ⊗ f32 0x40400000) (x .cells))
+
+pub nearest-good : (c : BallPivotingConfig) (g : SpatialGrid) (pts : List Float) (n i : ℕ) (w : List ℕ) → i < n → ((j : ℕ) → j < n → Finite (pointAt pts j)) → Indexed g pts n w → All Good (nearest c g pts n i)
+unfolding leastSquares
+nearest-good c g pts n i w inside numbers x =
+    let near : ℕ → Bool = isNear (aroundOf c g (pointAt pts i)) w n in
+    let squares : List Float = squaresTo near pts i (upFrom 0 n) in
+    subst (λ (ds : List Float). All Good ds) (nearest-is c g pts n i w inside numbers x)
+    (roots-good (take 10 (sorted squares)) (all-take Good 10 (sorted squares) (sorted-good squares (squares-good near pts i n inside numbers (upFrom 0 n) (whole-below n (upFrom 0 n) (up-whole n))))))

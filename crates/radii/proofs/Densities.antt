@@ -1,24 +1,40 @@
 -- The densities at the samples, turn by turn of the loop. Assumes nothing.
 use mathlib.Core.Path.{_≡_, refl, sym, ap, _∙_, subst}
-use mathlib.Core.Bool.{Bool, true, false, cond}
+use mathlib.Core.Bool.{Bool, true, false, cond, true≢false}
 use mathlib.Core.List.{List, [], _∷_}
 use Prim.Native.Nat.{ℕ, zero, suc, _+_, _-_, _*_, _/_, _≤_, _<_, min}
-use native.Mathlib.Nat.{div-self, div-le-self}
+use native.Mathlib.Nat.{div-self, div-le-self, mul-pos}
 use native.Mathlib.Omega.{arith}
-use borrow.Author.Tests.{eq-eqb, ne-eqb}
-use lib.Dec.{eqb}
-use lib.ListN.{length, take, drop, length-drop}
+use borrow.Author.Tests.{eq-eqb, ne-eqb, eqb-false}
+use lib.Dec.{T, eqb, lt→ltb}
+use lib.ListN.{length, take, drop, length-drop, length-take}
 use lib.Seq.{length-take-le, take-take}
-use lib.Ieee.{Float}
-use Rattle.numbers.specs.Rounded.{f32, _⊘_}
-use Rattle.points.specs.Points.{stepsFrom}
+use lib.Ieee.{Float, nan, inf, fin, binary32, ofInt, ofBits}
+use lib.Ieee.Fits.{down-pos}
+use lib.Ieee.Positive.{positive}
+use lib.Ieee.Exact.{HasValue}
+use lib.Ieee.Back.{round-whole}
+use Rattle.numbers.specs.Rounded.{f32, _⊕_, _⊘_}
+use Rattle.numbers.proofs.OrderLaws.{unsigned, unsigned-number}
+use Rattle.numbers.proofs.SumOrder.{add-unsigned}
+use Rattle.numbers.proofs.QuotientOrder.{div-number}
+use Rattle.points.specs.Points.{pointAt, stepsFrom}
 use Rattle.points.proofs.Steps.{steps-more, steps-none}
 use Rattle.sorting.specs.Insertion.{Written}
-use Rattle.sorting.specs.Sorted.{insert, insertAll, sorted, whole}
+use Rattle.sorting.specs.Sorted.{insert, insertAll, sorted, All, whole}
 use Rattle.domain.specs.declared.BallPivotingConfig.{BallPivotingConfig}
 use Rattle.grid.specs.declared.SpatialGrid.{SpatialGrid}
+use Rattle.grid.specs.Index.{Indexed}
+use Rattle.spatial_hash.specs.Near.{Finite}
+use Rattle.spatial_hash.proofs.Squares.{Good}
 use Rattle.radii.specs.Radii.{total, average, nearest, densitiesFrom, stepOf, sampleCount}
 use Rattle.radii.specs.Steps.{withSample}
+use Rattle.radii.proofs.Rising.{Number, Ascending, insert-ascending}
+use Rattle.radii.proofs.Deciding.{nearest-good}
+
+-- ---- the densities so far, before the region of the least distances
+pub densities-kept : (f u : List Float) (n count : ℕ) → count < n → take n u ≡ take n f → take count u ≡ take count f
+densities-kept f u n count inside same = let h : count ≤ n = omega arith in sym (take-take count n u h) ∙ ap (take count) same ∙ take-take count n f h
 
 -- ---- one sample
 module _ (f u : List Float) (n count kept : ℕ) (ds : List Float) (long : n + 10 ≤ length u) (few : kept ≤ 10) (inside : count < n) (e : take kept (drop n u) ≡ ds) (same : take n u ≡ take n f) where
@@ -26,7 +42,7 @@ module _ (f u : List Float) (n count kept : ℕ) (ds : List Float) (long : n + 1
   kept-count = ap length (sym e) ∙ length-take-le kept (drop n u) (simp length-drop (omega arith))
 
   front : take count u ≡ take count f
-  front = let h : count ≤ n = omega arith in sym (take-take count n u h) ∙ ap (take count) same ∙ take-take count n f h
+  front = densities-kept f u n count inside same
 
   pub sample-none : kept ≡ 0 → take count u ≡ withSample ds (take count f)
   unfolding withSample
@@ -38,6 +54,41 @@ module _ (f u : List Float) (n count kept : ℕ) (ds : List Float) (long : n + 1
       let a : d ≡ total (f32 0) ds ⊘ whole (length ds) =
       hd ∙ ap (λ (x : Float). x ⊘ whole kept) (hs ∙ ap (total (f32 0)) e) ∙ ap (λ (k : ℕ). total (f32 0) ds ⊘ whole k) (sym kept-count) in
       rw (ne-eqb (length ds) 0 (λ (q : length ds ≡ 0). z (sym kept-count ∙ q))) (r .inside ∙ ap (λ (xs : List Float). insert d xs) front ∙ ap (λ (x : Float). insert x (take count f)) a)
+
+-- ---- a density is a number, so that the densities stay in rising order
+total-unsigned : (s : Float) (xs : List Float) → T (unsigned s) → All Good xs → T (unsigned (total s xs))
+unfolding total
+total-unsigned s [] u a = u
+total-unsigned s (x ∷ xs) u a = total-unsigned (s ⊕ x) xs (add-unsigned s x u (a .0 .1)) (a .1)
+
+valued-positive : (x : Float) (k : ℕ) → 1 ≤ k → HasValue x false k 1 → T (positive x)
+valued-positive nan k h v = absurd v
+valued-positive (inf s) k h v = absurd v
+valued-positive (fin true m e) k h v = absurd (true≢false (v .0))
+valued-positive (fin false zero e) k h v = absurd (omega (arith, v .1, mul-pos h (down-pos e)))
+valued-positive (fin false (suc m) e) k h v = lt→ltb 0 (suc m) (omega arith)
+
+average-number : (ds : List Float) → 1 ≤ length ds → length ds ≤ 10 → All Good ds → Number (average ds)
+unfolding average ofInt
+average-number ds some few a =
+    div-number (total (f32 0) ds) (whole (length ds)) (valued-positive (whole (length ds)) (length ds) some (round-whole binary32 false (length ds) (omega arith)))
+    (unsigned-number (total (f32 0) ds) (total-unsigned (f32 0) ds (unfold ofBits in tt) a))
+
+module _ (c : BallPivotingConfig) (g : SpatialGrid) (pts : List Float) (n i : ℕ) (w : List ℕ) (inside : i < n) (numbers : (j : ℕ) → j < n → Finite (pointAt pts j)) (x : Indexed g pts n w) where
+  at-most-ten : length (nearest c g pts n i) ≤ 10
+  unfolding nearest
+  at-most-ten = simp length-take (omega arith)
+
+  pub sample-ascending : (xs ys : List Float) → ys ≡ withSample (nearest c g pts n i) xs → Ascending xs → Ascending ys
+  unfolding withSample
+  sample-ascending xs ys e o = subst (λ (l : List Float). Ascending l) (sym e) (go (eqb (length ds) 0) refl)
+    where
+      ds : List Float
+      ds = nearest c g pts n i
+
+      go : (b : Bool) → eqb (length ds) 0 ≡ b → Ascending (cond b xs (insert (average ds) xs))
+      go true h = o
+      go false h = insert-ascending (average ds) xs (average-number ds (let d = eqb-false (length ds) 0 h in omega arith) at-most-ten (nearest-good c g pts n i w inside numbers x)) o
 
 -- ---- the samples: those in hand, and those to come
 abbrev pub toCome : BallPivotingConfig → SpatialGrid → List Float → ℕ → ℕ → ℕ → List Float

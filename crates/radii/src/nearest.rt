@@ -15,11 +15,11 @@ ghost use lib.Ieee.{nan, le};
 ghost use Rattle.numbers.specs.Root.{root};
 ghost use Rattle.patch.specs.Search.{Below};
 ghost use Rattle.grid.specs.Index.{Indexed};
-ghost use Rattle.vector.specs.Vector.{squared};
+ghost use Rattle.sorting.specs.Sorted.{Rising};
 ghost use Rattle.points.specs.Points.{pointAt};
 ghost use Rattle.spatial_hash.specs.Near.{Finite, HashedAll};
 ghost use Rattle.radii.specs.Radii.{nearest};
-ghost use Rattle.radii.specs.Squares.{isNear, aroundOf, withSquare, leastSquares, Settled, Decided, Prepared, Looked, Found};
+ghost use Rattle.radii.specs.Squares.{isNear, aroundOf, withSquare, leastSquares, Decided, Prepared, Looked, Found};
 
 // The neighbours of a place at 3 × radius.
 fn around_of(config: BallPivotingConfig, grid: SpatialGrid, place: Point3f) -> Around
@@ -57,7 +57,7 @@ fn look_at(
     kept: usize,
 ) -> usize
     requires { ⌜ (i < n) × (j < n) × (n ≤ 4096) × (3 * n ≤ length (now points)) × (4 * n ≤ length (now w)) × (n + 10 ≤ length (now f)) × (kept ≤ 10)
-        × Settled (take kept (drop n (now f))) (squared (pointAt (now points) j) (pointAt (now points) i)) ⌝ }
+        × Rising (take kept (drop n (now f))) ⌝ }
     ensures { λ r. ⌜ (take r (drop n (now (f .exit))) ≡ withSquare (isNear around (now (w .entry)) n) (now (points .entry)) i j (take kept (drop n (now (f .entry)))))
         × (r ≤ 10)
         × (take n (now (f .exit)) ≡ take n (now (f .entry))) ⌝ }
@@ -69,7 +69,7 @@ fn look_at(
         return kept;
     }
     if is_other(w, n, around, i, j) {
-        return sorting::insert_least(f, n, kept, 10, s);
+        return sorting::insert_least_rising(f, n, kept, 10, s);
     }
     kept
 }

@@ -1,3 +1,4 @@
 pub mod Insertion
 pub mod Least
 pub mod Percentile
+pub mod Rising

@@ -3,6 +3,9 @@ use borrow.Author.Needs.{needs}
 use Rattle.decisions.proofs.refused.limits_of.Statement.{statement}
 use Rattle.decisions.proofs.refused.limits_of.Tie as tie
 
+least-area-requires : tie.Need-least-area-requires
+least-area-requires c κs = search needs
+
 area-limit-requires : tie.Need-area-limit-requires
 area-limit-requires c κs = search needs
 
@@ -20,6 +23,8 @@ thin-limit-requires c κs = search needs
 
 returns : tie.Need-returns
 returns c = record {
+  least = c .before .before .before .before .before .least-area .result;
+  leasts = c .before .before .before .before .before .least-area .ensures;
   smalls = c .before .before .before .before .area-limit .ensures;
   larges = c .before .before .before .large-limit .ensures;
   fars = c .before .before .square-limit .ensures;
@@ -29,4 +34,4 @@ returns c = record {
 }
 
 pub limits-of-spec : {M : Type 1} → statement M
-limits-of-spec = tie.close (tie.spec area-limit-requires large-limit-requires square-limit-requires aspect-limit-requires thin-limit-requires returns)
+limits-of-spec = tie.close (tie.spec least-area-requires area-limit-requires large-limit-requires square-limit-requires aspect-limit-requires thin-limit-requires returns)

@@ -8,7 +8,7 @@ use Rattle.sorting.specs.Sorted.{insertAll}
 use Rattle.spatial_hash.proofs.Nearby.{listed-point}
 use Rattle.radii.specs.Squares.{isNear, squaresTo, leastSquares}
 use Rattle.radii.proofs.Looking.{with-ordered, look-step, look-end}
-use Rattle.radii.proofs.Rising.{Ordered, rising-settled}
+use Rattle.radii.proofs.Rising.{Ordered}
 use Rattle.radii.proofs.nearest.least_squares.Statement.{statement}
 use Rattle.radii.proofs.nearest.least_squares.Tie as tie
 
@@ -52,7 +52,7 @@ look-at-requires c κs =
       omega (arith, s .pre .4),
       omega (arith, l .inv .0, s .pre .5),
       l .inv .2,
-      rising-settled (take (l .kept) (drop (s .args .n) (l .f))) _ (l .inv .5 .0),
+      l .inv .5 .0,
     )
 
 add-k : tie.Need-add-k Inv-loop μ-loop

@@ -8,7 +8,7 @@ use Rattle.points.specs.Points.{upFrom}
 use Rattle.sorting.specs.Sorted.{insertAll}
 use Rattle.radii.specs.Squares.{isNear, squaresTo, leastSquares}
 use Rattle.radii.proofs.Looking.{with-ordered, all-start, all-step, all-end}
-use Rattle.radii.proofs.Rising.{Ordered, rising-settled}
+use Rattle.radii.proofs.Rising.{Ordered}
 use Rattle.radii.proofs.nearest.look_everywhere.Statement.{statement}
 use Rattle.radii.proofs.nearest.look_everywhere.Tie as tie
 
@@ -28,7 +28,7 @@ look-at-requires : tie.Need-look-at-requires Inv-loop μ-loop
 look-at-requires c κs =
     let l = c .before .before .loop in
     let s = c .before .before .before .before .before .before in
-    (s .pre .0, c .before .loop-test .taken, s .pre .1, s .pre .2, s .pre .3, omega (arith, l .inv .0, s .pre .4), l .inv .2, rising-settled (take (l .kept) (drop (s .args .n) (l .f))) _ (l .inv .5 .0))
+    (s .pre .0, c .before .loop-test .taken, s .pre .1, s .pre .2, s .pre .3, omega (arith, l .inv .0, s .pre .4), l .inv .2, l .inv .5 .0)
 
 add-j : tie.Need-add-j Inv-loop μ-loop
 add-j c = search needs
