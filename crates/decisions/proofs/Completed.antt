@@ -18,7 +18,6 @@ use Rattle.points.specs.Points.{pointAt}
 use Rattle.decisions.specs.declared.Scene.{Scene}
 use Rattle.decisions.specs.Decisions.{reach, apart, qualityAt, isClose, accepts, completes}
 use Rattle.decisions.specs.Found.{areaAt, ShapeRefused}
-use Rattle.decisions.proofs.Refusals.{low-refused}
 
 -- ---- the triangle
 
@@ -43,6 +42,14 @@ module _ (s : Scene) (pts : List Float) (r : Float) (i j k : ℕ) {area : Float}
   accepted-shape {side} {toJ} {toI} es ej ei ev h = sym (ap (accepts s r) (sym (rw (es, ej, ei, e) (quality-at pts i j k))) ∙ h side toJ toI area ev)
 
 -- ---- the shape
+
+pub low-refused : (q : TriangleQuality) (r m threshold factor : Float) → lt (q .«quality_score») threshold ≡ true → acceptable q r m threshold factor ≡ false
+unfolding acceptable
+low-refused q r m threshold factor h = rw h (either (lt (q .area) m))
+  where
+    either : (b : Bool) → cond b false false ≡ false
+    either true = refl
+    either false = refl
 
 long-refused : (q : TriangleQuality) (r m threshold factor : Float) → lt (r ⊗ factor) (q .«edge_ratio» ⊗ root (q .area)) ≡ true → acceptable q r m threshold factor ≡ false
 unfolding acceptable

@@ -1,5 +1,3 @@
 -- What the crate's contracts cite, leaves first.
 pub mod Decisions
 pub mod Found
-pub mod Refused
-pub mod Over

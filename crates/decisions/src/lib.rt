@@ -1,7 +1,4 @@
 // What the floats decide of points by their numbers: which are near enough to each other, which triangles are acceptable, and how good they are.
-pub mod pivots;
-pub mod refused;
-
 use grid::SpatialGrid;
 use triangle::Shape;
 use triangle::TriangleQuality;
@@ -103,7 +100,7 @@ pub fn is_pivotable(points: &[f32], radius: f32, a: usize, b: usize) -> bool
 
 // The score of a triangle with edges of lengths a, b and c, if the settings accept it and the score is not below `top`.
 // The bound is asked first, since it needs no angle.
-fn score_from(s: Scene, radius: f32, a: f32, b: f32, c: f32, area: f32, top: f32) -> Score
+pub fn score_from(s: Scene, radius: f32, a: f32, b: f32, c: f32, area: f32, top: f32) -> Score
     ensures { λ r. ⌜ r ≡ scoreFound (atLeast top (acceptedScore s radius (qualityOf a b c area))) ⌝ }
 {
     let shape = triangle::shape_of(a, b, c, area);

@@ -24,10 +24,10 @@ use Rattle.patch.specs.Search.{Floats, unused, isSecond, isThird, thirdOf, seco
 use Rattle.patch.proofs.Counts.{either, not-true, true-not-false, and-both}
 use Rattle.decisions.specs.declared.Scene.{Scene}
 use Rattle.decisions.specs.Decisions.{reach, apart, isClose, accepts, qualityAt, completes, floatsOf}
-use Rattle.decisions.specs.declared.refused.Limits.{Limits}
-use Rattle.decisions.specs.Refused.{Refused, Hopeless}
+use Rattle.refusals.specs.declared.Limits.{Limits}
+use Rattle.refusals.specs.Refused.{Refused, Hopeless}
 use Rattle.decisions.proofs.Within.{within}
-use Rattle.decisions.proofs.Refusals.{refused-turned, refused-accepts, hopeless-accepts}
+use Rattle.refusals.proofs.Refusals.{refused-turned, refused-accepts, hopeless-accepts}
 use Rattle.search.specs.declared.nearby.Filter.{Filter}
 use Rattle.search.specs.Ready.{usedIn, listed, withSecond, withFirst}
 use Rattle.search.specs.Narrow.{insertAll, inReach, cellAt, passes, Filters, Collected, Narrowed}

@@ -20,9 +20,9 @@ use Rattle.patch.specs.Count.{bit, count}
 use Rattle.patch.proofs.Counts.{either}
 use Rattle.decisions.specs.declared.Scene.{Scene}
 use Rattle.decisions.specs.Decisions.{accepts, qualityAt}
-use Rattle.decisions.specs.declared.refused.Limits.{Limits}
-use Rattle.decisions.specs.Refused.{Refused}
-use Rattle.decisions.proofs.Refusals.{bounded-accepts}
+use Rattle.refusals.specs.declared.Limits.{Limits}
+use Rattle.refusals.specs.Refused.{Refused}
+use Rattle.refusals.proofs.Refusals.{bounded-accepts}
 use Rattle.search.specs.Spread.{spreadFrom, spread, tooSmall}
 use Rattle.search.proofs.Laws.{part-step, part-end}
 

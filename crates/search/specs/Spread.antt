@@ -16,8 +16,8 @@ use Rattle.patch.specs.Count.{count}
 use Rattle.patch.specs.Search.{Below}
 use Rattle.decisions.specs.declared.Scene.{Scene}
 use Rattle.decisions.specs.Decisions.{reach, isClose, completes}
-use Rattle.decisions.specs.declared.refused.Limits.{Limits}
-use Rattle.decisions.specs.Refused.{Limiting}
+use Rattle.refusals.specs.declared.Limits.{Limits}
+use Rattle.refusals.specs.Refused.{Limiting}
 use Rattle.search.specs.declared.nearby.Filter.{Filter}
 use Rattle.search.specs.Narrow.{Filters, Collected}
 

@@ -1,6 +1,6 @@
 // Where no seed is found: among points in too small a spread, and among points no two of which make one.
 use decisions::Scene;
-use decisions::refused::Limits;
+use refusals::Limits;
 use vector::Point3f;
 ghost use mathlib.Core.Path.{_≡_};
 ghost use mathlib.Core.Bool.{true};
@@ -72,7 +72,7 @@ fn is_fruitless(
     let first = points::point_at(points, i);
     let second = points::point_at(points, j);
     let third = points::point_at(points, k);
-    if decisions::refused::is_refused(limits, first, second, third) {
+    if refusals::is_refused(limits, first, second, third) {
         return true;
     }
     if decisions::is_completed(s, points, radius, i, j, k) {

@@ -3,7 +3,7 @@ use crate::Pivot;
 use crate::nearby::Filter;
 use decisions::Scene;
 use decisions::Score;
-use decisions::pivots::Side;
+use scores::Side;
 use spatial_hash::Hash;
 ghost use mathlib.Core.Path.{_≡_};
 ghost use mathlib.Core.Bool.{not, _&&_, _||_};
@@ -20,7 +20,7 @@ ghost use Rattle.patch.specs.Lay.{edge};
 ghost use Rattle.patch.specs.Search.{scoreOf, bestOf};
 ghost use Rattle.decisions.specs.Decisions.{floatsOf};
 ghost use Rattle.decisions.specs.Found.{scoreFound, atLeast};
-ghost use Rattle.decisions.specs.Over.{sideOf, Thinned};
+ghost use Rattle.scores.specs.Over.{sideOf, Thinned};
 ghost use Rattle.search.specs.Ready.{Held, Listed, Kept, usedIn, listed, pivotFound, pointOf, Met};
 ghost use Rattle.search.specs.Narrow.{cellAt};
 ghost use Rattle.search.specs.Best.{isBefore, ahead, leader, scoreIn};
@@ -52,7 +52,7 @@ fn score_of(
         return Score::None;
     }
     let t = points::point_at(points, k);
-    decisions::pivots::score_over(s, radius, limit, side, t, top, thin)
+    scores::score_over(s, radius, limit, side, t, top, thin)
 }
 
 // Whether point k comes before the best one so far, if there is one.
@@ -123,9 +123,9 @@ fn best_of(
 {
     let at = 4 * s.n;
     let p = points::point_at(points, a);
-    let side = decisions::pivots::side_of(p, points::point_at(points, b));
+    let side = scores::side_of(p, points::point_at(points, b));
     let mut top = 0.0;
-    let mut thin = decisions::pivots::thin_at(0.0);
+    let mut thin = scores::thin_at(0.0);
     let mut best = Pivot::Nowhere;
     let mut m: usize = 0;
     while m < count {
@@ -133,7 +133,7 @@ fn best_of(
         m += 1;
         if let Score::Of(x) = score_ahead(s, points, w, radius, f, a, b, k, side, top, thin, best) {
             top = x;
-            thin = decisions::pivots::thin_at(x);
+            thin = scores::thin_at(x);
             best = Pivot::To(k);
         }
     }

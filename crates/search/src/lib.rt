@@ -39,10 +39,10 @@ pub fn find_seed_triangle(s: Scene, points: &[f32], w: &mut [u32], radius: f32, 
     requires { ⌜ Held s (now points) (now w) × Indexed (s .grid) (now points) (s .n) (now w) × Hashed hash (now points) (s .n) (now w) ⌝ }
     ensures { λ r. ⌜ (r ≡ seedFound (searching (floatsOf s (now (points .entry))) (s .n) .seedOf radius (usedIn s (now (w .entry))))) × Kept s (now (w .entry)) (now (w .exit)) ⌝ }
 {
-    if decisions::refused::is_hopeless(s, radius) {
+    if refusals::is_hopeless(s, radius) {
         return Seed::Nothing;
     }
-    let limits = decisions::refused::limits_of(s, radius);
+    let limits = refusals::limits_of(s, radius);
     triples::find_from(s, points, w, radius, hash, limits)
 }
 

@@ -2,7 +2,7 @@
 use crate::Seed;
 use crate::nearby::Filter;
 use decisions::Scene;
-use decisions::refused::Limits;
+use refusals::Limits;
 use spatial_hash::Hash;
 use vector::Point3f;
 ghost use mathlib.Core.Path.{_≡_};
@@ -12,7 +12,7 @@ ghost use Rattle.grid.specs.Index.{Cells, Indexed};
 ghost use Rattle.spatial_hash.specs.Near.{Hashed};
 ghost use Rattle.patch.specs.Search.{isSecond, isThird, thirdOf, secondOf, firstOf, numbers};
 ghost use Rattle.decisions.specs.Decisions.{isClose, floatsOf};
-ghost use Rattle.decisions.specs.Refused.{Limiting};
+ghost use Rattle.refusals.specs.Refused.{Limiting};
 ghost use Rattle.search.specs.Ready.{Held, Listed, usedIn, listed, Kept, seedFound, withSecond, withFirst};
 ghost use Rattle.search.specs.Spread.{Spans, Judged, Listing};
 
@@ -55,7 +55,7 @@ fn is_third(
     }
     let third = points::point_at(points, k);
     let first = points::point_at(points, i);
-    if decisions::refused::is_refused(limits, first, points::point_at(points, j), third) {
+    if refusals::is_refused(limits, first, points::point_at(points, j), third) {
         return false;
     }
     decisions::is_completed(s, points, radius, i, j, k)

@@ -4,8 +4,8 @@ use mathlib.Core.Path.{_≡_}
 use native.Mathlib.Omega.{arith}
 use borrow.Author.Needs.{needs}
 use Rattle.vector.specs.declared.Point3f.{Point3f}
-use Rattle.decisions.specs.declared.pivots.Side.{Side}
-use Rattle.decisions.specs.Over.{sideOf, Thinned}
+use Rattle.scores.specs.declared.Side.{Side}
+use Rattle.scores.specs.Over.{sideOf, Thinned}
 use Rattle.search.proofs.Steps.{Best, best-start, best-skip, best-taken, best-all}
 use Rattle.search.proofs.candidates.best_of.Statement.{statement}
 use Rattle.search.proofs.candidates.best_of.Tie as tie

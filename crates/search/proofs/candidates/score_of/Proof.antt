@@ -8,7 +8,7 @@ use Rattle.points.specs.Points.{pointAt}
 use Rattle.patch.specs.Lay.{edge}
 use Rattle.decisions.specs.Decisions.{floatsOf}
 use Rattle.decisions.specs.Found.{scoreFound, atLeast}
-use Rattle.decisions.proofs.Scores.{over-at, side-own}
+use Rattle.scores.proofs.Over.{over-at, side-own}
 use Rattle.search.specs.Ready.{usedIn}
 use Rattle.search.proofs.Laws.{met, not-met, unscored}
 use Rattle.search.proofs.candidates.score_of.Statement.{statement}

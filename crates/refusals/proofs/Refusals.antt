@@ -1,0 +1,118 @@
+-- What is refused without measuring it: triangles below a bound of the area (`bounded-accepts`), and of points close to each other those that limits refuse (`refused-accepts`) and all at a `Hopeless` radius (`hopeless-accepts`).
+-- Assumes nothing.
+use Prim.Native.Nat.{ℕ}
+use mathlib.Core.Path.{_≡_, refl, sym, subst}
+use mathlib.Core.Bool.{true, false}
+use mathlib.Core.List.{List}
+use lib.Dec.{T, T-not}
+use lib.Ieee.{Float, inf, lt, le}
+use lib.Ieee.Bits.{is-true}
+use lib.Ieee.Scale.{finite}
+use Rattle.numbers.specs.Rounded.{f32, _⊗_}
+use Rattle.numbers.specs.Root.{root}
+use Rattle.vector.specs.Vector.{difference, magnitude, squared, distance}
+use Rattle.triangle.specs.Quality.{half, tiny, area, degenerate, quality}
+use Rattle.triangle.specs.Bound.{shapeOf, AspectLimit}
+use Rattle.area_bounds.specs.AreaBound.{crossSquared, areaBound}
+use Rattle.vector.specs.declared.Point3f.{Point3f}
+use Rattle.vector.proofs.Distances.{FinitePoint, squared-fits, squared-turned, distance-is, distance-turned}
+use Rattle.area_bounds.proofs.AreaBound.{Bounds, Unsigned, area-bounded, area-limited, area-too-long, cross-squared-turned}
+use Rattle.area_bounds.proofs.Refused.{small-refused, large-refused, long-refused, near-finite, area-number}
+use Rattle.triangle.proofs.Bounds.{quality-is}
+use Rattle.triangle.proofs.Aspect.{aspect-low}
+use Rattle.thin.specs.Thin.{ThinLimit, AllThin}
+use Rattle.points.specs.Points.{pointAt}
+use Rattle.decisions.specs.declared.Scene.{Scene}
+use Rattle.decisions.specs.Decisions.{reach, apart, isClose, qualityAt, accepts}
+use Rattle.decisions.proofs.Completed.{low-refused}
+use Rattle.refusals.specs.declared.Limits.{Limits}
+use Rattle.refusals.specs.Refused.{Least, Limiting, Refused, small, large, far, thin, Hopeless}
+
+pub refused-turned : {l : Limits} {p q t : Point3f} → Refused l p q t → Refused l p t q
+refused-turned {l} {p} {q} {t} (small h) = small (rw (cross-squared-turned p t q) h)
+refused-turned {l} {p} {q} {t} (large h) = large (rw (cross-squared-turned p t q) h)
+refused-turned {l} {p} {q} {t} (far h) = far (rw (squared-turned t q) h)
+refused-turned {l} {p} {q} {t} (thin h) = thin (rw (cross-squared-turned p t q, squared-turned t q) (record { abc = h .bac; acb = h .bca; bac = h .abc; bca = h .acb; cab = h .cba; cba = h .cab }))
+
+-- ---- too thin
+
+area-is : (p q t : Point3f) → area p q t ≡ root (crossSquared p q t) ⊗ half
+unfolding area magnitude crossSquared
+area-is p q t = refl
+
+thin-low : (p q t : Point3f) (threshold α limit : Float) → AspectLimit threshold α → ThinLimit α limit → AllThin limit (squared p q) (squared p t) (squared q t) (crossSquared p q t) → lt (quality p q t .«quality_score») threshold ≡ true
+thin-low p q t threshold α limit a l h =
+    let k : T (le (shapeOf (distance q p) (distance t q) (distance p t) (area p q t) .«aspect_ratio») α) = rw (distance-turned q p, distance-turned t q, distance-is p q, distance-is q t, distance-is p t, area-is p q t) (h .acb .below α l) in
+    rw (← quality-is p q t) (aspect-low threshold α (distance q p) (distance t q) (distance p t) (area p q t) a k)
+
+-- ---- too small
+
+-- below the settings' least area
+pub least-own : (s : Scene) → Least s (s .«min_triangle_area»)
+unfolding accepts
+least-own s = record { refuses = λ p q t r h. small-refused p q t r (s .«min_triangle_area») (s .«quality_threshold») (s .«max_edge_factor») h }
+
+-- next to no area has the score 0
+flat-score : (p q t : Point3f) → T (lt (area p q t) tiny) → quality p q t .«quality_score» ≡ f32 0
+unfolding quality degenerate
+flat-score p q t h = rw (is-true (lt (area p q t) tiny) h)
+
+pub least-flat : (s : Scene) → lt (f32 0) (s .«quality_threshold») ≡ true → Least s tiny
+unfolding accepts
+least-flat s g = record { refuses = λ p q t r h. low-refused (quality p q t) r (s .«min_triangle_area») (s .«quality_threshold») (s .«max_edge_factor») (rw (flat-score p q t h) g) }
+
+-- ---- triangles of the cloud's points
+
+module _ (s : Scene) (pts : List Float) (r : Float) (i j k : ℕ) where
+  pub bounded-accepts : (v w : Point3f) → Unsigned v → Unsigned w → Bounds (difference (pointAt pts j) (pointAt pts i)) v → Bounds (difference (pointAt pts k) (pointAt pts i)) w
+      → lt (areaBound v w) (s .«min_triangle_area») ≡ true → accepts s r (qualityAt pts i j k) ≡ false
+  unfolding accepts qualityAt
+  bounded-accepts v w f g b c h =
+      small-refused (pointAt pts i) (pointAt pts j) (pointAt pts k) r (s .«min_triangle_area») (s .«quality_threshold») (s .«max_edge_factor»)
+      (area-bounded (pointAt pts i) (pointAt pts j) (pointAt pts k) v w (s .«min_triangle_area») f g b c (subst T (sym h) tt))
+
+  -- the points are close to each other
+  module _ (fi : FinitePoint (pointAt pts i)) (fj : FinitePoint (pointAt pts j)) (fk : FinitePoint (pointAt pts k)) (cij : isClose pts r i j ≡ true) (cik : isClose pts r i k ≡ true) (cjk : isClose pts r j k ≡ true) where
+    edges-finite : T (lt (reach r) (inf false)) → T (finite (distance (pointAt pts j) (pointAt pts i))) × T (finite (distance (pointAt pts k) (pointAt pts j))) × T (finite (distance (pointAt pts i) (pointAt pts k)))
+    unfolding isClose apart
+    edges-finite b =
+        let p = pointAt pts i in
+        let q = pointAt pts j in
+        let t = pointAt pts k in (
+          rw (distance-turned q p) (near-finite p q (reach r) fi fj b (subst T (sym cij) tt)),
+          rw (distance-turned t q) (near-finite q t (reach r) fj fk b (subst T (sym cjk) tt)),
+          near-finite p t (reach r) fi fk b (subst T (sym cik) tt),
+        )
+
+    pub hopeless-accepts : Hopeless s r → accepts s r (qualityAt pts i j k) ≡ false
+    unfolding accepts qualityAt
+    hopeless-accepts h =
+        let p = pointAt pts i in
+        let q = pointAt pts j in
+        let t = pointAt pts k in
+        let e = edges-finite (h .bounded) in
+        let ki : T (finite (distance t p)) = rw (distance-turned t p) (e .2) in
+        long-refused p q t r (s .«min_triangle_area») (s .«quality_threshold») (s .«max_edge_factor») (e .0) (e .1) (e .2) (area-number p q t (e .0) ki) (h .long)
+
+    pub refused-accepts : {l : Limits} → Limiting s r l → Refused l (pointAt pts i) (pointAt pts j) (pointAt pts k) → accepts s r (qualityAt pts i j k) ≡ false
+    unfolding accepts qualityAt isClose apart
+    refused-accepts {l} g (small h) =
+        let p = pointAt pts i in
+        let q = pointAt pts j in
+        let t = pointAt pts k in
+        g .leasts .refuses p q t r (area-limited p q t (g .least) (l .small) (g .smalls) h)
+    refused-accepts {l} g (large h) =
+        let p = pointAt pts i in
+        let q = pointAt pts j in
+        let t = pointAt pts k in
+        let e = edges-finite (g .larges .bounded (crossSquared p q t) h) in
+        large-refused p q t r (s .«min_triangle_area») (s .«quality_threshold») (s .«max_edge_factor») (e .0) (e .1) (e .2) (area-too-long p q t r (s .«max_edge_factor») (l .large) (g .larges) h)
+    refused-accepts {l} g (far h) =
+        let q = pointAt pts j in
+        let t = pointAt pts k in
+        absurd (T-not (lt (reach r) (distance q t)) (subst T (sym cjk) tt) (subst (λ (x : Float). T (lt (reach r) x)) (sym (distance-is q t)) (g .fars (squared q t) (squared-fits q t) h)))
+    refused-accepts {l} g (thin h) =
+        let p = pointAt pts i in
+        let q = pointAt pts j in
+        let t = pointAt pts k in
+        low-refused (quality p q t) r (s .«min_triangle_area») (s .«quality_threshold») (s .«max_edge_factor») (thin-low p q t (s .«quality_threshold») (g .aspect) (l .thin) (g .aspects) (g .thins) h)

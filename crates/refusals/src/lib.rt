@@ -1,0 +1,71 @@
+// What is refused without measuring it: triangles by squares that are too small or too large, and radii at which every triangle is refused.
+use decisions::Scene;
+use vector::Point3f;
+ghost use mathlib.Core.Path.{_≡_};
+ghost use mathlib.Core.Bool.{true};
+ghost use Rattle.refusals.specs.Refused.{Least, Limiting, Refused, Hopeless};
+
+// Limits for squares, by which a triangle is refused: of twice the area a least and a largest, of a distance the largest, and one for the aspect ratio.
+pub struct Limits {
+    pub small: f32,
+    pub large: f32,
+    pub far: f32,
+    pub thin: f32,
+}
+
+// An area below which every triangle is refused: the least one, or what is next to none where that has no score and a score is asked for.
+fn least_area(s: Scene) -> f32
+    ensures { λ m. ⌜ Least s m ⌝ }
+{
+    if s.quality_threshold > 0.0 {
+        if s.min_triangle_area < 1e-10 {
+            return 1e-10;
+        }
+    }
+    s.min_triangle_area
+}
+
+// The limits at a radius.
+pub fn limits_of(s: Scene, radius: f32) -> Limits
+    ensures { λ l. ⌜ Limiting s radius l ⌝ }
+{
+    let small = area_bounds::area_limit(least_area(s));
+    let large = area_bounds::large_limit(radius, s.max_edge_factor);
+    let far = spatial_hash::square_limit(radius * 2.0);
+    let thin = thin::thin_limit(triangle::aspect_limit(s.quality_threshold));
+    Limits {
+        small: small,
+        large: large,
+        far: far,
+        thin: thin,
+    }
+}
+
+// Whether the limits refuse the triangle of three points, of which both others are close to the first.
+pub fn is_refused(l: Limits, p: Point3f, q: Point3f, t: Point3f) -> bool
+    ensures { λ r. ⌜ (r ≡ true → Refused l p q t) ⌝ }
+{
+    let last = vector::distance_squared(q, t);
+    if last > l.far {
+        return true;
+    }
+    let cross = area_bounds::cross_squared(p, q, t);
+    if cross <= l.small {
+        return true;
+    }
+    if cross >= l.large {
+        return true;
+    }
+    let first = vector::distance_squared(p, q);
+    thin::is_thin(first, vector::distance_squared(p, t), last, cross, l.thin)
+}
+
+// Whether no triangle of points that are close to each other can be acceptable at a radius.
+pub fn is_hopeless(s: Scene, radius: f32) -> bool
+    ensures { λ r. ⌜ (r ≡ true → Hopeless s radius) ⌝ }
+{
+    if !(radius * 2.0 < 1.0 / 0.0) {
+        return false;
+    }
+    area_bounds::is_too_long(radius, s.min_triangle_area, s.max_edge_factor)
+}
