@@ -6,7 +6,7 @@ use native.Mathlib.Omega.{arith}
 use lib.ListN.{length, take}
 use lib.Seq.{take-take}
 use lib.Ieee.{Float}
-use Rattle.domain.specs.declared.BallPivotingConfig.{BallPivotingConfig}
+use Rattle.settings.specs.declared.BallPivotingConfig.{BallPivotingConfig}
 use Rattle.grid.specs.Index.{Indexed}
 use Rattle.grid.proofs.Near.{indexed-kept}
 use Rattle.patch.specs.Lay.{State, patch}

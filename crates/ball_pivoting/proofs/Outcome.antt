@@ -10,7 +10,7 @@ use borrow.Author.Tests.{eq-eqb, ne-eqb}
 use Rattle.numbers.specs.Rounded.{f32}
 use Rattle.domain.specs.Refusals.{Check, firstRefusal, reconstructRefusal}
 use Rattle.domain.specs.Accepted.{Cloud}
-use Rattle.domain.specs.declared.BallPivotingConfig.{BallPivotingConfig}
+use Rattle.settings.specs.declared.BallPivotingConfig.{BallPivotingConfig}
 use Rattle.domain.specs.declared.Refusal.{Refusal}
 use Rattle.domain.proofs.Accepted.{cloud-finite, accepted-reconstruct}
 use Rattle.points.specs.Points.{pointAt}

@@ -8,7 +8,7 @@ use lib.ListN.{length}
 use lib.Ieee.{Float}
 use Rattle.numbers.specs.Rounded.{f32}
 use Rattle.domain.specs.Refusals.{reconstructRefusal}
-use Rattle.domain.specs.declared.BallPivotingConfig.{BallPivotingConfig}
+use Rattle.settings.specs.declared.BallPivotingConfig.{BallPivotingConfig}
 use Rattle.patch.specs.Shape.{Shape}
 use Rattle.ball_pivoting.specs.Reconstruct.{found, laidOf, reconstructed, swept, facesAfter}
 use Rattle.ball_pivoting.specs.declared.Patch.{Patch}

@@ -7,7 +7,7 @@ use lib.ListN.{length, replicate}
 use lib.Ieee.{Float}
 use Rattle.numbers.specs.Rounded.{f32, _⊗_}
 use Rattle.domain.specs.Refusals.{reconstructRefusal}
-use Rattle.domain.specs.declared.BallPivotingConfig.{BallPivotingConfig}
+use Rattle.settings.specs.declared.BallPivotingConfig.{BallPivotingConfig}
 use Rattle.grid.specs.Grid.{gridOf}
 use Rattle.grid.specs.declared.SpatialGrid.{SpatialGrid}
 use Rattle.radii.specs.Radii.{adaptiveRadii}

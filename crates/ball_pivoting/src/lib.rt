@@ -1,8 +1,8 @@
 // The main call: a cloud, its normals and the settings in; the patch's faces, counts and radii back.
 mod paths;
 
-use domain::BallPivotingConfig;
 use radii::Radii;
+use settings::BallPivotingConfig;
 ghost use mathlib.Core.Path.{_≡_};
 ghost use Prim.Native.Nat.{_≤_};
 ghost use Rattle.ball_pivoting.specs.Reconstruct.{refused};
@@ -56,7 +56,7 @@ fn deliver(found: Finding, faces: &mut [u32]) -> Patch
         return refuse(8, 0);
     }
     if faces.len() / 3 < count {
-        domain::clear_u32(faces);
+        clearing::clear_u32(faces);
         return refuse(9, 0);
     }
     let radii = found.radii;
@@ -95,7 +95,7 @@ pub fn reconstruct_with_normals(
         return refuse(refusal.answer, refusal.detail);
     }
     let found = paths::find(points, settings, faces, words, floats);
-    domain::clear_u32(words);
-    domain::clear_f32(floats);
+    clearing::clear_u32(words);
+    clearing::clear_f32(floats);
     deliver(found, faces)
 }

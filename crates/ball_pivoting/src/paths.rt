@@ -1,8 +1,8 @@
 // The two paths: pivoting at the radii, or faces among near points where there are none.
 use crate::Finding;
 use decisions::Scene;
-use domain::BallPivotingConfig;
 use radii::Radii;
+use settings::BallPivotingConfig;
 use spatial_hash::Hash;
 ghost use mathlib.Core.Path.{_≡_};
 ghost use mathlib.Core.List.{[]};

@@ -1,8 +1,8 @@
 -- What holds of a call's arguments once its checks have passed. Assumes nothing.
-use mathlib.Core.Path.{_≡_, refl, sym, subst}
-use mathlib.Core.Bool.{Bool, true, false}
-use mathlib.Core.List.{List, [], _∷_}
-use Prim.Native.Nat.{ℕ, suc, _/_, _%_, _≤_, _<_, min}
+use mathlib.Core.Path.{_≡_, sym, subst}
+use mathlib.Core.Bool.{true, false}
+use mathlib.Core.List.{List, []}
+use Prim.Native.Nat.{ℕ, _/_, _%_, _≤_, _<_, min}
 use native.Mathlib.Nat.{min-le-left, min-le-right}
 use native.Mathlib.Omega.{arith}
 use lib.Dec.{T}
@@ -10,13 +10,15 @@ use lib.ListN.{length, getD}
 use lib.Ieee.{Float, nan, inf, fin, le, neg, ofBits}
 use lib.Ieee.Scale.{finite}
 use borrow.Author.Tests.{leb-true, eqb-true}
-use Rattle.domain.specs.Range.{inside, leading, listInside, firstOutside, farthest, largest, percentileInside}
-use Rattle.domain.specs.Settings.{firstFailing, settingTests, firstBadSetting}
-use Rattle.domain.specs.Refusals.{check, pointCheck, settingCheck, roomy, firstBadPoint, estimateRefusal, reconstructRefusal}
-use Rattle.domain.specs.Accepted.{Slots, Within, Cloud, Settled, AcceptedEstimate, AcceptedReconstruct}
-use Rattle.domain.specs.declared.BallPivotingConfig.{BallPivotingConfig}
-use Rattle.domain.proofs.Range.{leading-inside}
-use Rattle.domain.proofs.Refusals.{both, Sized, check-accepted, size-accepted, roomy-room}
+use Rattle.ranges.specs.Range.{inside, leading, firstOutside, firstBadPoint, farthest, largest, percentileInside}
+use Rattle.settings.specs.Settings.{firstBadSetting}
+use Rattle.domain.specs.Refusals.{check, pointCheck, settingCheck, roomy, estimateRefusal, reconstructRefusal}
+use Rattle.domain.specs.Accepted.{Within, Cloud, AcceptedEstimate, AcceptedReconstruct}
+use Rattle.settings.specs.declared.BallPivotingConfig.{BallPivotingConfig}
+use Rattle.ranges.proofs.Range.{leading-inside}
+use Rattle.ranges.proofs.Tests.{both}
+use Rattle.settings.proofs.Settled.{settled-of}
+use Rattle.domain.proofs.Refusals.{Sized, check-accepted, size-accepted, roomy-room}
 
 -- ---- points
 pub all-within : (bound : Float) (xs : List Float) → length xs % 3 ≡ 0 → length xs / 3 ≤ firstOutside bound xs → Within bound xs
@@ -49,39 +51,6 @@ cloud-finite {points = points} cloud k l =
     let x : Float = getD points k nan in
     let b = both (le (neg farthest) x) (le x farthest) (cloud .near k l) in
     between-finite (neg farthest) farthest x tt tt (subst T (sym (b .0)) tt) (subst T (sym (b .1)) tt)
-
--- ---- settings
-failing-none : (n : ℕ) (passes : Bool) (tests : List Bool) → (n ≡ 0 → ⊥) → firstFailing n (passes ∷ tests) ≡ 0 → (passes ≡ true) × (firstFailing (suc n) tests ≡ 0)
-unfolding firstFailing
-failing-none n true tests h e = (refl, e)
-failing-none n false tests h e = absurd (h e)
-
-slots-of : (lo hi : Float) (slots : List Float) (count : ℕ) → listInside lo hi slots count ≡ true → Slots lo hi slots count
-unfolding listInside
-slots-of lo hi slots count e =
-    let b = both _ _ e in
-    let most : count ≤ leading lo hi slots = leb-true count (leading lo hi slots) (b .1) in
-    record { few = leb-true count 8 (b .0); each = λ k l. leading-inside lo hi slots k (omega arith) }
-
-pub settled-of : (s : BallPivotingConfig) → firstBadSetting s ≡ 0 → Settled s
-unfolding firstBadSetting settingTests
-settled-of s e =
-    let one = failing-none 1 _ _ (λ h. omega arith) e in
-    let two = failing-none 2 _ _ (λ h. omega arith) (one .1) in
-    let three = failing-none 3 _ _ (λ h. omega arith) (two .1) in
-    let four = failing-none 4 _ _ (λ h. omega arith) (three .1) in
-    let five = failing-none 5 _ _ (λ h. omega arith) (four .1) in
-    let six = failing-none 6 _ _ (λ h. omega arith) (five .1) in
-    let seven = failing-none 7 _ _ (λ h. omega arith) (six .1) in
-    record {
-      main = one .0;
-      additional = slots-of _ _ _ _ (two .0);
-      percentiles = slots-of _ _ _ _ (three .0);
-      quality = four .0;
-      edge = five .0;
-      area = six .0;
-      cell = seven .0;
-    }
 
 -- ---- the calls
 pub accepted-estimate : (points : List Float) (percentile : Float) (words floats : ℕ) → estimateRefusal points percentile words floats .answer ≡ 0

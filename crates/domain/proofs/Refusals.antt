@@ -6,13 +6,10 @@ use Prim.Native.Nat.{ℕ, _+_, _*_, _/_, _%_, _≤_, _<_}
 use native.Mathlib.Omega.{arith}
 use lib.Dec.{leb, ltb, eqb}
 use borrow.Author.Tests.{lt-ltb, le-ltb, le-leb, lt-leb, eq-eqb, ne-eqb, ltb-true, leb-true, eqb-true}
+use Rattle.ranges.proofs.Tests.{both}
 use Rattle.domain.specs.Refusals.{Check, check, refusal, firstRefusal, sizeChecks, pointCheck, roomy}
 use Rattle.domain.specs.Accepted.{Room}
 use Rattle.domain.specs.declared.Refusal.{Refusal}
-
-pub both : (a b : Bool) → (a && b) ≡ true → (a ≡ true) × (b ≡ true)
-both true b e = (refl, e)
-both false b e = absurd (let z : _≡_ {A = ℕ} 0 1 = ap (λ (t : Bool). cond t 1 0) e in omega arith)
 
 module _ (c : Check) (rest : List Check) where
   pub check-passed : c .passes ≡ true → firstRefusal (c ∷ rest) ≡ firstRefusal rest
@@ -94,6 +91,12 @@ module _ (p q : ℕ) where
   pub size-sized : {answer : ℕ} → answer ≡ firstRefusal (sizeChecks p q) .answer → answer ≡ 0 → Sized p q
   size-sized is h = size-accepted [] (sym is ∙ h) .0
 
+-- ---- the work slices
+work-refusal : (room : Bool) → refusal (cond room 0 7) 0 ≡ firstRefusal (check room 7 0 ∷ [])
+unfolding firstRefusal
+work-refusal true = refl
+work-refusal false = refl
+
 -- ---- the rows of both calls: 1 to 3, 4, one more check, 7
 module _ {answer : ℕ} (p q : ℕ) (is : answer ≡ firstRefusal (sizeChecks p q) .answer) (n : ℕ) {found bad : ℕ} (found-is : found ≡ bad) (third : Check) (room : Bool) where
   abbrev pub row : List Check
@@ -115,12 +118,8 @@ module _ {answer : ℕ} (p q : ℕ) (is : answer ≡ firstRefusal (sizeChecks p 
       pub row-third : third .passes ≡ false → third .refusal ≡ firstRefusal row
       row-third h = sym (to-third ∙ check-failed third (check room 7 0 ∷ []) h)
 
-      pub row-room : third .passes ≡ true → room ≡ false → refusal 7 0 ≡ firstRefusal row
-      row-room h r = sym (to-third ∙ check-passed third (check room 7 0 ∷ []) h ∙ check-failed (check room 7 0) [] r)
-
-      pub row-end : third .passes ≡ true → room ≡ true → refusal 0 0 ≡ firstRefusal row
-      unfolding firstRefusal
-      row-end h r = sym (to-third ∙ check-passed third (check room 7 0 ∷ []) h ∙ check-passed (check room 7 0) [] r)
+      pub row-work : third .passes ≡ true → {work : ℕ} → work ≡ cond room 0 7 → refusal work 0 ≡ firstRefusal row
+      row-work h is-work = ap (λ (k : ℕ). refusal k 0) is-work ∙ work-refusal room ∙ sym (to-third ∙ check-passed third (check room 7 0 ∷ []) h)
 
 pub roomy-room : (n words floats : ℕ) → roomy n words floats ≡ true → Room n words floats
 unfolding roomy

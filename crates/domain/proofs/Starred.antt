@@ -9,10 +9,10 @@ use lib.ListN.{length}
 use lib.Ieee.{Float, nan, ofBits, ofFields, odd, le, lt, eq, neg}
 use lib.Count.{trailingZeros}
 use Rattle.numbers.specs.Rounded.{f32}
-use Rattle.domain.specs.Range.{inside, leading, firstOutside, farthest, percentileInside}
-use Rattle.domain.specs.Settings.{firstBadSetting}
-use Rattle.domain.specs.Refusals.{Check, check, refusal, firstRefusal, sizeChecks, pointCheck, settingCheck, roomy, firstBadPoint, estimateRefusal, reconstructRefusal}
-use Rattle.domain.specs.declared.BallPivotingConfig.{BallPivotingConfig}
+use Rattle.ranges.specs.Range.{inside, leading, firstOutside, firstBadPoint, farthest, percentileInside}
+use Rattle.settings.specs.Settings.{firstBadSetting}
+use Rattle.domain.specs.Refusals.{Check, check, refusal, firstRefusal, sizeChecks, pointCheck, settingCheck, roomy, estimateRefusal, reconstructRefusal}
+use Rattle.settings.specs.declared.BallPivotingConfig.{BallPivotingConfig}
 use Rattle.domain.specs.declared.Refusal.{Refusal}
 use Rattle.domain.proofs.Refusals.{Sized, size-good, size-many, size-refused, size-passed}
 

@@ -5,15 +5,9 @@ use mathlib.Core.Bool.{true}
 use mathlib.Core.List.{List}
 use lib.ListN.{length, getD}
 use lib.Ieee.{Float, nan, neg}
-use Rattle.numbers.specs.Rounded.{f32}
-use Rattle.domain.specs.Range.{inside, farthest, largest, percentileInside}
-use Rattle.domain.specs.Settings.{radiusInside, thresholdInside, cellFactorInside}
-use Rattle.domain.specs.declared.BallPivotingConfig.{BallPivotingConfig}
-
--- every one of the first `count` slots is inside lo to hi, and there are at most 8
-pub record Slots (lo hi : Float) (slots : List Float) (count : ℕ) : Type 0 where
-  pub few : count ≤ 8
-  pub each : (k : ℕ) → k < count → inside lo hi (getD slots k nan) ≡ true
+use Rattle.ranges.specs.Range.{inside, farthest, largest, percentileInside}
+use Rattle.settings.specs.Settled.{Settled}
+use Rattle.settings.specs.declared.BallPivotingConfig.{BallPivotingConfig}
 
 -- every value is inside -bound to bound
 abbrev pub Within : Float → List Float → Type 0
@@ -30,16 +24,6 @@ pub record Cloud (n : ℕ) (points : List Float) : Type 0 where
 pub record Room (n words floats : ℕ) : Type 0 where
   pub words-enough : 24 * n + 64 ≤ words
   pub floats-enough : 4 * n + 64 ≤ floats
-
--- every setting is in its range
-pub record Settled (s : BallPivotingConfig) : Type 0 where
-  pub main : radiusInside (s .radius) ≡ true
-  pub additional : Slots (f32 0x3a83126f) (f32 0x447a0000) (s .«additional_radii») (s .«additional_count»)
-  pub percentiles : Slots (f32 0) (f32 0x3f800000) (s .«adaptive_percentiles») (s .«percentile_count»)
-  pub quality : thresholdInside (s .«quality_threshold») ≡ true
-  pub edge : thresholdInside (s .«max_edge_factor») ≡ true
-  pub area : thresholdInside (s .«min_triangle_area») ≡ true
-  pub cell : cellFactorInside (s .«spatial_cell_factor») ≡ true
 
 pub record AcceptedEstimate (points : List Float) (percentile : Float) (words floats : ℕ) : Type 0 where
   pub cloud : Cloud (length points / 3) points

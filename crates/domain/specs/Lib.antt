@@ -1,5 +1,3 @@
--- What the crate's contracts cite, leaves first.
-pub mod Range
-pub mod Settings
+-- What the crate's contracts cite, and what acceptance gives.
 pub mod Refusals
 pub mod Accepted

@@ -1,13 +1,13 @@
 -- Why a cloud is turned away before any work is done: the scope's answers 1 to 7, in its order. Definitions only.
-use Prim.Native.Nat.{ℕ, _+_, _*_, _/_, _%_, min}
+use Prim.Native.Nat.{ℕ, _+_, _*_, _/_, _%_}
 use mathlib.Core.Bool.{Bool, cond, _&&_}
 use mathlib.Core.List.{List, [], _∷_, _++_}
 use lib.Dec.{leb, ltb, eqb}
 use lib.ListN.{length}
 use lib.Ieee.{Float}
-use Rattle.domain.specs.Range.{firstOutside, farthest, largest, percentileInside}
-use Rattle.domain.specs.Settings.{firstBadSetting}
-use Rattle.domain.specs.declared.BallPivotingConfig.{BallPivotingConfig}
+use Rattle.ranges.specs.Range.{firstOutside, firstBadPoint, farthest, percentileInside}
+use Rattle.settings.specs.Settings.{firstBadSetting}
+use Rattle.settings.specs.declared.BallPivotingConfig.{BallPivotingConfig}
 use Rattle.domain.specs.declared.Refusal.{Refusal}
 
 -- one check: whether it passes, and the refusal if it does not
@@ -25,10 +25,6 @@ check passes answer detail = record { passes = passes; refusal = refusal answer 
 unfoldable pub firstRefusal : List Check → Refusal
 firstRefusal [] = refusal 0 0
 firstRefusal (c ∷ cs) = cond (c .passes) (firstRefusal cs) (c .refusal)
-
--- the first point with a coordinate or a normal's component outside the domain; the number of points if there is none
-unfoldable pub firstBadPoint : List Float → List Float → ℕ
-firstBadPoint points normals = min (firstOutside farthest points) (firstOutside largest normals)
 
 -- work slices long enough for n points: 24n + 64 u32 and 4n + 64 f32
 unfoldable pub roomy : ℕ → ℕ → ℕ → Bool

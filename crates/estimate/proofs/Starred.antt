@@ -9,7 +9,7 @@ use Rattle.vector.specs.Vector.{difference, magnitudeSquared, magnitude, square
 use Rattle.points.specs.Points.{pointAt}
 use Rattle.sorting.specs.Insertion.{insertBefore}
 use Rattle.sorting.specs.Sorted.{insertAll, percentileOf}
-use Rattle.domain.specs.Range.{inside, leading, firstOutside, percentileInside}
+use Rattle.ranges.specs.Range.{inside, leading, firstOutside, percentileInside}
 use Rattle.domain.specs.Refusals.{firstRefusal, roomy, estimateRefusal}
 use Rattle.estimate.specs.Estimate.{nearer, nearestFrom, leastDistance, leastDistances, scaled, optimalRadius, estimate, estimateOf}
 

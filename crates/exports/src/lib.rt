@@ -12,8 +12,8 @@ ghost use Rattle.cloud.specs.Answers.{Answered, outcome};
 ghost use Rattle.ball_pivoting.specs.Outcome.{Reconstructs};
 use ball_pivoting::Patch;
 use cloud::CloudRead;
-use domain::BallPivotingConfig;
 use estimate::Estimate;
+use settings::BallPivotingConfig;
 use triangle::TriangleQuality;
 
 #[no_mangle]

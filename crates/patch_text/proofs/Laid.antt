@@ -9,9 +9,9 @@ use lib.ListN.{length, take, drop, length-append}
 use lib.Seq.{take-all, take-append-seam}
 use lib.Ieee.{Float}
 use borrow.Author.Tests.{eq-eqb, ne-eqb, le-leb, ltb-false, eqb-true, eqb-false}
-use Rattle.domain.specs.Settings.{defaults}
+use Rattle.settings.specs.Settings.{defaults}
 use Rattle.domain.specs.Refusals.{reconstructRefusal}
-use Rattle.domain.specs.declared.BallPivotingConfig.{BallPivotingConfig}
+use Rattle.settings.specs.declared.BallPivotingConfig.{BallPivotingConfig}
 use Rattle.domain.specs.declared.Refusal.{Refusal}
 use Rattle.domain.proofs.Accepted.{accepted-reconstruct}
 use Rattle.patch.specs.Lay.{Face}

@@ -6,7 +6,7 @@ use mathlib.Core.List.{List, map}
 use lib.Dec.{ltb, eqb}
 use lib.ListN.{length}
 use lib.Ieee.{Float}
-use Rattle.domain.specs.Settings.{defaults}
+use Rattle.settings.specs.Settings.{defaults}
 use Rattle.patch.specs.View as patch
 use Rattle.ball_pivoting.specs.Reconstruct.{Found, found, reconstructed}
 use Rattle.ball_pivoting.specs.declared.Patch.{Patch}

@@ -5,8 +5,8 @@ ghost use lib.ListN.{length};
 ghost use Prim.Native.Nat.{_/_};
 ghost use mathlib.Core.Path.{_≡_};
 ghost use Rattle.patch_text.specs.Text.{laidText, fileText, printed, Prints};
-use domain::BallPivotingConfig;
 use listing::Counts;
+use settings::BallPivotingConfig;
 
 // The most bytes that a file may have.
 pub const MOST_BYTES: usize = 65536;

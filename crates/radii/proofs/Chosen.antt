@@ -12,7 +12,7 @@ use Rattle.numbers.specs.Rounded.{f32, _⊗_}
 use Rattle.sorting.specs.Insertion.{Written}
 use Rattle.sorting.specs.Sorted.{insert, insertAll, sorted, percentileOf}
 use Rattle.sorting.proofs.Insertion.{insert-length}
-use Rattle.domain.specs.declared.BallPivotingConfig.{BallPivotingConfig}
+use Rattle.settings.specs.declared.BallPivotingConfig.{BallPivotingConfig}
 use Rattle.grid.specs.declared.SpatialGrid.{SpatialGrid}
 use Rattle.radii.specs.Radii.{dedup, candidates, radiiAt, densitiesFrom, stepOf, sampleCount, adaptiveRadii}
 use Rattle.radii.specs.Steps.{percentileRadius}

@@ -19,7 +19,7 @@ use Rattle.vector.specs.Vector.{squared}
 use Rattle.points.specs.Points.{pointAt, upFrom}
 use Rattle.sorting.specs.Sorted.{sorted, All}
 use Rattle.sorting.proofs.Rising.{all-take}
-use Rattle.domain.specs.declared.BallPivotingConfig.{BallPivotingConfig}
+use Rattle.settings.specs.declared.BallPivotingConfig.{BallPivotingConfig}
 use Rattle.grid.specs.declared.SpatialGrid.{SpatialGrid}
 use Rattle.grid.specs.Grid.{precedes, byCell, orderOf}
 use Rattle.grid.specs.Index.{Indexed, Below, keepIn}

@@ -22,7 +22,7 @@ use Rattle.points.specs.Points.{pointAt, stepsFrom}
 use Rattle.points.proofs.Steps.{steps-more, steps-none}
 use Rattle.sorting.specs.Insertion.{Written}
 use Rattle.sorting.specs.Sorted.{insert, insertAll, sorted, All, whole}
-use Rattle.domain.specs.declared.BallPivotingConfig.{BallPivotingConfig}
+use Rattle.settings.specs.declared.BallPivotingConfig.{BallPivotingConfig}
 use Rattle.grid.specs.declared.SpatialGrid.{SpatialGrid}
 use Rattle.grid.specs.Index.{Indexed}
 use Rattle.spatial_hash.specs.Near.{Finite}

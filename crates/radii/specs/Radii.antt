@@ -9,7 +9,7 @@ use Rattle.numbers.specs.Rounded.{f32, _⊕_, _⊖_, _⊗_, _⊘_}
 use Rattle.vector.specs.Vector.{distance}
 use Rattle.points.specs.Points.{pointAt, stepsFrom}
 use Rattle.sorting.specs.Sorted.{sorted, whole, percentileOf}
-use Rattle.domain.specs.declared.BallPivotingConfig.{BallPivotingConfig}
+use Rattle.settings.specs.declared.BallPivotingConfig.{BallPivotingConfig}
 use Rattle.grid.specs.Grid.{neighbors}
 use Rattle.grid.specs.declared.SpatialGrid.{SpatialGrid}
 

@@ -8,7 +8,7 @@ use lib.ListN.{length, take, drop, getD, replicate}
 use lib.Ieee.{Float, nan, lt}
 use Rattle.numbers.specs.Rounded.{f32, _⊖_, _⊗_}
 use Rattle.sorting.specs.Sorted.{insert, percentileOf}
-use Rattle.domain.specs.declared.BallPivotingConfig.{BallPivotingConfig}
+use Rattle.settings.specs.declared.BallPivotingConfig.{BallPivotingConfig}
 use Rattle.grid.specs.declared.SpatialGrid.{SpatialGrid}
 use Rattle.grid.specs.Index.{Indexed}
 use Rattle.spatial_hash.specs.declared.Hash.{Hash}

@@ -3,9 +3,9 @@ mod choice;
 mod nearest;
 mod samples;
 
-use domain::BallPivotingConfig;
 use grid::Cell;
 use grid::SpatialGrid;
+use settings::BallPivotingConfig;
 use spatial_hash::Hash;
 ghost use mathlib.Core.Path.{_≡_};
 ghost use Prim.Native.Nat.{_*_};

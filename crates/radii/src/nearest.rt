@@ -1,8 +1,8 @@
 // The least distances of a sample. Squares are compared, and roots taken only of the ten least; of the points those near by are looked at, through the spatial hash.
 // How near is a guess, which decides nothing: ten squares count only if none is above the limit that was looked within.
 use crate::Around;
-use domain::BallPivotingConfig;
 use grid::SpatialGrid;
+use settings::BallPivotingConfig;
 use spatial_hash::Hash;
 use vector::Point3f;
 ghost use mathlib.Core.Path.{_≡_};

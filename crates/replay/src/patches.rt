@@ -2,7 +2,7 @@
 use super::bits;
 use super::lent;
 use ball_pivoting::Patch;
-use domain::BallPivotingConfig;
+use settings::BallPivotingConfig;
 ghost use Prim.Native.Nat.{_≤_};
 ghost use lib.ListN.{length};
 

@@ -8,7 +8,7 @@ const EXPORTS: &str = include_str!("../../../crates/exports/src/lib.rt");
 const STRUCTS: [(&str, &str); 5] = [
     ("TriangleQuality", include_str!("../../../crates/triangle/src/lib.rt")),
     ("Estimate", include_str!("../../../crates/estimate/src/lib.rt")),
-    ("BallPivotingConfig", include_str!("../../../crates/domain/src/lib.rt")),
+    ("BallPivotingConfig", include_str!("../../../crates/settings/src/lib.rt")),
     ("Patch", include_str!("../../../crates/ball_pivoting/src/lib.rt")),
     ("CloudRead", include_str!("../../../crates/cloud/src/lib.rt")),
 ];

@@ -1,7 +1,7 @@
 -- `domain::refusal_of_estimate` meets its contract. Assumes nothing.
-use Rattle.domain.specs.Range.{percentileInside}
-use Rattle.domain.proofs.Refusals.{size-refused, size-sized, row-point, row-third, row-room, row-end}
-use Rattle.domain.proofs.Tests.{passed, failed}
+use Rattle.ranges.specs.Range.{percentileInside}
+use Rattle.domain.proofs.Refusals.{size-refused, size-sized, row-point, row-third, row-work}
+use Rattle.ranges.proofs.Tests.{passed, failed}
 use Rattle.domain.specs.Refusals.{check, roomy, estimateRefusal}
 use native.Mathlib.Omega.{arith}
 use lib.ListN.{length}
@@ -39,20 +39,14 @@ returns-3 c =
     let a = c .before .before .before .before .before .before .before .args in
     row-third (length (a .points .now)) (length (a .points .now)) (c .before .before .before .before .before .size-answer .ensures) (length (a .points .now) / 3) (c .before .before .before .first-outside .ensures) (check (percentileInside (a .percentile)) 6 0) (roomy (length (a .points .now) / 3) (a .words) (a .floats)) (c .before .before .before .before .if1 .left) (c .before .before .if2 .left) (failed (c .before .percentile-ok .ensures) (c .if3 .taken))
 
-work-ok-requires : tie.Need-work-ok-requires
-work-ok-requires c κs = size-sized _ _ (c .before .before .before .before .before .size-answer .ensures) (c .before .before .before .before .if1 .left) .few
+work-answer-requires : tie.Need-work-answer-requires
+work-answer-requires c κs = size-sized _ _ (c .before .before .before .before .before .size-answer .ensures) (c .before .before .before .before .if1 .left) .few
 
 returns-4 : tie.Need-returns-4
 unfolding estimateRefusal
 returns-4 c =
-    let a = c .before .before .before .before .before .before .before .before .before .args in
-    row-room (length (a .points .now)) (length (a .points .now)) (c .before .before .before .before .before .before .before .size-answer .ensures) (length (a .points .now) / 3) (c .before .before .before .before .before .first-outside .ensures) (check (percentileInside (a .percentile)) 6 0) (roomy (length (a .points .now) / 3) (a .words) (a .floats)) (c .before .before .before .before .before .before .if1 .left) (c .before .before .before .before .if2 .left) (passed (c .before .before .before .percentile-ok .ensures) (c .before .before .if3 .left)) (failed (c .before .work-ok .ensures) (c .if4 .taken))
-
-returns-5 : tie.Need-returns-5
-unfolding estimateRefusal
-returns-5 c =
-    let a = c .before .before .before .before .before .before .before .before .before .args in
-    row-end (length (a .points .now)) (length (a .points .now)) (c .before .before .before .before .before .before .before .size-answer .ensures) (length (a .points .now) / 3) (c .before .before .before .before .before .first-outside .ensures) (check (percentileInside (a .percentile)) 6 0) (roomy (length (a .points .now) / 3) (a .words) (a .floats)) (c .before .before .before .before .before .before .if1 .left) (c .before .before .before .before .if2 .left) (passed (c .before .before .before .percentile-ok .ensures) (c .before .before .if3 .left)) (passed (c .before .work-ok .ensures) (c .if4 .left))
+    let a = c .before .before .before .before .before .before .before .before .args in
+    row-work (length (a .points .now)) (length (a .points .now)) (c .before .before .before .before .before .before .size-answer .ensures) (length (a .points .now) / 3) (c .before .before .before .before .first-outside .ensures) (check (percentileInside (a .percentile)) 6 0) (roomy (length (a .points .now) / 3) (a .words) (a .floats)) (c .before .before .before .before .before .if1 .left) (c .before .before .before .if2 .left) (passed (c .before .before .percentile-ok .ensures) (c .before .if3 .left)) (c .work-answer .ensures)
 
 pub refusal-of-estimate-spec : {M : Type 1} → statement M
 refusal-of-estimate-spec =
@@ -65,6 +59,5 @@ refusal-of-estimate-spec =
     returns-2
     percentile-ok-requires
     returns-3
-    work-ok-requires
-    returns-4
-    returns-5)
+    work-answer-requires
+    returns-4)

@@ -1,8 +1,7 @@
 -- `domain::refusal_of_reconstruct` meets its contract. Assumes nothing.
 use borrow.Author.Tests.{eq-eqb, ne-eqb}
-use Rattle.domain.specs.Settings.{firstBadSetting}
-use Rattle.domain.proofs.Refusals.{size-refused, size-sized, row-point, row-third, row-room, row-end}
-use Rattle.domain.proofs.Tests.{passed, failed}
+use Rattle.settings.specs.Settings.{firstBadSetting}
+use Rattle.domain.proofs.Refusals.{size-refused, size-sized, row-point, row-third, row-work}
 use Rattle.domain.specs.Refusals.{refusal, settingCheck, roomy, reconstructRefusal}
 use native.Mathlib.Omega.{arith}
 use lib.ListN.{length}
@@ -42,20 +41,14 @@ returns-3 c =
     (let a = c .before .before .before .before .before .before .before .before .args in
     row-third (length (a .points .now)) (length (a .normals .now)) (c .before .before .before .before .before .size-answer .ensures) (length (a .points .now) / 3) (c .before .before .before .first-bad-point .ensures) (settingCheck (firstBadSetting (a .settings))) (roomy (length (a .points .now) / 3) (a .words) (a .floats)) (c .before .before .before .before .if1 .left) (c .before .before .if2 .left) (ne-eqb _ 0 (λ z. c .if3 .taken (e ∙ z))))
 
-work-ok-requires : tie.Need-work-ok-requires
-work-ok-requires c κs = size-sized _ _ (c .before .before .before .before .before .size-answer .ensures) (c .before .before .before .before .if1 .left) .few
+work-answer-requires : tie.Need-work-answer-requires
+work-answer-requires c κs = size-sized _ _ (c .before .before .before .before .before .size-answer .ensures) (c .before .before .before .before .if1 .left) .few
 
 returns-4 : tie.Need-returns-4
 unfolding reconstructRefusal
 returns-4 c =
-    let a = c .before .before .before .before .before .before .before .before .before .before .args in
-    row-room (length (a .points .now)) (length (a .normals .now)) (c .before .before .before .before .before .before .before .size-answer .ensures) (length (a .points .now) / 3) (c .before .before .before .before .before .first-bad-point .ensures) (settingCheck (firstBadSetting (a .settings))) (roomy (length (a .points .now) / 3) (a .words) (a .floats)) (c .before .before .before .before .before .before .if1 .left) (c .before .before .before .before .if2 .left) (eq-eqb _ 0 (sym (c .before .before .before .first-bad-setting .ensures) ∙ c .before .before .if3 .left)) (failed (c .before .work-ok .ensures) (c .if4 .taken))
-
-returns-5 : tie.Need-returns-5
-unfolding reconstructRefusal
-returns-5 c =
-    let a = c .before .before .before .before .before .before .before .before .before .before .args in
-    row-end (length (a .points .now)) (length (a .normals .now)) (c .before .before .before .before .before .before .before .size-answer .ensures) (length (a .points .now) / 3) (c .before .before .before .before .before .first-bad-point .ensures) (settingCheck (firstBadSetting (a .settings))) (roomy (length (a .points .now) / 3) (a .words) (a .floats)) (c .before .before .before .before .before .before .if1 .left) (c .before .before .before .before .if2 .left) (eq-eqb _ 0 (sym (c .before .before .before .first-bad-setting .ensures) ∙ c .before .before .if3 .left)) (passed (c .before .work-ok .ensures) (c .if4 .left))
+    let a = c .before .before .before .before .before .before .before .before .before .args in
+    row-work (length (a .points .now)) (length (a .normals .now)) (c .before .before .before .before .before .before .size-answer .ensures) (length (a .points .now) / 3) (c .before .before .before .before .first-bad-point .ensures) (settingCheck (firstBadSetting (a .settings))) (roomy (length (a .points .now) / 3) (a .words) (a .floats)) (c .before .before .before .before .before .if1 .left) (c .before .before .before .if2 .left) (eq-eqb _ 0 (sym (c .before .before .first-bad-setting .ensures) ∙ c .before .if3 .left)) (c .work-answer .ensures)
 
 pub refusal-of-reconstruct-spec : {M : Type 1} → statement M
 refusal-of-reconstruct-spec =
@@ -68,6 +61,5 @@ refusal-of-reconstruct-spec =
     returns-2
     first-bad-setting-requires
     returns-3
-    work-ok-requires
-    returns-4
-    returns-5)
+    work-answer-requires
+    returns-4)

@@ -1,0 +1,2 @@
+-- The law of the loops.
+pub mod Cleared

@@ -1,0 +1,3 @@
+-- Laws of the definitions and of tests.
+pub mod Tests
+pub mod Range

@@ -1,0 +1,2 @@
+-- What holds of settings that are accepted.
+pub mod Settled
