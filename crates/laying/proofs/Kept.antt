@@ -22,12 +22,14 @@ use Rattle.patch.specs.Search.{unused}
 use Rattle.patch.proofs.Counts.{either}
 use Rattle.spatial_hash.specs.declared.Hash.{Hash}
 use Rattle.decisions.specs.declared.Scene.{Scene}
-use Rattle.search.specs.declared.Seed.{Seed}
-use Rattle.search.specs.declared.Seed.the-variants.{Triangle, Nothing}
-use Rattle.search.specs.declared.Pivot.{Pivot}
-use Rattle.search.specs.declared.Pivot.the-variants.{To, Nowhere}
-use Rattle.search.specs.Ready.{Kept, seedFound, pivotFound}
-use Rattle.search.proofs.Keeping.{held-kept, hashed-search}
+use Rattle.nearby.specs.Ready.{Kept}
+use Rattle.nearby.proofs.Keeping.{held-kept, hashed-search}
+use Rattle.pivot.specs.declared.Pivot.{Pivot}
+use Rattle.pivot.specs.declared.Pivot.the-variants.{To, Nowhere}
+use Rattle.pivot.specs.Found.{pivotFound}
+use Rattle.seed.specs.declared.Seed.{Seed}
+use Rattle.seed.specs.declared.Seed.the-variants.{Triangle, Nothing}
+use Rattle.seed.specs.Found.{seedFound}
 use Rattle.frontier.specs.declared.Counts.{Counts}
 use Rattle.frontier.specs.Work.{usedIn, Holds, Sized, OnlyIn}
 use Rattle.frontier.proofs.Slices.{before-same, after-same, only-wider}

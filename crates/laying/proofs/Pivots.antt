@@ -24,9 +24,10 @@ use Rattle.spatial_hash.specs.Near.{Removed}
 use Rattle.decisions.specs.declared.Scene.{Scene}
 use Rattle.decisions.specs.Decisions.{floatsOf}
 use Rattle.decisions.proofs.Within.{within}
-use Rattle.search.specs.declared.Pivot.{Pivot}
-use Rattle.search.specs.declared.Pivot.the-variants.{To, Nowhere}
-use Rattle.search.specs.Ready.{Kept, usedIn, pivotFound}
+use Rattle.nearby.specs.Ready.{Kept, usedIn}
+use Rattle.pivot.specs.declared.Pivot.{Pivot}
+use Rattle.pivot.specs.declared.Pivot.the-variants.{To, Nowhere}
+use Rattle.pivot.specs.Found.{pivotFound}
 use Rattle.frontier.specs.declared.Counts.{Counts}
 use Rattle.frontier.specs.Work.{Holds, Takes, Alone, Open, Misses, Ready, Room, OnlyIn}
 use Rattle.frontier.proofs.Work.{ready}

@@ -19,9 +19,10 @@ use Rattle.patch.proofs.Laying.{Rest, room, layAll-rest, blank-rest}
 use Rattle.patch.proofs.Pops.{heapOf-keeps}
 use Rattle.spatial_hash.specs.declared.Hash.{Hash}
 use Rattle.decisions.specs.declared.Scene.{Scene}
-use Rattle.search.specs.declared.Seed.{Seed}
-use Rattle.search.specs.declared.Seed.the-variants.{Triangle, Nothing}
-use Rattle.search.specs.Ready.{Kept, usedIn, seedFound}
+use Rattle.nearby.specs.Ready.{Kept, usedIn}
+use Rattle.seed.specs.declared.Seed.{Seed}
+use Rattle.seed.specs.declared.Seed.the-variants.{Triangle, Nothing}
+use Rattle.seed.specs.Found.{seedFound}
 use Rattle.frontier.specs.declared.Counts.{Counts}
 use Rattle.frontier.specs.Work.{Holds, Takes, Begins, Clears, NoneProcessed, Room, OnlyIn}
 use Rattle.frontier.proofs.Work.{ready}

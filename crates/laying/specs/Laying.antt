@@ -19,7 +19,7 @@ use Rattle.spatial_hash.specs.Near.{Linked, Hashed, HashedAll}
 use Rattle.spatial_hash.specs.Buckets.{linksOf, isOut}
 use Rattle.decisions.specs.declared.Scene.{Scene}
 use Rattle.decisions.specs.Decisions.{floatsOf}
-use Rattle.search.specs.Ready.{Held}
+use Rattle.nearby.specs.Ready.{Held}
 use Rattle.frontier.specs.declared.Counts.{Counts}
 use Rattle.frontier.specs.Work.{Holds, Takes}
 

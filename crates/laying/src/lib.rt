@@ -1,8 +1,8 @@
 // Ball pivoting over the lent slices: a look at an entry, the looks of one radius, and the radii in turn.
 use decisions::Scene;
 use frontier::Counts;
-use search::Pivot;
-use search::Seed;
+use pivot::Pivot;
+use seed::Seed;
 use spatial_hash::Hash;
 ghost use Prim.Native.Nat.{_*_, _≤_, _<_};
 ghost use lib.ListN.{take};
@@ -30,7 +30,7 @@ fn pivot_over(
     requires { ⌜ Pivoting s hash (now points) c (now w) (now faces) (edge a b) ⌝ }
     ensures { λ r. ⌜ Lays s hash (now (points .entry)) (Opened (s .n) (edge a b)) (pivotOver s (now (points .entry)) radius (edge a b)) c (now (w .entry)) (now (faces .entry)) r (now (w .exit)) (now (faces .exit)) ⌝ }
 {
-    let found = search::try_ball_pivot(s, points, w, radius, a as usize, b as usize, hash);
+    let found = pivot::try_ball_pivot(s, points, w, radius, a as usize, b as usize, hash);
     match found {
         Pivot::To(k) => {
             spatial_hash::remove(points, w, s.n, hash, k);
@@ -107,7 +107,7 @@ fn lay_one(
     ensures { λ r. ⌜ Lays s hash (now (points .entry)) (Rest (s .n)) (layOne (rulesOf s (now (points .entry))) heapOf (s .n) radius) before (now (w .entry)) (now (faces .entry)) r (now (w .exit)) (now (faces .exit)) ⌝ }
 {
     let c = frontier::clear(before);
-    let seed = search::find_seed_triangle(s, points, w, radius, hash);
+    let seed = seed::find_seed_triangle(s, points, w, radius, hash);
     match seed {
         Seed::Triangle(i, j, k) => {
             remove_three(points, w, s.n, hash, i, j, k);

@@ -11,8 +11,8 @@ use Rattle.area_bounds.specs.AreaBound.{crossSquared, AreaLimit, TooLong, Large
 use Rattle.thin.specs.Thin.{ThinLimit, AllThin}
 use Rattle.spatial_hash.specs.Near.{Limit}
 use Rattle.decisions.specs.declared.Scene.{Scene}
-use Rattle.refusals.specs.declared.Limits.{Limits}
 use Rattle.decisions.specs.Decisions.{reach, accepts}
+use Rattle.refusals.specs.declared.Limits.{Limits}
 
 -- triangles with an area below m are refused at every radius
 pub record Least (s : Scene) (m : Float) : Type 0 where

@@ -1,0 +1,39 @@
+-- A point that is used or too far away has no score. Assumes nothing.
+use Prim.Native.Nat.{ℕ}
+use mathlib.Core.Path.{_≡_, sym, _∙_, subst}
+use mathlib.Core.Logic.{_⊎_, ⊎-elim}
+use mathlib.Core.Bool.{true, false, not, _&&_}
+use mathlib.Core.List.{List}
+use mathlib.Core.Option.{none}
+use lib.Dec.{T, eqb}
+use lib.Ieee.{Float, lt, le}
+use Rattle.numbers.proofs.OrderLaws.{le-not-lt}
+use Rattle.patch.specs.Lay.{edge}
+use Rattle.patch.specs.Search.{unused, scoreOf}
+use Rattle.patch.proofs.Counts.{either, not-true}
+use Rattle.decisions.specs.declared.Scene.{Scene}
+use Rattle.decisions.specs.Decisions.{apart, scoreAt, floatsOf}
+use Rattle.nearby.proofs.Ordered.{and-false}
+use Rattle.pivot.proofs.Laws.{met, not-met}
+
+module _ (s : Scene) (pts : List Float) (r : Float) (used : List ℕ) where
+  -- a pivot's point is within the radius of both ends of the edge
+  module _ (a b k : ℕ) where
+    too-far : (i : ℕ) → lt r (apart pts k i) ≡ true → le (apart pts k i) r ≡ false
+    too-far i h = not-true (λ e. le-not-lt (apart pts k i) r (subst T (sym e) tt) (subst T (sym h) tt))
+
+    score-far : lt r (apart pts k a) ≡ true → scoreAt s pts r (edge a b) k ≡ none
+    unfolding scoreAt
+    score-far h = rw (too-far a h)
+
+    unmet : scoreAt s pts r (edge a b) k ≡ none → scoreOf (floatsOf s pts) r used (edge a b) k ≡ none
+    unfolding floatsOf
+    unmet h = ⊎-elim
+        (λ (t : (not (eqb k a) && (not (eqb k b) && unused used k)) ≡ true). sym (met (floatsOf s pts) r used (edge a b) k t) ∙ h)
+        (λ (t : (not (eqb k a) && (not (eqb k b) && unused used k)) ≡ false). not-met (floatsOf s pts) r used (edge a b) k t)
+        (either (not (eqb k a) && (not (eqb k b) && unused used k)))
+
+    pub score-out : (unused used k ≡ false) ⊎ (lt r (apart pts k a) ≡ true) → scoreOf (floatsOf s pts) r used (edge a b) k ≡ none
+    score-out = ⊎-elim
+        (λ (u : unused used k ≡ false). not-met (floatsOf s pts) r used (edge a b) k (rw u (rw (and-false (not (eqb k b))) (and-false (not (eqb k a))))))
+        (λ (f : lt r (apart pts k a) ≡ true). unmet (score-far f))

@@ -1,0 +1,5 @@
+pub mod Laws
+pub mod Leading
+pub mod LeftOut
+pub mod Steps
+pub mod State

@@ -1,0 +1,163 @@
+// The search for a pivot's point: the best of the candidates, which are looked at in any order.
+use crate::Pivot;
+use decisions::Scene;
+use decisions::Score;
+use nearby::Filter;
+use scores::Side;
+use spatial_hash::Hash;
+ghost use mathlib.Core.Path.{_≡_};
+ghost use mathlib.Core.Bool.{not, _&&_, _||_};
+ghost use mathlib.Core.Option.{none};
+ghost use Prim.Native.Nat.{_*_, _<_, _≤_, _+_};
+ghost use lib.ListN.{length};
+ghost use lib.Ieee.{lt};
+ghost use Rattle.numbers.specs.Rounded.{f32};
+ghost use Rattle.points.specs.Points.{pointAt};
+ghost use Rattle.grid.specs.Grid.{inRange};
+ghost use Rattle.grid.specs.Index.{cellIn, Cells, Indexed, earlier};
+ghost use Rattle.spatial_hash.specs.Near.{Limit, Hashed};
+ghost use Rattle.patch.specs.Lay.{edge};
+ghost use Rattle.patch.specs.Search.{scoreOf, bestOf};
+ghost use Rattle.decisions.specs.Decisions.{floatsOf};
+ghost use Rattle.decisions.specs.Found.{scoreFound, atLeast};
+ghost use Rattle.scores.specs.Over.{sideOf, Thinned};
+ghost use Rattle.nearby.specs.Ready.{Held, Listed, Kept, usedIn, listed};
+ghost use Rattle.nearby.specs.Narrow.{cellAt};
+ghost use Rattle.pivot.specs.Found.{pivotFound, pointOf, Met};
+ghost use Rattle.pivot.specs.Best.{isBefore, ahead, leader, scoreIn};
+
+// The score of point k over the edge a, b, if it may be met and the score is not below `top`.
+fn score_of(
+    s: Scene,
+    points: &[f32],
+    w: &[u32],
+    radius: f32,
+    limit: f32,
+    a: usize,
+    b: usize,
+    k: usize,
+    side: Side,
+    top: f32,
+    thin: f32,
+) -> Score
+    requires { ⌜ Held s (now points) (now w) × (k < s .n) × (side ≡ sideOf (pointAt (now points) a) (pointAt (now points) b)) × Limit radius limit × Thinned top thin ⌝ }
+    ensures { λ r. ⌜ r ≡ scoreFound (atLeast top (scoreOf (floatsOf s (now (points .entry))) radius (usedIn s (now (w .entry))) (edge a b) k)) ⌝ }
+{
+    if k == a {
+        return Score::None;
+    }
+    if k == b {
+        return Score::None;
+    }
+    if !nearby::is_unused(s, w, k) {
+        return Score::None;
+    }
+    let t = points::point_at(points, k);
+    scores::score_over(s, radius, limit, side, t, top, thin)
+}
+
+// Whether point k comes before the best one so far, if there is one.
+fn is_before(s: Scene, w: &[u32], k: usize, best: Pivot) -> bool
+    requires { ⌜ Met s best × (k < s .n) × (s .n ≤ 4096) × (4 * s .n ≤ length (now w)) ⌝ }
+    ensures { λ r. ⌜ r ≡ isBefore (earlier (s .indexed) (cellIn (now (w .entry)) (s .n))) k (pointOf best) ⌝ }
+{
+    if let Pivot::To(j) = best {
+        return grid::order::comes_first(w, s.n, s.indexed, k, j);
+    }
+    false
+}
+
+// Whether point k, a neighbour if its cell is near enough, becomes the best with a score that is not below `top`.
+fn is_ahead(s: Scene, w: &[u32], f: Filter, k: usize, score: f32, top: f32, best: Pivot) -> bool
+    requires { ⌜ Met s best × (k < s .n) × (s .n ≤ 4096) × (4 * s .n ≤ length (now w)) ⌝ }
+    ensures { λ r. ⌜ r ≡ ((not (s .indexed) || inRange (f .range) (f .cell) (cellIn (now (w .entry)) (s .n) k))
+        && (lt top score || isBefore (earlier (s .indexed) (cellIn (now (w .entry)) (s .n))) k (pointOf best))) ⌝ }
+{
+    if !grid::search::is_near(w, s.n, s.indexed, f.range, f.cell, k) {
+        return false;
+    }
+    if score > top {
+        return true;
+    }
+    is_before(s, w, k, best)
+}
+
+// The score of point k if it becomes the best: if it is above `top`, or as high and k comes before the best so far.
+fn score_ahead(
+    s: Scene,
+    points: &[f32],
+    w: &[u32],
+    radius: f32,
+    f: Filter,
+    a: usize,
+    b: usize,
+    k: usize,
+    side: Side,
+    top: f32,
+    thin: f32,
+    best: Pivot,
+) -> Score
+    requires { ⌜ Held s (now points) (now w) × Cells (s .grid) (now points) (s .n) (now w) × (k < s .n) × (side ≡ sideOf (pointAt (now points) a) (pointAt (now points) b)) × Limit radius (f .limit) × Thinned top thin × Met s best ⌝ }
+    ensures { λ r. ⌜ r ≡ scoreFound (ahead (earlier (s .indexed) (cellAt (s .grid) (now (points .entry)))) top (pointOf best) k (scoreIn s (now (points .entry)) radius (usedIn s (now (w .entry))) f (edge a b) k)) ⌝ }
+{
+    if let Score::Of(x) = score_of(s, points, w, radius, f.limit, a, b, k, side, top, thin) {
+        if is_ahead(s, w, f, k, x, top, best) {
+            return Score::Of(x);
+        }
+    }
+    Score::None
+}
+
+// Of the listed points that are neighbours the one with the highest score above 0, the first in their order on equality.
+fn best_of(
+    s: Scene,
+    points: &[f32],
+    w: &[u32],
+    count: usize,
+    radius: f32,
+    f: Filter,
+    a: usize,
+    b: usize,
+) -> Pivot
+    requires { ⌜ Held s (now points) (now w) × Cells (s .grid) (now points) (s .n) (now w) × Listed s (now w) count × (a < s .n) × (b < s .n) × Limit radius (f .limit) ⌝ }
+    ensures { λ r. ⌜ r ≡ pivotFound (leader (earlier (s .indexed) (cellAt (s .grid) (now (points .entry)))) (scoreIn s (now (points .entry)) radius (usedIn s (now (w .entry))) f (edge a b)) (listed s (now (w .entry)) count) (f32 0) none) ⌝ }
+{
+    let at = 4 * s.n;
+    let p = points::point_at(points, a);
+    let side = scores::side_of(p, points::point_at(points, b));
+    let mut top = 0.0;
+    let mut thin = scores::thin_at(0.0);
+    let mut best = Pivot::Nowhere;
+    let mut m: usize = 0;
+    while m < count {
+        let k = w[at + m] as usize;
+        m += 1;
+        if let Score::Of(x) = score_ahead(s, points, w, radius, f, a, b, k, side, top, thin, best) {
+            top = x;
+            thin = scores::thin_at(x);
+            best = Pivot::To(k);
+        }
+    }
+    best
+}
+
+// The best point over the edge a, b.
+pub fn find_best(
+    s: Scene,
+    points: &[f32],
+    w: &mut [u32],
+    radius: f32,
+    a: usize,
+    b: usize,
+    hash: Hash,
+) -> Pivot
+    requires { ⌜ Held s (now points) (now w) × Indexed (s .grid) (now points) (s .n) (now w) × Hashed hash (now points) (s .n) (now w) × (a < s .n) × (b < s .n) ⌝ }
+    ensures { λ r. ⌜ (r ≡ pivotFound (bestOf (floatsOf s (now (points .entry))) radius (usedIn s (now (w .entry))) (edge a b) (floatsOf s (now (points .entry)) .around radius (edge a b)) (f32 0) none))
+        × Kept s (now (w .entry)) (now (w .exit)) ⌝ }
+{
+    let p = points::point_at(points, a);
+    let place = decisions::middle_of(p, points::point_at(points, b));
+    let f = nearby::filter_of(s, p, place, radius);
+    let found = nearby::gather_near(s, points, w, f, radius * 1.001, hash);
+    best_of(s, points, w, found, radius, f, a, b)
+}

@@ -1,0 +1,103 @@
+-- The search for a seed finds the same if points are left out that it can't choose, such as are used or too far away. Assumes nothing.
+use Prim.Native.Nat.{ℕ, _<_}
+use mathlib.Core.Path.{_≡_, refl, sym, ap, _∙_}
+use mathlib.Core.Logic.{_⊎_, ⊎-elim}
+use mathlib.Core.Bool.{Bool, true, false, cond, not, _&&_}
+use mathlib.Core.List.{List, [], _∷_}
+use mathlib.Core.Option.{Option, none}
+use lib.Dec.{eqb}
+use lib.Ieee.{Float, lt}
+use Rattle.vector.specs.Vector.{distance}
+use Rattle.vector.specs.declared.Point3f.{Point3f}
+use Rattle.vector.proofs.Distances.{FinitePoint, distance-swap}
+use Rattle.points.specs.Points.{pointAt}
+use Rattle.spatial_hash.specs.Near.{Finite}
+use Rattle.grid.specs.Index.{Below}
+use Rattle.patch.specs.Search.{Floats, unused, isSecond, isThird, thirdOf, secondOf}
+use Rattle.patch.proofs.Counts.{either}
+use Rattle.decisions.specs.declared.Scene.{Scene}
+use Rattle.decisions.specs.Decisions.{reach, apart, isClose, accepts, qualityAt, floatsOf}
+use Rattle.nearby.specs.Narrow.{only}
+use Rattle.nearby.proofs.Ordered.{and-false}
+use Rattle.seed.specs.Found.{withSecond}
+use Rattle.seed.proofs.Laws.{orElse, else-miss, third-hit, third-miss, second-not, second-step, second-end}
+
+-- ---- whatever fails the test can't be chosen
+module _ {R : Type 0} (floats : Floats R) (r : R) (used : List ℕ) (test : ℕ → Bool) where
+  module _ (n : ℕ) where
+    pub third-only : (i j : ℕ) → ((k : ℕ) → k < n → test k ≡ false → isThird floats r used i j k ≡ false) → (ks : List ℕ) → Below n ks → thirdOf floats r used i j (only test ks) ≡ thirdOf floats r used i j ks
+    unfolding only
+    third-only i j h [] b = refl
+    third-only i j h (k ∷ ks) b = go (test k) refl (third-only i j h ks (b .1))
+      where
+        go : (t : Bool) → test k ≡ t → thirdOf floats r used i j (only test ks) ≡ thirdOf floats r used i j ks → thirdOf floats r used i j (cond t (k ∷ only test ks) (only test ks)) ≡ thirdOf floats r used i j (k ∷ ks)
+        go true t ih = ⊎-elim
+            (λ (y : isThird floats r used i j k ≡ true). third-hit floats r used i j k (only test ks) y ∙ sym (third-hit floats r used i j k ks y))
+            (λ (y : isThird floats r used i j k ≡ false). third-miss floats r used i j k (only test ks) y ∙ ih ∙ sym (third-miss floats r used i j k ks y))
+            (either (isThird floats r used i j k))
+        go false t ih = ih ∙ sym (third-miss floats r used i j k ks (h k (b .0) t))
+
+    with-thirds : (i j : ℕ) (ks : List ℕ) → thirdOf floats r used i j (only test ks) ≡ thirdOf floats r used i j ks → withSecond floats r used i (only test ks) j ≡ withSecond floats r used i ks j
+    unfolding withSecond
+    with-thirds i j ks e = ap (λ (o : Option (ℕ × ℕ × ℕ)). elim (isSecond floats r used i j) as (λ c. Option (ℕ × ℕ × ℕ)) [ true ↦ o | false ↦ none ]) e
+
+    -- as third points
+    pub second-thirds : (i : ℕ) → ((j k : ℕ) → k < n → test k ≡ false → isThird floats r used i j k ≡ false) → (ks : List ℕ) → Below n ks → (js : List ℕ) → secondOf floats r used i (only test ks) js ≡ secondOf floats r used i ks js
+    second-thirds i h ks b [] = second-end floats r used i (only test ks) ∙ sym (second-end floats r used i ks)
+    second-thirds i h ks b (j ∷ js) =
+        second-step floats r used i (only test ks) j js
+        ∙ ap (λ (o : Option (ℕ × ℕ × ℕ)). orElse o (secondOf floats r used i (only test ks) js)) (with-thirds i j ks (third-only i j (h j) ks b))
+        ∙ ap (orElse (withSecond floats r used i ks j)) (second-thirds i h ks b js)
+        ∙ sym (second-step floats r used i ks j js)
+
+    -- as second points
+    pub second-only : (i : ℕ) → ((j : ℕ) → j < n → test j ≡ false → isSecond floats r used i j ≡ false) → (ks js : List ℕ) → Below n js → secondOf floats r used i ks (only test js) ≡ secondOf floats r used i ks js
+    unfolding only
+    second-only i h ks [] b = refl
+    second-only i h ks (j ∷ js) b = go (test j) refl (second-only i h ks js (b .1))
+      where
+        go : (t : Bool) → test j ≡ t → secondOf floats r used i ks (only test js) ≡ secondOf floats r used i ks js → secondOf floats r used i ks (cond t (j ∷ only test js) (only test js)) ≡ secondOf floats r used i ks (j ∷ js)
+        go true t ih = second-step floats r used i ks j (only test js) ∙ ap (orElse (withSecond floats r used i ks j)) ih ∙ sym (second-step floats r used i ks j js)
+        go false t ih = ih ∙ sym (second-step floats r used i ks j js ∙ else-miss (withSecond floats r used i ks j) (secondOf floats r used i ks js) (sym (second-not floats r used i j ks (h j (b .0) t))))
+
+-- ---- what is left out of a list of points
+pub only-below : (test : ℕ → Bool) (n : ℕ) (ks : List ℕ) → Below n ks → Below n (only test ks)
+unfolding only
+only-below test n [] b = tt
+only-below test n (k ∷ ks) b = go (test k) (only-below test n ks (b .1))
+  where
+    go : (t : Bool) → Below n (only test ks) → Below n (cond t (k ∷ only test ks) (only test ks))
+    go true ih = (b .0, ih)
+    go false ih = ih
+
+-- ---- which points can't be chosen
+
+-- a conjunction of which a part fails
+and-nothing : (x y u c z : Bool) → (u && c) ≡ false → (x && (y && (u && (c && z)))) ≡ false
+and-nothing false y u c z h = refl
+and-nothing true false u c z h = refl
+and-nothing true true false c z h = refl
+and-nothing true true true c z h = rw h
+
+pub finite-point : {p : Point3f} → Finite p → FinitePoint p
+finite-point f = record { finite-x = f .x-finite; finite-y = f .y-finite; finite-z = f .z-finite }
+
+module _ (s : Scene) (pts : List Float) (r : Float) (used : List ℕ) where
+  -- a seed's other points are within twice the radius of the first
+  close-far : (i k : ℕ) → Finite (pointAt pts i) → Finite (pointAt pts k) → lt (reach r) (apart pts k i) ≡ true → isClose pts r i k ≡ false
+  unfolding isClose apart
+  close-far i k fi fk h =
+      let e : distance (pointAt pts i) (pointAt pts k) ≡ distance (pointAt pts k) (pointAt pts i) = distance-swap (pointAt pts i) (pointAt pts k) (finite-point fi) (finite-point fk) in
+      ap (λ (d : Float). not (lt (reach r) d)) e ∙ ap not h
+
+  module _ (i k : ℕ) (fi : Finite (pointAt pts i)) (fk : Finite (pointAt pts k)) where
+    not-close : (unused used k ≡ false) ⊎ (lt (reach r) (apart pts k i) ≡ true) → (unused used k && isClose pts r i k) ≡ false
+    not-close = ⊎-elim (λ (u : unused used k ≡ false). rw u) (λ (f : lt (reach r) (apart pts k i) ≡ true). rw (close-far i k fi fk f) (and-false (unused used k)))
+
+    pub second-out : (unused used k ≡ false) ⊎ (lt (reach r) (apart pts k i) ≡ true) → isSecond (floatsOf s pts) r used i k ≡ false
+    unfolding isSecond floatsOf
+    second-out o = rw (not-close o) (and-false (not (eqb i k)))
+
+    pub third-out : (j : ℕ) → (unused used k ≡ false) ⊎ (lt (reach r) (apart pts k i) ≡ true) → isThird (floatsOf s pts) r used i j k ≡ false
+    unfolding isThird floatsOf
+    third-out j o = and-nothing (not (eqb i k)) (not (eqb j k)) (unused used k) (isClose pts r i k) (isClose pts r j k && accepts s r (qualityAt pts i j k)) (not-close o)

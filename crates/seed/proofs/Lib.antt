@@ -1,0 +1,6 @@
+pub mod Laws
+pub mod LeftOut
+pub mod Steps
+pub mod State
+pub mod Spread
+pub mod Nothing

@@ -1,0 +1,144 @@
+-- What the lent slices hold between the steps of the search for a seed. Assumes nothing.
+use Prim.Native.Nat.{ℕ, suc, _+_, _-_, _*_, _≤_, _<_}
+use mathlib.Core.Path.{_≡_, refl, sym, ap, _∙_, subst}
+use mathlib.Core.Logic.{_⊎_}
+use mathlib.Core.Bool.{Bool, true, false}
+use mathlib.Core.List.{List, _∷_}
+use mathlib.Core.Option.{Option, none}
+use native.Mathlib.Omega.{arith}
+use lib.ListN.{length, take}
+use lib.Ieee.{Float, lt}
+use Rattle.vector.specs.declared.Point3f.{Point3f}
+use Rattle.points.specs.Points.{pointAt}
+use Rattle.grid.specs.Grid.{neighbors}
+use Rattle.grid.specs.Index.{Indexed, Below}
+use Rattle.grid.proofs.Near.{neighbors-below, indexed-kept}
+use Rattle.grid.proofs.Sequence.{below-part}
+use Rattle.spatial_hash.specs.declared.Hash.{Hash}
+use Rattle.spatial_hash.specs.Near.{Finite, Hashed}
+use Rattle.patch.specs.Search.{unused, secondOf, firstOf, numbers}
+use Rattle.decisions.specs.declared.Scene.{Scene}
+use Rattle.decisions.specs.Decisions.{reach, apart, around, floatsOf}
+use Rattle.nearby.specs.Ready.{Held, Listed, Kept, usedIn, listed}
+use Rattle.nearby.specs.Narrow.{only, inReach, Nearby, Sought}
+use Rattle.nearby.proofs.Keeping.{kept-self, kept-on, held-kept, hashed-search}
+use Rattle.nearby.proofs.Narrowing.{out-of-reach}
+use Rattle.seed.specs.declared.Seed.{Seed}
+use Rattle.seed.specs.declared.Seed.the-variants.{Triangle, Nothing}
+use Rattle.seed.specs.Found.{seedFound, withFirst}
+use Rattle.seed.proofs.Laws.{orElse, numbers-step, numbers-end, else-hit, else-miss, first-tried, first-used, first-spent, first-end}
+use Rattle.seed.proofs.LeftOut.{only-below, second-only, second-thirds, second-out, third-out}
+
+-- ---- what is listed
+
+-- points of the cloud
+pub listed-points : {s : Scene} {pts : List Float} {w u : List ℕ} {a count : ℕ} {q : Point3f} {r : Float} → 24 * s .n + 64 ≤ length u → Sought s pts w u a q r count → Listed s u count
+listed-points {s} {pts} {w} {u} {a} {count} {q} {r} long f = record {
+  most = f .most;
+  below = λ (m : ℕ) (h : m < count).
+      let b = only-below (inReach pts (usedIn s w) (pointAt pts a) (f .nearby .limit)) (s .n) (neighbors (s .indexed) (s .grid) pts (s .n) q r) (neighbors-below (s .indexed) (s .grid) pts (s .n) q r) in
+      below-part (s .n) u (4 * s .n) count m (subst (λ (l : List ℕ). Below (s .n) l) (sym (f .nearby .same)) b) h (omega (arith, f .most));
+}
+
+-- whoever was left out is used or too far away
+left-out : {pts : List Float} {used ks js : List ℕ} {a : ℕ} {r : Float} (x : Nearby pts used a r ks js) (k : ℕ) → inReach pts used (pointAt pts a) (x .limit) k ≡ false
+    → (unused used k ≡ false) ⊎ (lt r (apart pts k a) ≡ true)
+left-out {pts} {used} {a = a} {r = r} x k h = out-of-reach pts used r a k (x .limit) (x .limits) h
+
+-- ---- the first point
+near-is : (s : Scene) (pts : List Float) (r : Float) (i : ℕ) (p : Point3f) → p ≡ pointAt pts i → neighbors (s .indexed) (s .grid) pts (s .n) p (reach r) ≡ floatsOf s pts .near r i
+unfolding floatsOf around
+near-is s pts r i p e = ap (λ (q : Point3f). neighbors (s .indexed) (s .grid) pts (s .n) q (reach r)) e
+
+pub with-first : (s : Scene) (pts : List Float) (r : Float) (w u : List ℕ) (count i : ℕ) (p : Point3f) → p ≡ pointAt pts i → i < s .n → ((k : ℕ) → k < s .n → Finite (pointAt pts k))
+    → Sought s pts w u i p (reach r) count
+    → secondOf (floatsOf s pts) r (usedIn s u) i (listed s u count) (listed s u count) ≡ withFirst (floatsOf s pts) r (usedIn s w) i
+unfolding withFirst
+with-first s pts r w u count i p ep hi finite f =
+    let ks : List ℕ = neighbors (s .indexed) (s .grid) pts (s .n) p (reach r) in
+    let test : ℕ → Bool = inReach pts (usedIn s w) (pointAt pts i) (f .nearby .limit) in
+    let below = neighbors-below (s .indexed) (s .grid) pts (s .n) p (reach r) in
+    ap (λ (l : List ℕ). secondOf (floatsOf s pts) r (take (s .n) l) i (listed s u count) (listed s u count)) (f .kept .after)
+    ∙ ap (λ (l : List ℕ). secondOf (floatsOf s pts) r (usedIn s w) i l l) (f .nearby .same)
+    ∙ second-only (floatsOf s pts) r (usedIn s w) test (s .n) i (λ j h t. second-out s pts r (usedIn s w) i j (finite i hi) (finite j h) (left-out (f .nearby) j t)) (only test ks) ks below
+    ∙ second-thirds (floatsOf s pts) r (usedIn s w) test (s .n) i (λ j k h t. third-out s pts r (usedIn s w) i k (finite i hi) (finite k h) j (left-out (f .nearby) k t)) ks below ks
+    ∙ ap (λ (l : List ℕ). secondOf (floatsOf s pts) r (usedIn s w) i l l) (near-is s pts r i p ep)
+
+-- what is found from the points is, so many of the unused ones being tried
+abbrev firsts : Scene → List Float → Float → List ℕ → List ℕ → ℕ → Option (ℕ × ℕ × ℕ)
+firsts s pts r w is left = firstOf (floatsOf s pts) r (usedIn s w) is left
+
+-- the points below i have been tried, `left` more unused ones may be
+pub record Seeking (s : Scene) (pts : List Float) (r : Float) (hash : Hash) (w₀ w : List ℕ) (left i : ℕ) : Type 0 where
+  pub held : Held s pts w
+  pub hashed : Hashed hash pts (s .n) w
+  pub indexed : Indexed (s .grid) pts (s .n) w
+  pub kept : Kept s w₀ w
+  pub same : length w ≡ length w₀
+  pub most : left ≤ 1000
+  pub inside : i ≤ s .n
+  pub rest : firsts s pts r w₀ (numbers (s .n) 0) 1000 ≡ firsts s pts r w₀ (numbers (s .n - i) i) left
+
+module _ {s : Scene} {pts : List Float} {r : Float} {hash : Hash} {w₀ : List ℕ} where
+  pub seek-start : Held s pts w₀ → Indexed (s .grid) pts (s .n) w₀ → Hashed hash pts (s .n) w₀ → Seeking s pts r hash w₀ w₀ 1000 0
+  seek-start h x d =
+      let e : s .n ≡ s .n - 0 = omega arith in
+      record { held = h; hashed = d; indexed = x; kept = kept-self s w₀; same = refl; most = omega arith; inside = omega arith; rest = ap (λ (m : ℕ). firsts s pts r w₀ (numbers m 0) 1000) e }
+
+  module _ {w : List ℕ} {left i : ℕ} (k : Seeking s pts r hash w₀ w left i) where
+    abbrev on : List ℕ
+    on = numbers (s .n - (i + 1)) (i + 1)
+
+    pub seek-end : s .n ≤ i → firsts s pts r w₀ (numbers (s .n) 0) 1000 ≡ none
+    seek-end h = k .rest ∙ ap (λ (is : List ℕ). firsts s pts r w₀ is left) (numbers-end (s .n) i h) ∙ first-end (floatsOf s pts) r (usedIn s w₀) left
+
+    at-point : i < s .n → firsts s pts r w₀ (numbers (s .n) 0) 1000 ≡ firsts s pts r w₀ (i ∷ on) left
+    at-point h = k .rest ∙ ap (λ (is : List ℕ). firsts s pts r w₀ is left) (numbers-step (s .n) i h)
+
+    pub seek-spent : i < s .n → left ≡ 0 → firsts s pts r w₀ (numbers (s .n) 0) 1000 ≡ none
+    seek-spent h e = at-point h ∙ ap (firsts s pts r w₀ (i ∷ on)) e ∙ first-spent (floatsOf s pts) r (usedIn s w₀) i on
+
+    -- there is one more try, and the used points are still those of the beginning
+    one-more : (left ≡ 0 → ⊥) → left ≡ suc (left - 1)
+    one-more h = omega arith
+
+    used-is : usedIn s w ≡ usedIn s w₀
+    used-is = ap (take (s .n)) (k .kept .after)
+
+    pub seek-used : i < s .n → (left ≡ 0 → ⊥) → unused (usedIn s w) i ≡ false → Seeking s pts r hash w₀ w left (i + 1)
+    seek-used h ne t = record {
+      held = k .held;
+      hashed = k .hashed;
+      indexed = k .indexed;
+      kept = k .kept;
+      same = k .same;
+      most = k .most;
+      inside = omega arith;
+      rest = at-point h
+          ∙ ap (firsts s pts r w₀ (i ∷ on)) (one-more ne)
+          ∙ first-used (floatsOf s pts) r (usedIn s w₀) i on (left - 1) (ap (λ (l : List ℕ). unused l i) (sym used-is) ∙ t)
+          ∙ sym (ap (firsts s pts r w₀ on) (one-more ne));
+    }
+
+    tried : i < s .n → (left ≡ 0 → ⊥) → unused (usedIn s w) i ≡ true → firsts s pts r w₀ (numbers (s .n) 0) 1000 ≡ orElse (withFirst (floatsOf s pts) r (usedIn s w₀) i) (firsts s pts r w₀ on (left - 1))
+    tried h ne t = at-point h ∙ ap (firsts s pts r w₀ (i ∷ on)) (one-more ne) ∙ first-tried (floatsOf s pts) r (usedIn s w₀) i on (left - 1) (ap (λ (l : List ℕ). unused l i) (sym used-is) ∙ t)
+
+    found-is : {found x : Seed} → found ≡ seedFound (withFirst (floatsOf s pts) r (usedIn s w) i) → found ≡ x → seedFound (withFirst (floatsOf s pts) r (usedIn s w₀) i) ≡ x
+    found-is e f = ap (λ (l : List ℕ). seedFound (withFirst (floatsOf s pts) r l i)) (sym used-is) ∙ sym e ∙ f
+
+    pub seek-hit : {a b c : ℕ} {found : Seed} → i < s .n → (left ≡ 0 → ⊥) → unused (usedIn s w) i ≡ true
+        → found ≡ seedFound (withFirst (floatsOf s pts) r (usedIn s w) i) → found ≡ Triangle a b c → Triangle a b c ≡ seedFound (firsts s pts r w₀ (numbers (s .n) 0) 1000)
+    seek-hit {a} {b} {c} h ne t e f = sym (ap seedFound (tried h ne t) ∙ else-hit (withFirst (floatsOf s pts) r (usedIn s w₀) i) (firsts s pts r w₀ on (left - 1)) a b c (found-is e f))
+
+    pub seek-miss : {found : Seed} (v : List ℕ) → i < s .n → (left ≡ 0 → ⊥) → unused (usedIn s w) i ≡ true
+        → found ≡ seedFound (withFirst (floatsOf s pts) r (usedIn s w) i) → found ≡ Nothing → Kept s w v → length v ≡ length w → Seeking s pts r hash w₀ v (left - 1) (i + 1)
+    seek-miss v h ne t e f kv l = record {
+      held = held-kept v (k .held) l;
+      hashed = hashed-search {s = s} v (k .hashed) l kv;
+      indexed = indexed-kept v (k .indexed) l (kv .before);
+      kept = kept-on (k .kept) kv;
+      same = l ∙ k .same;
+      most = omega (arith, k .most);
+      inside = omega arith;
+      rest = tried h ne t ∙ else-miss (withFirst (floatsOf s pts) r (usedIn s w₀) i) (firsts s pts r w₀ on (left - 1)) (found-is e f);
+    }

@@ -1,0 +1,69 @@
+-- The loops over the listed points for the third and the second point of a seed, turn by turn. Assumes nothing.
+use Prim.Native.Nat.{ℕ, _+_, _≤_, _<_}
+use mathlib.Core.Path.{_≡_, sym, ap, _∙_}
+use mathlib.Core.Bool.{Bool, true, false}
+use mathlib.Core.List.{List}
+use mathlib.Core.Option.{Option}
+use lib.ListN.{drop}
+use lib.Ieee.{Float}
+use Rattle.patch.specs.Search.{isThird, thirdOf, secondOf}
+use Rattle.decisions.specs.Decisions.{floatsOf}
+use Rattle.decisions.specs.declared.Scene.{Scene}
+use Rattle.nearby.specs.Ready.{Held, Listed, usedIn, listed}
+use Rattle.nearby.proofs.Rest.{Rest, nth, rest-start, rest-is, rest-step, rest-hit, rest-end}
+use Rattle.seed.specs.declared.Seed.{Seed}
+use Rattle.seed.specs.declared.Seed.the-variants.{Triangle, Nothing}
+use Rattle.seed.specs.Found.{seedFound, withSecond}
+use Rattle.seed.proofs.Laws.{else-hit, else-miss, third-hit, third-miss, third-end, second-step, second-end}
+
+-- ---- the third point
+
+-- the first third point among ks
+abbrev pub thirds : Scene → List Float → Float → List ℕ → ℕ → ℕ → List ℕ → Option (ℕ × ℕ × ℕ)
+thirds s pts r w i j ks = thirdOf (floatsOf s pts) r (usedIn s w) i j ks
+
+-- the loop of `find_third` at the m-th neighbour
+pub record Third (s : Scene) (pts : List Float) (r : Float) (w : List ℕ) (count i j m : ℕ) : Type 0 where
+  pub rest : Rest s w count (thirds s pts r w i j (listed s w count)) (thirds s pts r w i j) m
+
+module _ {s : Scene} {pts : List Float} {r : Float} {w : List ℕ} {count i j : ℕ} where
+  pub third-start : Held s pts w → Listed s w count → Third s pts r w count i j 0
+  third-start h l = record { rest = rest-start h l (thirds s pts r w i j) }
+
+  pub third-found : {m : ℕ} {t : Bool} → Third s pts r w count i j m → m < count → t ≡ isThird (floatsOf s pts) r (usedIn s w) i j (nth s w m) → t ≡ true
+      → Triangle i j (nth s w m) ≡ seedFound (thirds s pts r w i j (listed s w count))
+  third-found {m = m} k h e t = sym (ap seedFound (rest-hit (k .rest) h (λ (ks : List ℕ). third-hit (floatsOf s pts) r (usedIn s w) i j (nth s w m) ks (sym e ∙ t))))
+
+  pub third-on : {m : ℕ} {t : Bool} → Third s pts r w count i j m → m < count → t ≡ isThird (floatsOf s pts) r (usedIn s w) i j (nth s w m) → t ≡ false → Third s pts r w count i j (m + 1)
+  third-on {m = m} k h e t = record { rest = rest-step (k .rest) h (thirds s pts r w i j) (λ (ks : List ℕ). third-miss (floatsOf s pts) r (usedIn s w) i j (nth s w m) ks (sym e ∙ t)) }
+
+  pub third-none : {m : ℕ} → Third s pts r w count i j m → count ≤ m → Nothing ≡ seedFound (thirds s pts r w i j (listed s w count))
+  third-none k h = sym (ap seedFound (rest-end (k .rest) h ∙ third-end (floatsOf s pts) r (usedIn s w) i j))
+
+-- ---- the second point
+
+-- the first second point among js that has a third one among ks
+abbrev pub seconds : Scene → List Float → Float → List ℕ → ℕ → List ℕ → List ℕ → Option (ℕ × ℕ × ℕ)
+seconds s pts r w i ks js = secondOf (floatsOf s pts) r (usedIn s w) i ks js
+
+-- the loop of `find_second` at the m-th neighbour
+pub record Second (s : Scene) (pts : List Float) (r : Float) (w : List ℕ) (count i m : ℕ) : Type 0 where
+  pub rest : Rest s w count (seconds s pts r w i (listed s w count) (listed s w count)) (seconds s pts r w i (listed s w count)) m
+
+module _ {s : Scene} {pts : List Float} {r : Float} {w : List ℕ} {count i : ℕ} where
+  pub second-start : Held s pts w → Listed s w count → Second s pts r w count i 0
+  second-start h l = record { rest = rest-start h l (seconds s pts r w i (listed s w count)) }
+
+  pub second-found : {m a b c : ℕ} {found : Seed} → Second s pts r w count i m → m < count → found ≡ seedFound (withSecond (floatsOf s pts) r (usedIn s w) i (listed s w count) (nth s w m)) → found ≡ Triangle a b c
+      → Triangle a b c ≡ seedFound (seconds s pts r w i (listed s w count) (listed s w count))
+  second-found {m = m} {a = a} {b = b} {c = c} k h e t =
+      let ks = drop (m + 1) (listed s w count) in
+      sym (ap seedFound (rest-is (k .rest) h ∙ second-step (floatsOf s pts) r (usedIn s w) i (listed s w count) (nth s w m) ks) ∙ else-hit (withSecond (floatsOf s pts) r (usedIn s w) i (listed s w count) (nth s w m)) (seconds s pts r w i (listed s w count) ks) a b c (sym e ∙ t))
+
+  pub second-on : {m : ℕ} {found : Seed} → Second s pts r w count i m → m < count → found ≡ seedFound (withSecond (floatsOf s pts) r (usedIn s w) i (listed s w count) (nth s w m)) → found ≡ Nothing → Second s pts r w count i (m + 1)
+  second-on {m = m} k h e t = record {
+    rest = rest-step (k .rest) h (seconds s pts r w i (listed s w count)) (λ (ks : List ℕ). second-step (floatsOf s pts) r (usedIn s w) i (listed s w count) (nth s w m) ks ∙ else-miss (withSecond (floatsOf s pts) r (usedIn s w) i (listed s w count) (nth s w m)) (seconds s pts r w i (listed s w count) ks) (sym e ∙ t));
+  }
+
+  pub second-none : {m : ℕ} → Second s pts r w count i m → count ≤ m → Nothing ≡ seedFound (seconds s pts r w i (listed s w count) (listed s w count))
+  second-none k h = sym (ap seedFound (rest-end (k .rest) h ∙ second-end (floatsOf s pts) r (usedIn s w) i (listed s w count)))

@@ -1,0 +1,234 @@
+// The search for a seed: three loops, over i, j and k.
+use crate::Seed;
+use decisions::Scene;
+use nearby::Filter;
+use refusals::Limits;
+use spatial_hash::Hash;
+use vector::Point3f;
+ghost use mathlib.Core.Path.{_≡_};
+ghost use mathlib.Core.Bool.{true};
+ghost use Prim.Native.Nat.{_*_, _<_, _+_};
+ghost use Rattle.grid.specs.Index.{Cells, Indexed};
+ghost use Rattle.spatial_hash.specs.Near.{Hashed};
+ghost use Rattle.patch.specs.Search.{isSecond, isThird, thirdOf, secondOf, firstOf, numbers};
+ghost use Rattle.decisions.specs.Decisions.{isClose, floatsOf};
+ghost use Rattle.refusals.specs.Refused.{Limiting};
+ghost use Rattle.nearby.specs.Ready.{Held, Listed, usedIn, listed, Kept};
+ghost use Rattle.seed.specs.Found.{seedFound, withSecond, withFirst};
+ghost use Rattle.seed.specs.Spread.{Spans, Judged, Listing};
+
+// Whether j may be the second point after i.
+fn is_second(s: Scene, points: &[f32], w: &[u32], radius: f32, i: usize, j: usize) -> bool
+    requires { ⌜ Held s (now points) (now w) × (i < s .n) × (j < s .n) ⌝ }
+    ensures { λ r. ⌜ r ≡ isSecond (floatsOf s (now (points .entry))) radius (usedIn s (now (w .entry))) i j ⌝ }
+{
+    if i == j {
+        return false;
+    }
+    if !nearby::is_unused(s, w, j) {
+        return false;
+    }
+    decisions::is_close(points, radius, i, j)
+}
+
+// Whether k may be the third point after i and j.
+fn is_third(
+    s: Scene,
+    points: &[f32],
+    w: &[u32],
+    radius: f32,
+    limits: Limits,
+    i: usize,
+    j: usize,
+    k: usize,
+) -> bool
+    requires { ⌜ Held s (now points) (now w) × (i < s .n) × (j < s .n) × (k < s .n) × Judged s (now points) radius limits × (isClose (now points) radius i j ≡ true) ⌝ }
+    ensures { λ r. ⌜ r ≡ isThird (floatsOf s (now (points .entry))) radius (usedIn s (now (w .entry))) i j k ⌝ }
+{
+    if i == k {
+        return false;
+    }
+    if j == k {
+        return false;
+    }
+    if !nearby::is_unused(s, w, k) {
+        return false;
+    }
+    let third = points::point_at(points, k);
+    let first = points::point_at(points, i);
+    if refusals::is_refused(limits, first, points::point_at(points, j), third) {
+        return false;
+    }
+    decisions::is_completed(s, points, radius, i, j, k)
+}
+
+// The seed of i, j and the first third point among the listed neighbours.
+fn find_third(
+    s: Scene,
+    points: &[f32],
+    w: &[u32],
+    count: usize,
+    radius: f32,
+    limits: Limits,
+    i: usize,
+    j: usize,
+) -> Seed
+    requires { ⌜ Held s (now points) (now w) × Listed s (now w) count × (i < s .n) × (j < s .n) × Judged s (now points) radius limits × (isClose (now points) radius i j ≡ true) ⌝ }
+    ensures { λ r. ⌜ r ≡ seedFound (thirdOf (floatsOf s (now (points .entry))) radius (usedIn s (now (w .entry))) i j (listed s (now (w .entry)) count)) ⌝ }
+{
+    let at = 4 * s.n;
+    let mut m: usize = 0;
+    while m < count {
+        let k = w[at + m] as usize;
+        if is_third(s, points, w, radius, limits, i, j, k) {
+            return Seed::Triangle(i, j, k);
+        }
+        m += 1;
+    }
+    Seed::Nothing
+}
+
+// What the point j gives as the second one: the seed with the first third point, or nothing.
+fn try_second(
+    s: Scene,
+    points: &[f32],
+    w: &[u32],
+    count: usize,
+    radius: f32,
+    limits: Limits,
+    wide: Point3f,
+    i: usize,
+    j: usize,
+) -> Seed
+    requires { ⌜ Held s (now points) (now w) × Listed s (now w) count × (i < s .n) × (j < s .n) × Judged s (now points) radius limits × Spans s (now points) i (listed s (now w) count) wide ⌝ }
+    ensures { λ r. ⌜ r ≡ seedFound (withSecond (floatsOf s (now (points .entry))) radius (usedIn s (now (w .entry))) i (listed s (now (w .entry)) count) j) ⌝ }
+{
+    if !is_second(s, points, w, radius, i, j) {
+        return Seed::Nothing;
+    }
+    if crate::areas::is_too_near(s, points, i, j, wide) {
+        return Seed::Nothing;
+    }
+    find_third(s, points, w, count, radius, limits, i, j)
+}
+
+// The seed of i and the first second point that has a third one, both among the listed neighbours.
+fn find_second(
+    s: Scene,
+    points: &[f32],
+    w: &[u32],
+    count: usize,
+    radius: f32,
+    limits: Limits,
+    wide: Point3f,
+    i: usize,
+) -> Seed
+    requires { ⌜ Held s (now points) (now w) × Listed s (now w) count × (i < s .n) × Judged s (now points) radius limits × Spans s (now points) i (listed s (now w) count) wide ⌝ }
+    ensures { λ r. ⌜ r ≡ seedFound (secondOf (floatsOf s (now (points .entry))) radius (usedIn s (now (w .entry))) i (listed s (now (w .entry)) count) (listed s (now (w .entry)) count)) ⌝ }
+{
+    let at = 4 * s.n;
+    let mut m: usize = 0;
+    while m < count {
+        let j = w[at + m] as usize;
+        let found = try_second(s, points, w, count, radius, limits, wide, i, j);
+        if let Seed::Triangle(a, b, c) = found {
+            return Seed::Triangle(a, b, c);
+        }
+        m += 1;
+    }
+    Seed::Nothing
+}
+
+// The same, but without a look at each triangle in turn where each pair of points is known to make none.
+fn find_unless_fruitless(
+    s: Scene,
+    points: &[f32],
+    w: &[u32],
+    count: usize,
+    radius: f32,
+    limits: Limits,
+    wide: Point3f,
+    i: usize,
+) -> Seed
+    requires { ⌜ Held s (now points) (now w) × Listed s (now w) count × (i < s .n) × Judged s (now points) radius limits × Spans s (now points) i (listed s (now w) count) wide ⌝ }
+    ensures { λ r. ⌜ r ≡ seedFound (secondOf (floatsOf s (now (points .entry))) radius (usedIn s (now (w .entry))) i (listed s (now (w .entry)) count) (listed s (now (w .entry)) count)) ⌝ }
+{
+    if crate::areas::are_all_fruitless(s, points, w, count, radius, limits, i) {
+        return Seed::Nothing;
+    }
+    find_second(s, points, w, count, radius, limits, wide, i)
+}
+
+// What the unused point i gives as the first one, the points near it being listed.
+fn try_listed(
+    s: Scene,
+    points: &[f32],
+    w: &mut [u32],
+    found: usize,
+    radius: f32,
+    limits: Limits,
+    f: Filter,
+    i: usize,
+) -> Seed
+    requires { ⌜ Held s (now points) (now w) × Cells (s .grid) (now points) (s .n) (now w) × Listing s (now points) radius i f (now w) found × (i < s .n) × Judged s (now points) radius limits ⌝ }
+    ensures { λ r. ⌜ (r ≡ seedFound (withFirst (floatsOf s (now (points .entry))) radius (usedIn s (now (w .entry))) i)) × Kept s (now (w .entry)) (now (w .exit)) ⌝ }
+{
+    let wide = crate::areas::spread(s, points, w, found, i);
+    if crate::areas::is_too_small(s, wide, wide) {
+        return Seed::Nothing;
+    }
+    let count = nearby::narrow(s, points, w, f, found);
+    find_unless_fruitless(s, points, w, count, radius, limits, wide, i)
+}
+
+// What the unused point i gives as the first one.
+fn try_first(
+    s: Scene,
+    points: &[f32],
+    w: &mut [u32],
+    radius: f32,
+    i: usize,
+    hash: Hash,
+    limits: Limits,
+) -> Seed
+    requires { ⌜ Held s (now points) (now w) × Indexed (s .grid) (now points) (s .n) (now w) × Hashed hash (now points) (s .n) (now w) × (i < s .n) × Limiting s radius limits ⌝ }
+    ensures { λ r. ⌜ (r ≡ seedFound (withFirst (floatsOf s (now (points .entry))) radius (usedIn s (now (w .entry))) i)) × Kept s (now (w .entry)) (now (w .exit)) ⌝ }
+{
+    let place = points::point_at(points, i);
+    let f = nearby::filter_of(s, place, place, radius * 2.0);
+    let found = nearby::gather_near(s, points, w, f, radius * 2.002, hash);
+    try_listed(s, points, w, found, radius, limits, f, i)
+}
+
+// The first seed; only the first 1,000 unused points are tried as i.
+pub fn find_from(
+    s: Scene,
+    points: &[f32],
+    w: &mut [u32],
+    radius: f32,
+    hash: Hash,
+    limits: Limits,
+) -> Seed
+    requires { ⌜ Held s (now points) (now w) × Indexed (s .grid) (now points) (s .n) (now w) × Hashed hash (now points) (s .n) (now w) × Limiting s radius limits ⌝ }
+    ensures { λ r. ⌜ (r ≡ seedFound (firstOf (floatsOf s (now (points .entry))) radius (usedIn s (now (w .entry))) (numbers (s .n) 0) 1000)) × Kept s (now (w .entry)) (now (w .exit)) ⌝ }
+{
+    let n = s.n;
+    let mut left: usize = 1000;
+    let mut i: usize = 0;
+    while i < n {
+        if left == 0 {
+            return Seed::Nothing;
+        }
+        if !nearby::is_unused(s, w, i) {
+            i += 1;
+            continue;
+        }
+        let found = try_first(s, points, w, radius, i, hash, limits);
+        if let Seed::Triangle(a, b, c) = found {
+            return Seed::Triangle(a, b, c);
+        }
+        left -= 1;
+        i += 1;
+    }
+    Seed::Nothing
+}
