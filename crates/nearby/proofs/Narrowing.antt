@@ -1,14 +1,14 @@
 -- The listed points that pass, inserted in place: what each turn does, and that they are the neighbours without those that don't matter. Assumes nothing.
 use Prim.Native.Nat.{ℕ, _+_, _*_, _≤_, _<_}
 use mathlib.Core.Path.{_≡_, refl, sym, ap, _∙_, subst}
-use mathlib.Core.Logic.{_⊎_, inl, inr}
-use mathlib.Core.Bool.{Bool, true, false, not, _&&_}
+use mathlib.Core.Logic.{_⊎_, inl, inr, ⊎-elim}
+use mathlib.Core.Bool.{Bool, true, false, cond, not, _&&_}
 use mathlib.Core.List.{List, [], _∷_}
 use native.Mathlib.Omega.{arith}
 use lib.ListN.{length, take, drop, getD}
 use lib.Seq.{getD-drop}
 use lib.Dec.{T, eqb}
-use lib.Ieee.{Float, lt}
+use lib.Ieee.{Float, lt, le}
 use lib.Ieee.Bits.{is-true}
 use borrow.Author.Tests.{not-true}
 use Rattle.vector.specs.Vector.{squared, distance}
@@ -24,15 +24,15 @@ use Rattle.grid.specs.Index.{cellIn, Cells, Below, earlier}
 use Rattle.grid.proofs.Sequence.{insert-below, insert-alike}
 use Rattle.spatial_hash.specs.declared.Bounds.{Bounds}
 use Rattle.spatial_hash.specs.declared.Hash.{Hash}
-use Rattle.spatial_hash.specs.Near.{Limit, Covers, Hashed, Gathered}
+use Rattle.spatial_hash.specs.Near.{Finite, Limit, between, within, Covers, Hashed, Gathered}
 use Rattle.patch.specs.Count.{count}
 use Rattle.patch.specs.Search.{unused, Below as Points}
-use Rattle.patch.proofs.Counts.{and-both, true-not-false}
+use Rattle.patch.proofs.Counts.{either, and-both, true-not-false}
 use Rattle.decisions.specs.declared.Scene.{Scene}
 use Rattle.decisions.specs.Decisions.{apart}
 use Rattle.nearby.specs.declared.Filter.{Filter}
 use Rattle.nearby.specs.Ready.{Held, Listed, Kept, usedIn, listed}
-use Rattle.nearby.specs.Narrow.{only, insertAll, inReach, inCells, cellAt, passes, Filters, Collected, Narrowed, Sought}
+use Rattle.nearby.specs.Narrow.{only, insertAll, inReach, inCells, cellAt, passes, larger, lesser, overlap, Filters, Collected, Narrowed, Sought}
 use Rattle.nearby.proofs.Laws.{part-step, part-end}
 use Rattle.nearby.proofs.Ordered.{in-at, only-both, insert-all-is}
 use Rattle.nearby.proofs.Earlier.{earlier-strict, order-of-sorted, order-of-count, neighbors-only}
@@ -177,7 +177,7 @@ narrowed-only s pts f used js below once complete =
     ∙ sym (only-both (inReach pts used (f .center) (f .limit)) (inCells (s .indexed) (s .grid) pts (f .range) (f .cell)) xs)
 
 pub sought : {s : Scene} {pts : List Float} {f : Filter} {w u v : List ℕ} {a found r : ℕ} {p q : Point3f} {radius : Float} → p ≡ pointAt pts a → Filters s p q radius f
-    → Collected s pts f w u found → Narrowed s pts f u v found r → Sought s pts w v a q radius r
+    → Collected s pts f (f .center) w u found → Narrowed s pts f u v found r → Sought s pts w v a q radius r
 sought {s} {pts} {f} {w} {u} {v} {a} {found} {r} {p} {q} {radius} ep i c n = record {
   most = omega (arith, n .most, c .most);
   nearby = record {
@@ -185,7 +185,7 @@ sought {s} {pts} {f} {w} {u} {v} {a} {found} {r} {p} {q} {radius} ep i c n = rec
     limits = i .limits;
     same = n .same
         ∙ ap (λ (l : List ℕ). insertAll (earlier (s .indexed) (cellAt (s .grid) pts)) (passes s pts (take (s .n) l) f) [] (listed s u found)) (c .kept .after)
-        ∙ narrowed-only s pts f (usedIn s w) (listed s u found) (c .below) (c .once) (c .complete)
+        ∙ narrowed-only s pts f (usedIn s w) (listed s u found) (c .below) (c .once) (λ k h free t. c .complete k h free t t)
         ∙ ap (λ (z : Point3f). only (inReach pts (usedIn s w) z (f .limit)) (only (inCells (s .indexed) (s .grid) pts (f .range) (f .cell)) (orderOf (s .indexed) (s .grid) pts (s .n)))) (i .center-is ∙ ep)
         ∙ ap (λ (z : ℕ). only (inReach pts (usedIn s w) (pointAt pts a) (f .limit)) (only (inCells (s .indexed) (s .grid) pts z (f .cell)) (orderOf (s .indexed) (s .grid) pts (s .n)))) (i .range-is)
         ∙ ap (λ (z : Cell). only (inReach pts (usedIn s w) (pointAt pts a) (f .limit)) (only (inCells (s .indexed) (s .grid) pts (rangeOf (s .grid) radius) z) (orderOf (s .indexed) (s .grid) pts (s .n)))) (i .cell-is)
@@ -194,22 +194,59 @@ sought {s} {pts} {f} {w} {u} {v} {a} {found} {r} {p} {q} {radius} ep i c n = rec
   kept = kept-on (c .kept) (n .kept);
 }
 
+-- ---- a place within two bounds is within their overlap
+of-cond : (P : Float → Type 0) (t : Bool) (x y : Float) → P x → P y → P (cond t x y)
+of-cond P true x y p q = p
+of-cond P false x y p q = q
+
+on-axis : (l h m i v : Float) → between l h v ≡ true → between m i v ≡ true → between (larger l m) (lesser h i) v ≡ true
+on-axis l h m i v s t =
+    let a = and-both {p = le l v} s in
+    let b = and-both {p = le m v} t in
+    rw (of-cond (λ (x : Float). le x v ≡ true) (lt l m) m l (b .0) (a .0), of-cond (λ (x : Float). le v x ≡ true) (lt i h) i h (b .1) (a .1))
+
+overlap-has : (a b : Bounds) (p : Point3f) → within a p ≡ true → within b p ≡ true → within (overlap a b) p ≡ true
+unfolding within overlap
+overlap-has a b p s t =
+    let x = and-both {p = between (a .lo .x) (a .hi .x) (p .x)} s in
+    let u = and-both {p = between (b .lo .x) (b .hi .x) (p .x)} t in
+    let y = and-both {p = between (a .lo .y) (a .hi .y) (p .y)} (x .1) in
+    let v = and-both {p = between (b .lo .y) (b .hi .y) (p .y)} (u .1) in
+    rw (
+      on-axis (a .lo .x) (a .hi .x) (b .lo .x) (b .hi .x) (p .x) (x .0) (u .0),
+      on-axis (a .lo .y) (a .hi .y) (b .lo .y) (b .hi .y) (p .y) (y .0) (v .0),
+      on-axis (a .lo .z) (a .hi .z) (b .lo .z) (b .hi .z) (p .z) (y .1) (v .1),
+    )
+
 -- ---- whoever lies outside of bounds that cover the limit is beyond it
-pub collected : {s : Scene} {hash : Hash} {pts : List Float} {f : Filter} {b : Bounds} {w u : List ℕ} {r : ℕ} → Hashed hash pts (s .n) w → Covers (f .center) (f .limit) b → Gathered pts (s .n) b w u r → Collected s pts f w u r
-collected {s} {pts = pts} {f = f} {b = b} h c g = record {
-  most = g .most;
-  below = g .gathers .below;
-  once = g .gathers .once;
-  complete = λ k l free t. g .gathers .complete k l (h .unused-in k l free) (not-false (λ o. true-not-false (is-true (lt (f .limit) (squared (pointAt pts k) (f .center))) (c (pointAt pts k) (h .linked .ready .numbers k l) o)) t));
-  kept = record { before = g .before; after = g .after };
-}
-  where
-    not-false : {t : Bool} → (t ≡ false → ⊥) → t ≡ true
-    not-false {t = true} h = refl
-    not-false {t = false} h = absurd (h refl)
+inside : (p c : Point3f) (t : Float) (b : Bounds) → Covers c t b → Finite p → lt t (squared p c) ≡ false → within b p ≡ true
+inside p c t b covers f h = ⊎-elim
+    (λ (o : within b p ≡ true). o)
+    (λ (o : within b p ≡ false). absurd (true-not-false (is-true (lt t (squared p c)) (covers p f o)) h))
+    (either (within b p))
+
+module _ {s : Scene} {hash : Hash} {pts : List Float} {f : Filter} {w u : List ℕ} {r : ℕ} (h : Hashed hash pts (s .n) w) where
+  collects : {q : Point3f} {b : Bounds} → ((k : ℕ) → k < s .n → lt (f .limit) (squared (pointAt pts k) (f .center)) ≡ false → lt (f .limit) (squared (pointAt pts k) q) ≡ false → within b (pointAt pts k) ≡ true)
+      → Gathered pts (s .n) b w u r → Collected s pts f q w u r
+  collects near g = record {
+    most = g .most;
+    below = g .gathers .below;
+    once = g .gathers .once;
+    complete = λ k l free x y. g .gathers .complete k l (h .unused-in k l free) (near k l x y);
+    kept = record { before = g .before; after = g .after };
+  }
+
+  pub collected : {b : Bounds} → Covers (f .center) (f .limit) b → Gathered pts (s .n) b w u r → Collected s pts f (f .center) w u r
+  collected {b} c g = collects (λ k l x y. inside (pointAt pts k) (f .center) (f .limit) b c (h .linked .ready .numbers k l) x) g
+
+  pub collected-both : {q : Point3f} (a b : Bounds) {o : Bounds} → Covers (f .center) (f .limit) a → Covers q (f .limit) b → o ≡ overlap a b → Gathered pts (s .n) o w u r → Collected s pts f q w u r
+  collected-both {q} a b c d e g = collects (λ k l x y.
+      let n = h .linked .ready .numbers k l in
+      ap (λ (o : Bounds). within o (pointAt pts k)) e
+      ∙ overlap-has a b (pointAt pts k) (inside (pointAt pts k) (f .center) (f .limit) a c n x) (inside (pointAt pts k) q (f .limit) b d n y)) g
 
 -- the collected points are points of the cloud
-pub collected-listed : {s : Scene} {pts : List Float} {f : Filter} {w u : List ℕ} {r : ℕ} → 24 * s .n + 64 ≤ length u → Collected s pts f w u r → Listed s u r
+pub collected-listed : {s : Scene} {pts : List Float} {f : Filter} {q : Point3f} {w u : List ℕ} {r : ℕ} → 24 * s .n + 64 ≤ length u → Collected s pts f q w u r → Listed s u r
 collected-listed {s} {u = u} {r = r} long c = record {
   most = c .most;
   below = λ (m : ℕ) (h : m < r).

@@ -13,6 +13,7 @@ use Rattle.grid.specs.declared.SpatialGrid.{SpatialGrid}
 use Rattle.grid.specs.declared.Cell.{Cell}
 use Rattle.grid.specs.Grid.{cellOf, inRange, rangeOf, neighbors}
 use Rattle.grid.specs.Index.{earlier}
+use Rattle.spatial_hash.specs.declared.Bounds.{Bounds}
 use Rattle.spatial_hash.specs.Near.{Limit}
 use Rattle.patch.specs.Count.{count}
 use Rattle.patch.specs.Search.{unused, Below}
@@ -46,6 +47,20 @@ inCells indexed g pts range c k = not indexed || inRange range c (cellAt g pts k
 unfoldable pub passes : Scene → List Float → List ℕ → Filter → ℕ → Bool
 passes s pts used f k = inReach pts used (f .center) (f .limit) k && inCells (s .indexed) (s .grid) pts (f .range) (f .cell) k
 
+-- the larger of two numbers, the lesser of two
+abbrev pub larger : Float → Float → Float
+larger a b = cond (lt a b) b a
+
+abbrev pub lesser : Float → Float → Float
+lesser a b = cond (lt b a) b a
+
+-- the bounds of the places that are within a and within b
+unfoldable pub overlap : Bounds → Bounds → Bounds
+overlap a b = record {
+  lo = record { x = larger (a .lo .x) (b .lo .x); y = larger (a .lo .y) (b .lo .y); z = larger (a .lo .z) (b .lo .z) };
+  hi = record { x = lesser (a .hi .x) (b .hi .x); y = lesser (a .hi .y) (b .hi .y); z = lesser (a .hi .z) (b .hi .z) };
+}
+
 -- js are those of the points ks that are unused and within some limit of point a, and whoever is beyond it is farther than r from a
 pub record Nearby (pts : List Float) (used : List ℕ) (a : ℕ) (r : Float) (ks js : List ℕ) : Type 0 where
   pub limit : Float
@@ -61,12 +76,13 @@ pub record Filters (s : Scene) (p q : Point3f) (r : Float) (f : Filter) : Type 0
   pub cell-is : f .cell ≡ cellOf (s .grid) q
   pub range-is : f .range ≡ rangeOf (s .grid) r
 
--- r points are listed, each once, and all unused ones within the filter's limit among them
-pub record Collected (s : Scene) (pts : List Float) (f : Filter) (w u : List ℕ) (r : ℕ) : Type 0 where
+-- r points are listed, each once, and all unused ones within the filter's limit of its center and of q among them
+pub record Collected (s : Scene) (pts : List Float) (f : Filter) (q : Point3f) (w u : List ℕ) (r : ℕ) : Type 0 where
   pub most : r ≤ s .n
   pub below : Below (s .n) (listed s u r)
   pub once : (k : ℕ) → count (eqb k) (listed s u r) ≤ 1
-  pub complete : (k : ℕ) → k < s .n → unused (usedIn s w) k ≡ true → lt (f .limit) (squared (pointAt pts k) (f .center)) ≡ false → 1 ≤ count (eqb k) (listed s u r)
+  pub complete : (k : ℕ) → k < s .n → unused (usedIn s w) k ≡ true → lt (f .limit) (squared (pointAt pts k) (f .center)) ≡ false → lt (f .limit) (squared (pointAt pts k) q) ≡ false
+      → 1 ≤ count (eqb k) (listed s u r)
   pub kept : Kept s w u
 
 -- of the `found` points r are left, those that pass, inserted in turn

@@ -1,6 +1,7 @@
-// The points that a search has to look at: of the neighbours of a place those that are unused and near a point.
+// The points that a search has to look at: of the neighbours of a place those that are unused and near a point, or near two.
 use decisions::Scene;
 use grid::Cell;
+use spatial_hash::Bounds;
 use spatial_hash::Hash;
 use vector::Point3f;
 ghost use mathlib.Core.Path.{_≡_};
@@ -10,7 +11,7 @@ ghost use Rattle.grid.specs.Index.{Cells};
 ghost use Rattle.spatial_hash.specs.Near.{Finite, Hashed};
 ghost use Rattle.patch.specs.Search.{unused};
 ghost use Rattle.nearby.specs.Ready.{Held, Listed, usedIn};
-ghost use Rattle.nearby.specs.Narrow.{passes, Filters, Collected, Narrowed};
+ghost use Rattle.nearby.specs.Narrow.{passes, larger, lesser, overlap, Filters, Collected, Narrowed};
 
 // What is looked for: at most a squared distance from a center, in the cells within a range of a cell.
 pub struct Filter {
@@ -86,8 +87,57 @@ pub fn gather_near(
     hash: Hash,
 ) -> usize
     requires { ⌜ Hashed hash (now points) (s .n) (now w) × Finite (f .center) ⌝ }
-    ensures { λ r. ⌜ Collected s (now (points .entry)) f (now (w .entry)) (now (w .exit)) r ⌝ }
+    ensures { λ r. ⌜ Collected s (now (points .entry)) f (f .center) (now (w .entry)) (now (w .exit)) r ⌝ }
 {
     let bounds = spatial_hash::covering(f.center, reach, f.limit);
     spatial_hash::gather(points, w, s.n, hash, bounds)
+}
+
+// The larger and the lesser of two numbers, without the test for a not-a-number that `numbers::max` and `min` need.
+fn larger(a: f32, b: f32) -> f32
+    ensures { λ r. ⌜ r ≡ larger a b ⌝ }
+{
+    if a < b { b } else { a }
+}
+
+fn lesser(a: f32, b: f32) -> f32
+    ensures { λ r. ⌜ r ≡ lesser a b ⌝ }
+{
+    if b < a { b } else { a }
+}
+
+// The bounds of the places that are within two others.
+fn overlap(a: Bounds, b: Bounds) -> Bounds
+    ensures { λ r. ⌜ r ≡ overlap a b ⌝ }
+{
+    Bounds {
+        lo: Point3f {
+            x: larger(a.lo.x, b.lo.x),
+            y: larger(a.lo.y, b.lo.y),
+            z: larger(a.lo.z, b.lo.z),
+        },
+        hi: Point3f {
+            x: lesser(a.hi.x, b.hi.x),
+            y: lesser(a.hi.y, b.hi.y),
+            z: lesser(a.hi.z, b.hi.z),
+        },
+    }
+}
+
+// Lists points, all unused ones within the filter's limit of its center and of q among them, and returns how many they are.
+pub fn gather_both(
+    s: Scene,
+    points: &[f32],
+    w: &mut [u32],
+    f: Filter,
+    q: Point3f,
+    reach: f32,
+    hash: Hash,
+) -> usize
+    requires { ⌜ Hashed hash (now points) (s .n) (now w) × Finite (f .center) × Finite q ⌝ }
+    ensures { λ r. ⌜ Collected s (now (points .entry)) f q (now (w .entry)) (now (w .exit)) r ⌝ }
+{
+    let first = spatial_hash::covering(f.center, reach, f.limit);
+    let second = spatial_hash::covering(q, reach, f.limit);
+    spatial_hash::gather(points, w, s.n, hash, overlap(first, second))
 }

@@ -22,9 +22,13 @@ module _ (s : Scene) (pts : List Float) (r : Float) (used : List ℕ) where
     too-far : (i : ℕ) → lt r (apart pts k i) ≡ true → le (apart pts k i) r ≡ false
     too-far i h = not-true (λ e. le-not-lt (apart pts k i) r (subst T (sym e) tt) (subst T (sym h) tt))
 
-    score-far : lt r (apart pts k a) ≡ true → scoreAt s pts r (edge a b) k ≡ none
+    pub first-far : lt r (apart pts k a) ≡ true → scoreAt s pts r (edge a b) k ≡ none
     unfolding scoreAt
-    score-far h = rw (too-far a h)
+    first-far h = rw (too-far a h)
+
+    pub second-far : lt r (apart pts k b) ≡ true → scoreAt s pts r (edge a b) k ≡ none
+    unfolding scoreAt
+    second-far h = rw (too-far b h, and-false (le (apart pts k a) r))
 
     unmet : scoreAt s pts r (edge a b) k ≡ none → scoreOf (floatsOf s pts) r used (edge a b) k ≡ none
     unfolding floatsOf
@@ -33,7 +37,7 @@ module _ (s : Scene) (pts : List Float) (r : Float) (used : List ℕ) where
         (λ (t : (not (eqb k a) && (not (eqb k b) && unused used k)) ≡ false). not-met (floatsOf s pts) r used (edge a b) k t)
         (either (not (eqb k a) && (not (eqb k b) && unused used k)))
 
-    pub score-out : (unused used k ≡ false) ⊎ (lt r (apart pts k a) ≡ true) → scoreOf (floatsOf s pts) r used (edge a b) k ≡ none
-    score-out = ⊎-elim
+    pub score-out : (i : ℕ) → (lt r (apart pts k i) ≡ true → scoreAt s pts r (edge a b) k ≡ none) → (unused used k ≡ false) ⊎ (lt r (apart pts k i) ≡ true) → scoreOf (floatsOf s pts) r used (edge a b) k ≡ none
+    score-out i far = ⊎-elim
         (λ (u : unused used k ≡ false). not-met (floatsOf s pts) r used (edge a b) k (rw u (rw (and-false (not (eqb k b))) (and-false (not (eqb k a))))))
-        (λ (f : lt r (apart pts k a) ≡ true). unmet (score-far f))
+        (λ (f : lt r (apart pts k i) ≡ true). unmet (far f))

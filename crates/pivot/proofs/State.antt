@@ -22,7 +22,7 @@ use Rattle.patch.specs.Lay.{edge}
 use Rattle.patch.specs.Search.{scoreOf, bestOf}
 use Rattle.patch.proofs.Counts.{either}
 use Rattle.decisions.specs.declared.Scene.{Scene}
-use Rattle.decisions.specs.Decisions.{middle, around, floatsOf}
+use Rattle.decisions.specs.Decisions.{apart, middle, around, scoreAt, floatsOf}
 use Rattle.nearby.specs.declared.Filter.{Filter}
 use Rattle.nearby.specs.Ready.{usedIn, listed}
 use Rattle.nearby.specs.Narrow.{only, inReach, inCells, cellAt, Filters, Collected}
@@ -34,7 +34,7 @@ use Rattle.pivot.specs.declared.Pivot.{Pivot}
 use Rattle.pivot.specs.declared.Pivot.the-variants.{To, Nowhere}
 use Rattle.pivot.specs.Best.{isBefore, leader, scoreIn}
 use Rattle.pivot.proofs.Leading.{any-order, in-order}
-use Rattle.pivot.proofs.LeftOut.{score-out}
+use Rattle.pivot.proofs.LeftOut.{first-far, second-far, score-out}
 
 -- the tests over the kept cells are those of the points' own
 pub test-kept : (s : Scene) (pts : List Float) (w : List ℕ) (f : Filter) (k : ℕ) (x top : Float) (best : Pivot) → Cells (s .grid) pts (s .n) w → k < s .n → Met s best
@@ -48,28 +48,35 @@ test-kept s pts w f k x top best c h m = rw (c k h, before-kept best m)
     before-kept (To j) m = earlier-kept (s .indexed) (s .grid) pts (s .n) w c k j h (m j refl)
 
 -- a point with a score is among the collected ones
-scored-in : (s : Scene) (pts : List Float) (r : Float) (f : Filter) (w u : List ℕ) (found a b : ℕ) → Limit r (f .limit) → f .center ≡ pointAt pts a → Collected s pts f w u found
+scored-in : (s : Scene) (pts : List Float) (r : Float) (f : Filter) (w u : List ℕ) (found a b : ℕ) {q : Point3f} → Limit r (f .limit) → f .center ≡ pointAt pts a → q ≡ pointAt pts b → Collected s pts f q w u found
     → (k : ℕ) (x : Float) → scoreIn s pts r (usedIn s w) f (edge a b) k ≡ some x → k < s .n → In k (listed s u found)
 unfolding scoreIn
-scored-in s pts r f w u found a b l ec c k x q h = ⊎-elim
-    (λ (t : inReach pts (usedIn s w) (f .center) (f .limit) k ≡ true). c .complete k h (in-unused pts (usedIn s w) (f .center) (f .limit) k t) (in-reach pts (usedIn s w) (f .center) (f .limit) k t))
-    (λ (t : inReach pts (usedIn s w) (f .center) (f .limit) k ≡ false). absurd (nothing (score-out s pts r (usedIn s w) a b k (out-of-reach pts (usedIn s w) r a k (f .limit) l (rw (← ec) t)))))
-    (either (inReach pts (usedIn s w) (f .center) (f .limit) k))
+scored-in s pts r f w u found a b {q} l ea eb c k x e h =
+    let near = reached a (f .center) ea (first-far s pts r (usedIn s w) a b k) in
+    let too = reached b q eb (second-far s pts r (usedIn s w) a b k) in
+    c .complete k h (in-unused pts (usedIn s w) (f .center) (f .limit) k near) (in-reach pts (usedIn s w) (f .center) (f .limit) k near) (in-reach pts (usedIn s w) q (f .limit) k too)
   where
     nothing : scoreOf (floatsOf s pts) r (usedIn s w) (edge a b) k ≡ none → ⊥
-    nothing e = go (inCells (s .indexed) (s .grid) pts (f .range) (f .cell) k) (rw (e) at q)
+    nothing o = go (inCells (s .indexed) (s .grid) pts (f .range) (f .cell) k) (rw (o) at e)
       where
         go : (t : Bool) → cond {A = Option Float} t none none ≡ some x → ⊥
         go true h = let z : _≡_ {A = ℕ} 0 1 = cc in omega arith
         go false h = let z : _≡_ {A = ℕ} 0 1 = cc in omega arith
 
-pub best-around : (s : Scene) (pts : List Float) (r : Float) (f : Filter) (w u : List ℕ) (found a b : ℕ) {p q m : Point3f} → p ≡ pointAt pts a → q ≡ pointAt pts b → m ≡ middle p q → Filters s p m r f → Collected s pts f w u found
+    -- it is in reach of each end of the edge
+    reached : (i : ℕ) (p : Point3f) → p ≡ pointAt pts i → (lt r (apart pts k i) ≡ true → scoreAt s pts r (edge a b) k ≡ none) → inReach pts (usedIn s w) p (f .limit) k ≡ true
+    reached i p ep far = ⊎-elim
+        (λ (t : inReach pts (usedIn s w) p (f .limit) k ≡ true). t)
+        (λ (t : inReach pts (usedIn s w) p (f .limit) k ≡ false). absurd (nothing (score-out s pts r (usedIn s w) a b k i far (out-of-reach pts (usedIn s w) r i k (f .limit) l (rw (← ep) t)))))
+        (either (inReach pts (usedIn s w) p (f .limit) k))
+
+pub best-around : (s : Scene) (pts : List Float) (r : Float) (f : Filter) (w u : List ℕ) (found a b : ℕ) {p q m : Point3f} → p ≡ pointAt pts a → q ≡ pointAt pts b → m ≡ middle p q → Filters s p m r f → Collected s pts f q w u found
     → leader (earlier (s .indexed) (cellAt (s .grid) pts)) (scoreIn s pts r (usedIn s u) f (edge a b)) (listed s u found) (f32 0) none ≡ bestOf (floatsOf s pts) r (usedIn s w) (edge a b) (floatsOf s pts .around r (edge a b)) (f32 0) none
 best-around s pts r f w u found a b {p} {q} {m} ep eq em i c =
     ap (λ (l : List ℕ). leader less (scoreIn s pts r (take (s .n) l) f (edge a b)) (listed s u found) (f32 0) none) (c .kept .after)
     ∙ any-order strict (scoreIn s pts r (usedIn s w) f (edge a b)) (listed s u found) order
     (λ k x e h. let n = order-of-count (s .indexed) (s .grid) pts (s .n) k in let o : bit (ltb k (s .n)) ≡ 1 = ap bit (lt-ltb k (s .n) (c .below k h)) in omega arith)
-    (λ k x e h. scored-in s pts r f w u found a b (i .limits) (i .center-is ∙ ep) c k x e (inside k h))
+    (λ k x e h. scored-in s pts r f w u found a b (i .limits) (i .center-is ∙ ep) eq c k x e (inside k h))
     ∙ ordered
     ∙ ap (λ (l : List ℕ). bestOf (floatsOf s pts) r (usedIn s w) (edge a b) l (f32 0) none) around-is
   where

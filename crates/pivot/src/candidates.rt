@@ -156,8 +156,9 @@ pub fn find_best(
         × Kept s (now (w .entry)) (now (w .exit)) ⌝ }
 {
     let p = points::point_at(points, a);
-    let place = decisions::middle_of(p, points::point_at(points, b));
+    let q = points::point_at(points, b);
+    let place = decisions::middle_of(p, q);
     let f = nearby::filter_of(s, p, place, radius);
-    let found = nearby::gather_near(s, points, w, f, radius * 1.001, hash);
+    let found = nearby::gather_both(s, points, w, f, q, radius * 1.001, hash);
     best_of(s, points, w, found, radius, f, a, b)
 }

@@ -13,6 +13,7 @@ use lib.ListN.{length, take, drop, getD, length-take}
 use lib.Seq.{getD-take, getD-drop}
 use lib.Ieee.{Float, lt}
 use borrow.Author.Tests.{ltb-true, ltb-false, eq-eqb, eqb-true}
+use Rattle.vector.specs.Vector.{squared}
 use Rattle.vector.specs.declared.Point3f.{Point3f}
 use Rattle.points.specs.Points.{pointAt}
 use Rattle.sorting.specs.Insertion.{insertBefore}
@@ -94,7 +95,7 @@ module _ (s : Scene) (pts : List Float) (r : Float) (used : List ℕ) where
 
 -- ---- a spread that is too small
 
-pub listing : {s : Scene} {pts : List Float} {r : Float} {i : ℕ} {f : Filter} {w u : List ℕ} {found : ℕ} {p : Point3f} → p ≡ pointAt pts i → Filters s p p (reach r) f → Collected s pts f w u found → Listing s pts r i f u found
+pub listing : {s : Scene} {pts : List Float} {r : Float} {i : ℕ} {f : Filter} {w u : List ℕ} {found : ℕ} {p : Point3f} → p ≡ pointAt pts i → Filters s p p (reach r) f → Collected s pts f (f .center) w u found → Listing s pts r i f u found
 listing {s} {pts} {r} {f = f} {u = u} e x c = record {
   filters = subst (λ (q : Point3f). Filters s q q (reach r) f) e x;
   collected = record { most = c .most; below = c .below; once = c .once; complete = λ k h t. c .complete k h (subst (λ (l : List ℕ). unused (take (s .n) l) k ≡ true) (c .kept .after) t); kept = kept-self s u };
@@ -104,7 +105,8 @@ listing {s} {pts} {r} {f = f} {u = u} e x c = record {
 listed-near : {s : Scene} {pts : List Float} {r : Float} {i : ℕ} {f : Filter} {w : List ℕ} {found : ℕ} → Listing s pts r i f w found → (k : ℕ) → k < s .n
     → inReach pts (usedIn s w) (pointAt pts i) (f .limit) k ≡ true → 1 ≤ count (eqb k) (listed s w found)
 listed-near {s} {pts} {i = i} {f = f} {w = w} l k h t =
-    l .collected .complete k h (in-unused pts (usedIn s w) (pointAt pts i) (f .limit) k t) (rw (l .filters .center-is) (in-reach pts (usedIn s w) (pointAt pts i) (f .limit) k t))
+    let near : lt (f .limit) (squared (pointAt pts k) (f .center)) ≡ false = rw (l .filters .center-is) (in-reach pts (usedIn s w) (pointAt pts i) (f .limit) k t) in
+    l .collected .complete k h (in-unused pts (usedIn s w) (pointAt pts i) (f .limit) k t) near near
 
 pub small-nothing : {s : Scene} {pts : List Float} {r : Float} {l : Limits} {i : ℕ} {f : Filter} {w : List ℕ} {found : ℕ} {v : Point3f} → Judged s pts r l → i < s .n → Listing s pts r i f w found
     → v ≡ spread pts (pointAt pts i) (listed s w found) → tooSmall s v v ≡ true → withFirst (floatsOf s pts) r (usedIn s w) i ≡ none

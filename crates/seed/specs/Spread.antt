@@ -62,4 +62,4 @@ pub record Judged (s : Scene) (pts : List Float) (r : Float) (l : Limits) : Type
 -- the points near point i are listed, but not yet in order
 pub record Listing (s : Scene) (pts : List Float) (r : Float) (i : ℕ) (f : Filter) (w : List ℕ) (found : ℕ) : Type 0 where
   pub filters : Filters s (pointAt pts i) (pointAt pts i) (reach r) f
-  pub collected : Collected s pts f w w found
+  pub collected : Collected s pts f (f .center) w w found

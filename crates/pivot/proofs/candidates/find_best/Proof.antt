@@ -21,15 +21,19 @@ middle-of-requires c κs = search needs
 filter-of-requires : tie.Need-filter-of-requires
 filter-of-requires c κs = search needs
 
-gather-near-requires : tie.Need-gather-near-requires
-gather-near-requires c κs =
+gather-both-requires : tie.Need-gather-both-requires
+gather-both-requires c κs =
     let n = c .before .before .before .before .before .before .before in
-    (n .pre .2, subst Finite (sym (c .before .filter-of .ensures .center-is ∙ c .before .before .before .before .point-at .ensures)) (n .pre .2 .linked .ready .numbers (n .args .a) (n .pre .3)))
+    let numbers = n .pre .2 .linked .ready .numbers in (
+      n .pre .2,
+      subst Finite (sym (c .before .filter-of .ensures .center-is ∙ c .before .before .before .before .point-at .ensures)) (numbers (n .args .a) (n .pre .3)),
+      subst Finite (sym (c .before .before .before .point-at2 .ensures)) (numbers (n .args .b) (n .pre .4)),
+    )
 
 best-of-requires : tie.Need-best-of-requires
 best-of-requires c κs =
     let n = c .before .before .before .before .before .before .before .before .before .before .before in
-    let g = c .before .before .before .gather-near in
+    let g = c .before .before .before .gather-both in
     let h = held-kept (g .last .1 .1 .0) (n .pre .0) (g .kept .1 .1 .0) in (
       h,
       cells-kept (n .args .s .grid) (n .args .points .now) (n .args .s .n) (n .args .w .now) (g .last .1 .1 .0) (n .pre .1 .cells) (g .ensures .kept .before),
@@ -40,13 +44,13 @@ best-of-requires c κs =
     )
 
 same-length : tie.Need-same-length
-same-length c = c .before .before .before .before .gather-near .kept .1 .1 .0
+same-length c = c .before .before .before .before .gather-both .kept .1 .1 .0
 
 returns : tie.Need-returns
 returns c =
     let n = c .before .before .before .before .before .before .before .before .before .before .before .before in
     let a = n .args in
-    let g = c .before .before .before .before .gather-near in
+    let g = c .before .before .before .before .gather-both in
     let f = c .before .before .before .before .before .before .filter-of in
     let m = c .before .before .before .before .before .before .before .middle-of in
     let q = c .before .before .before .before .before .before .before .before .point-at2 in
@@ -56,4 +60,4 @@ returns c =
     )
 
 pub find-best-spec : {M : Type 1} → statement M
-find-best-spec = tie.close (tie.spec point-at-requires point-at-requires-2 middle-of-requires filter-of-requires gather-near-requires best-of-requires same-length returns)
+find-best-spec = tie.close (tie.spec point-at-requires point-at-requires-2 middle-of-requires filter-of-requires gather-both-requires best-of-requires same-length returns)
