@@ -1,10 +1,10 @@
--- What is refused without measuring it: triangles below a bound of the area (`bounded-accepts`), and of points close to each other those that limits refuse (`refused-accepts`) and all at a `Hopeless` radius (`hopeless-accepts`).
+-- What is refused without measuring it: triangles below a bound of the area (`bounded-accepts`), those of points with a square above the limit (`far-apart`), and of points close to each other those that limits refuse (`refused-accepts`) and all at a `Hopeless` radius (`hopeless-accepts`).
 -- Assumes nothing.
 use Prim.Native.Nat.{ℕ}
-use mathlib.Core.Path.{_≡_, refl, sym, subst}
+use mathlib.Core.Path.{_≡_, refl, sym, _∙_, subst}
 use mathlib.Core.Bool.{true, false}
 use mathlib.Core.List.{List}
-use lib.Dec.{T, T-not}
+use lib.Dec.{T}
 use lib.Ieee.{Float, inf, lt, le}
 use lib.Ieee.Bits.{is-true}
 use lib.Ieee.Scale.{finite}
@@ -63,6 +63,15 @@ least-flat s g = record { refuses = λ p q t r h. low-refused (quality p q t) r 
 
 -- ---- triangles of the cloud's points
 
+-- points whose square of the distance is above the limit are not close
+pub far-apart : {s : Scene} {r : Float} {l : Limits} (pts : List Float) (i j : ℕ) → Limiting s r l → T (lt (l .far) (squared (pointAt pts i) (pointAt pts j))) → isClose pts r i j ≡ false
+unfolding isClose apart
+far-apart {r = r} pts i j g h =
+    let p = pointAt pts i in
+    let q = pointAt pts j in
+    let k : lt (reach r) (distance p q) ≡ true = rw (distance-is p q) (is-true (lt (reach r) (root (squared p q))) (g .fars (squared p q) (squared-fits p q) h)) in
+    rw k
+
 module _ (s : Scene) (pts : List Float) (r : Float) (i j k : ℕ) where
   pub bounded-accepts : (v w : Point3f) → Unsigned v → Unsigned w → Bounds (difference (pointAt pts j) (pointAt pts i)) v → Bounds (difference (pointAt pts k) (pointAt pts i)) w
       → lt (areaBound v w) (s .«min_triangle_area») ≡ true → accepts s r (qualityAt pts i j k) ≡ false
@@ -107,10 +116,7 @@ module _ (s : Scene) (pts : List Float) (r : Float) (i j k : ℕ) where
         let t = pointAt pts k in
         let e = edges-finite (g .larges .bounded (crossSquared p q t) h) in
         large-refused p q t r (s .«min_triangle_area») (s .«quality_threshold») (s .«max_edge_factor») (e .0) (e .1) (e .2) (area-too-long p q t r (s .«max_edge_factor») (l .large) (g .larges) h)
-    refused-accepts {l} g (far h) =
-        let q = pointAt pts j in
-        let t = pointAt pts k in
-        absurd (T-not (lt (reach r) (distance q t)) (subst T (sym cjk) tt) (subst (λ (x : Float). T (lt (reach r) x)) (sym (distance-is q t)) (g .fars (squared q t) (squared-fits q t) h)))
+    refused-accepts {l} g (far h) = absurd (subst T (sym cjk ∙ far-apart pts j k g h) tt)
     refused-accepts {l} g (thin h) =
         let p = pointAt pts i in
         let q = pointAt pts j in

@@ -36,6 +36,11 @@ pub data Refused (l : Limits) (p q t : Point3f) : Type 0 where
   far : T (lt (l .far) (squared q t)) → Refused l p q t
   thin : AllThin (l .thin) (squared p q) (squared p t) (squared q t) (crossSquared p q t) → Refused l p q t
 
+-- limits refuse the triangle of p, q and t whichever of them comes first: q and t are too far apart, or it is refused in each order
+pub data RefusedThroughout (l : Limits) (p q t : Point3f) : Type 0 where
+  distant : T (lt (l .far) (squared q t)) → RefusedThroughout l p q t
+  each : Refused l p q t → Refused l q p t → Refused l t p q → RefusedThroughout l p q t
+
 -- points that are close at a radius have finite distances, and no triangle has an area large enough and edges short enough
 pub record Hopeless (s : Scene) (r : Float) : Type 0 where
   pub bounded : T (lt (reach r) (inf false))

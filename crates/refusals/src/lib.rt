@@ -2,8 +2,9 @@
 use decisions::Scene;
 use vector::Point3f;
 ghost use mathlib.Core.Path.{_≡_};
-ghost use mathlib.Core.Bool.{true};
-ghost use Rattle.refusals.specs.Refused.{Least, Limiting, Refused, Hopeless};
+ghost use mathlib.Core.Bool.{true, _&&_};
+ghost use lib.Ieee.{le};
+ghost use Rattle.refusals.specs.Refused.{Least, Limiting, Refused, RefusedThroughout, Hopeless};
 
 // Limits for squares, by which a triangle is refused: of twice the area a least and a largest, of a distance the largest, and one for the aspect ratio.
 pub struct Limits {
@@ -58,6 +59,48 @@ pub fn is_refused(l: Limits, p: Point3f, q: Point3f, t: Point3f) -> bool
     }
     let first = vector::distance_squared(p, q);
     thin::is_thin(first, vector::distance_squared(p, t), last, cross, l.thin)
+}
+
+// Whether three numbers are at most x.
+fn are_at_most(a: f32, b: f32, c: f32, x: f32) -> bool
+    ensures { λ r. ⌜ r ≡ (le a x && (le b x && le c x)) ⌝ }
+{
+    a <= x && (b <= x && c <= x)
+}
+
+// Whether they are at least x.
+fn are_at_least(a: f32, b: f32, c: f32, x: f32) -> bool
+    ensures { λ r. ⌜ r ≡ (le x a && (le x b && le x c)) ⌝ }
+{
+    x <= a && (x <= b && x <= c)
+}
+
+// Whether the limits refuse the triangle of three points, whichever of them comes first. Its area depends on that, by rounding: the largest one has to be too thin.
+pub fn is_refused_throughout(l: Limits, p: Point3f, q: Point3f, t: Point3f) -> bool
+    ensures { λ r. ⌜ (r ≡ true → RefusedThroughout l p q t) ⌝ }
+{
+    let third = vector::distance_squared(q, t);
+    if third > l.far {
+        return true;
+    }
+    let a = area_bounds::cross_squared(p, q, t);
+    let b = area_bounds::cross_squared(q, p, t);
+    let c = area_bounds::cross_squared(t, p, q);
+    if are_at_most(a, b, c, l.small) {
+        return true;
+    }
+    if are_at_least(a, b, c, l.large) {
+        return true;
+    }
+    let largest = numbers::max(numbers::max(a, b), c);
+    let first = vector::distance_squared(p, q);
+    thin::is_thin(
+        first,
+        vector::distance_squared(p, t),
+        third,
+        largest,
+        l.thin,
+    )
 }
 
 // Whether no triangle of points that are close to each other can be acceptable at a radius.

@@ -15,6 +15,7 @@ use lib.Ieee.{Float, lt}
 use borrow.Author.Tests.{ltb-true, ltb-false, eq-eqb, eqb-true}
 use Rattle.vector.specs.Vector.{squared}
 use Rattle.vector.specs.declared.Point3f.{Point3f}
+use Rattle.vector.proofs.Distances.{squared-turned}
 use Rattle.points.specs.Points.{pointAt}
 use Rattle.sorting.specs.Insertion.{insertBefore}
 use Rattle.grid.specs.Index.{earlier}
@@ -27,8 +28,8 @@ use Rattle.decisions.specs.declared.Scene.{Scene}
 use Rattle.decisions.specs.Decisions.{reach, apart, isClose, accepts, qualityAt, completes, floatsOf}
 use Rattle.decisions.proofs.Within.{within}
 use Rattle.refusals.specs.declared.Limits.{Limits}
-use Rattle.refusals.specs.Refused.{Refused, Hopeless}
-use Rattle.refusals.proofs.Refusals.{refused-turned, refused-accepts, hopeless-accepts}
+use Rattle.refusals.specs.Refused.{Refused, far, RefusedThroughout, distant, each, Hopeless}
+use Rattle.refusals.proofs.Refusals.{far-apart, refused-turned, refused-accepts, hopeless-accepts}
 use Rattle.nearby.specs.declared.Filter.{Filter}
 use Rattle.nearby.specs.Ready.{usedIn, listed}
 use Rattle.nearby.specs.Narrow.{insertAll, inReach, cellAt, passes, Filters, Collected, Narrowed}
@@ -186,6 +187,20 @@ limits-third {s} {pts} {r} {i = i} {j = j} {k = k} used g hi hj hk close h = com
 
 pub refused-fruitless : {s : Scene} {pts : List Float} {r : Float} {l : Limits} {i j k : ℕ} → Judged s pts r l → i < s .n → j < s .n → k < s .n → Refused l (pointAt pts i) (pointAt pts j) (pointAt pts k) → Fruitless s pts r i j k
 refused-fruitless g hi hj hk h = record { forward = refused-completes g hi hj hk h; backward = refused-completes g hi hk hj (refused-turned h) }
+
+-- two points that are not close make none with a third
+away-fruitless : (s : Scene) (pts : List Float) (r : Float) (i j k : ℕ) → isClose pts r i k ≡ false → Fruitless s pts r i j k
+unfolding completes
+away-fruitless s pts r i j k h = record { forward = λ c. rw h; backward = λ c. absurd (true-not-false c h) }
+
+-- what limits refuse throughout makes none, whichever of the three points comes first
+pub throughout-fruitless : {s : Scene} {pts : List Float} {r : Float} {l : Limits} {i j k : ℕ} → Judged s pts r l → i < s .n → j < s .n → k < s .n → RefusedThroughout l (pointAt pts i) (pointAt pts j) (pointAt pts k)
+    → Fruitless s pts r i j k × (Fruitless s pts r j i k × Fruitless s pts r k i j)
+throughout-fruitless {s} {pts} {r} {i = i} {j = j} {k = k} g hi hj hk (distant h) = (
+  refused-fruitless g hi hj hk (far h),
+  (away-fruitless s pts r j i k (far-apart pts j k (g .limits) h), away-fruitless s pts r k i j (far-apart pts k j (g .limits) (rw (squared-turned (pointAt pts k) (pointAt pts j)) h))),
+)
+throughout-fruitless g hi hj hk (each a b c) = (refused-fruitless g hi hj hk a, (refused-fruitless g hj hi hk b, refused-fruitless g hk hi hj c))
 
 -- what is in a list stands somewhere
 place-of : (k : ℕ) (xs : List ℕ) → 1 ≤ count (eqb k) xs → (m : ℕ) × ((m < length xs) × (getD xs m 0 ≡ k))

@@ -1,12 +1,12 @@
 -- The computed aspect ratio is at most the bound where the test by squares passed (`aspect-below`): the errors of each operation, put into the chain of `Squares`. Assumes nothing.
-use mathlib.Core.Path.{_≡_, refl, sym, ap, _∙_}
+use mathlib.Core.Path.{_≡_, refl, sym, ap, _∙_, subst}
 use Prim.Native.Nat.{ℕ, _+_, _*_, _^_, _≤_, _<_}
-use native.Mathlib.Nat.{le-refl, mul-pos, mul-le-mul-right, le-of-mul-le-mul-right}
+use native.Mathlib.Nat.{le-refl, mul-pos, mul-le-mul, mul-le-mul-right, le-of-mul-le-mul-right}
 use native.Mathlib.Omega.{arith}
 use mathlib.Core.Bool.{Bool, true, false, cond}
 use lib.Dec.{T}
 use lib.Pow.{pow-pos}
-use lib.Ieee.{Float, nan, inf, fin, binary32, lt, le, fits, ofBits}
+use lib.Ieee.{Float, nan, inf, fin, binary32, mul, div, lt, le, fits, ofBits}
 use lib.Ieee.Positive.{num, den, den-pos, positive, positive-finite, value→cross}
 use Rattle.numbers.specs.Rounded.{f32, _⊕_, _⊗_, _⊘_}
 use Rattle.numbers.specs.Root.{root}
@@ -15,7 +15,7 @@ use Rattle.numbers.proofs.RoundedOrder.{Rounds, above, rounds-le, rounds-own}
 use Rattle.triangle.specs.Quality.{half, tiny, radiusOf, aspectRatio}
 use Rattle.triangle.specs.Bound.{shape, flat, shapeOf}
 use Rattle.thin.specs.Thin.{Quartered}
-use Rattle.thin.proofs.Near.{Near, near-eq, near-trans, near-add, near-self, near-times, near-cancel}
+use Rattle.thin.proofs.Near.{Near, near-le, near-eq, near-trans, near-add, near-self, near-times, near-cancel}
 use Rattle.thin.proofs.Rounding.{Units, units-pos, units-positive}
 use Rattle.thin.proofs.Operations.{between-units, mul-units, div-at, div-units, add-units, root-units}
 use Rattle.thin.proofs.Squares.{lengths-product, lengths-sum, above-bar, sum-below, product-below, ratio-below}
@@ -101,6 +101,21 @@ pub record Passed (A B C X t : ℕ) : Type 0 where
   pub n-second : n ≤ A
   pub near : Near 9 (X * X * (2 ^ 149 * 2 ^ 149 * 2 ^ 149)) (t * (A + B + C + 2 * (l + m + n)) * (A * B * C))
 
+-- of a smaller X
+pub passed-less : {A B C X Y t : ℕ} → Y ≤ X → Passed A B C X t → Passed A B C Y t
+passed-less h p = record {
+  l = p .l;
+  m = p .m;
+  n = p .n;
+  l-first = p .l-first;
+  l-second = p .l-second;
+  m-first = p .m-first;
+  m-second = p .m-second;
+  n-first = p .n-first;
+  n-second = p .n-second;
+  near = near-trans (near-le (mul-le-mul-right (2 ^ 149 * 2 ^ 149 * 2 ^ 149) (mul-le-mul h h))) (p .near);
+}
+
 -- in another order
 pub passed-turned : {A B C X t : ℕ} → Passed A B C X t → Passed B C A X t
 passed-turned {A} {B} {C} {X} {t} p = record {
@@ -153,7 +168,7 @@ pub record Edge (x : Float) : Type 0 where
 pub record Cross (x : Float) : Type 0 where
   pub n : ℕ
   pub held : T (fits binary32 x)
-  pub is : Units x n 89 209
+  pub is : Units x n 83 209
 
 -- four times the limit, by units
 limit-short : {α t : Float} {p q i j k l : ℕ} → Units α p i j → Units t q k l → Quartered α t → 524288 * q * 2 ^ 149 ≤ 131071 * (p * p)
@@ -170,6 +185,24 @@ limit-short {α} {t} {p} {q} u v k =
         let m : 524288 * q * w * (d * d * e) ≤ 131071 * (p * p) * (d * d * e) = omega arith in
         le-of-mul-le-mul-right m (mul-pos (mul-pos D D) E)
 
+-- what is to be shown where there is an area and a radius
+aspect-by : {t : Float} (a b c area α : Float) → Quartered α t → (lt area tiny ≡ false → lt tiny (radiusOf a b c area) ≡ true → T (le (area ⊘ ((a ⊕ b ⊕ c) ⊗ half) ⊘ radiusOf a b c area) α)) → T (le (shapeOf a b c area .«aspect_ratio») α)
+unfolding shapeOf shape flat aspectRatio
+aspect-by a b c area α k h = go (lt area tiny) (lt tiny (radiusOf a b c area)) refl refl
+  where
+    zero : T (le (f32 0) α)
+    zero = le-trans (f32 0) (f32 0x3b000000) α (unfold le ofBits in tt) (k .low)
+
+    go : (b1 b2 : Bool) → lt area tiny ≡ b1 → lt tiny (radiusOf a b c area) ≡ b2
+        → T (le (cond b1 (flat area) (record {
+          area = area;
+          «aspect_ratio» = cond b2 (area ⊘ ((a ⊕ b ⊕ c) ⊗ half) ⊘ radiusOf a b c area) (f32 0);
+          «edge_ratio» = shape a b c area .«edge_ratio»;
+        }) .«aspect_ratio») α)
+    go true b2 e g = zero
+    go false true e g = h e g
+    go false false e g = zero
+
 module _ (a b c x t α : Float) (ea : Edge a) (eb : Edge b) (ec : Edge c) (ex : Cross x) {T' : ℕ} (ut : Units t T' 129 151) (passed : Passed (ea .n) (eb .n) (ec .n) (ex .n) T') (k : Quartered α t) where
   ratio-le : T (le (root x ⊗ half ⊘ ((root a ⊕ root b ⊕ root c) ⊗ half) ⊘ radiusOf (root a) (root b) (root c) (root x ⊗ half)) α)
   unfolding radiusOf
@@ -179,16 +212,16 @@ module _ (a b c x t α : Float) (ea : Edge a) (eb : Edge b) (ec : Edge c) (ex : 
       let ra = root-units 135 163 (ea .held) (ea .is) tt in
       let rb = root-units 135 163 (eb .held) (eb .is) tt in
       let rc = root-units 135 163 (ec .held) (ec .is) tt in
-      let rx = root-units 118 180 (ex .held) (ex .is) tt in
-      let g = mul-units 117 179 (rx .is) half-units tt in
+      let rx = root-units 115 180 (ex .held) (ex .is) tt in
+      let g = mul-units 114 179 (rx .is) half-units tt in
       let s1 = add-units 135 164 (ra .is) (rb .is) tt tt in
       let s = add-units 135 165 (s1 .is) (rc .is) tt tt in
       let h = mul-units 134 164 (s .is) half-units tt in
-      let q = div-units 102 194 (g .is) (h .is) tt in
+      let q = div-units 99 194 (g .is) (h .is) tt in
       let p1 = mul-units 121 177 (ra .is) (rb .is) tt in
       let p = mul-units 107 191 (p1 .is) (rc .is) tt in
-      let f = mul-units 119 181 four-units (g .is) tt in
-      let ρ = div-units 75 221 (p .is) (f .is) tt in
+      let f = mul-units 116 181 four-units (g .is) tt in
+      let ρ = div-units 75 224 (p .is) (f .is) tt in
       let u = bound-units α (k .held) (k .low) (k .high) in
       let over = above-bar w (ex .n) (rx .n) (g .n) (h .n) (f .n) (q .n) (rx .below) (half-below w (2 ^ 148) (g .n) (rx .n) W refl (g .below)) (q .below) (times-below w (2 ^ 151) 4 (f .n) (g .n) W refl (f .below)) in
       let pairs = lengths-sum w (ea .n) (eb .n) (ec .n) (passed .l) (passed .m) (passed .n) (ra .n) (rb .n) (rc .n) (ra .above) (rb .above) (rc .above)
@@ -202,22 +235,20 @@ module _ (a b c x t α : Float) (ea : Edge a) (eb : Edge b) (ec : Edge c) (ex : 
       quotient-le (q .is) (ρ .is) (k .held) (u .1)
       (ratio-below w (ex .n) S (ea .n * eb .n * ec .n) T' (u .0) (q .n) (h .n) (f .n) (ρ .n) W (units-pos (h .is)) (units-pos (f .is)) (passed .near) (limit-short (u .1) ut k) over sums products)
 
-  zero-below : T (le (f32 0) α)
-  zero-below = le-trans (f32 0) (f32 0x3b000000) α start (k .low)
-    where
-      start : T (le (f32 0) (f32 0x3b000000))
-      start = unfold le ofBits in tt
-
   pub aspect-below : T (le (shapeOf (root a) (root b) (root c) (root x ⊗ half) .«aspect_ratio») α)
-  unfolding shapeOf shape flat aspectRatio
-  aspect-below = go (lt (root x ⊗ half) tiny) (lt tiny (radiusOf (root a) (root b) (root c) (root x ⊗ half)))
-    where
-      go : (b1 b2 : Bool)
-          → T (le (cond b1 (flat (root x ⊗ half)) (record {
-            area = root x ⊗ half;
-            «aspect_ratio» = cond b2 (root x ⊗ half ⊘ ((root a ⊕ root b ⊕ root c) ⊗ half) ⊘ radiusOf (root a) (root b) (root c) (root x ⊗ half)) (f32 0);
-            «edge_ratio» = shape (root a) (root b) (root c) (root x ⊗ half) .«edge_ratio»;
-          }) .«aspect_ratio») α)
-      go true b2 = zero-below
-      go false true = ratio-le
-      go false false = zero-below
+  aspect-below = aspect-by (root a) (root b) (root c) (root x ⊗ half) α k (λ e g. ratio-le)
+
+-- without an area, or with one that is no number, it is 0
+no-radius : (p : Float) → lt tiny (p ⊘ (f32 0x40800000 ⊗ (nan ⊗ half))) ≡ false
+unfolding lt div mul ofBits
+no-radius nan = refl
+no-radius (inf s) = refl
+no-radius (fin s m e) = refl
+
+module _ (a b c x t α : Float) (k : Quartered α t) where
+  pub flat-below : T (lt (root x ⊗ half) tiny) → T (le (shapeOf a b c (root x ⊗ half) .«aspect_ratio») α)
+  flat-below h = aspect-by a b c (root x ⊗ half) α k (λ e g. absurd (subst T e h))
+
+  pub none-below : root x ≡ nan → T (le (shapeOf a b c (root x ⊗ half) .«aspect_ratio») α)
+  unfolding radiusOf
+  none-below h = aspect-by a b c (root x ⊗ half) α k (λ e g. let n : lt tiny (radiusOf a b c (root x ⊗ half)) ≡ false = rw h (no-radius (a ⊗ b ⊗ c)) in absurd (subst T (sym g ∙ n) tt))

@@ -1,23 +1,29 @@
--- The limit is one (`limit-is`, `no-limit`), and a triangle that passes the test is thin in each order of its lengths (`all-thin`). Assumes nothing.
-use mathlib.Core.Path.{_≡_, refl, ap, subst}
-use Prim.Native.Nat.{ℕ, _+_, _*_, _^_, _≤_, _<_}
+-- The limit is one (`limit-is`, `no-limit`), and a triangle that passes the test is thin in each order of its lengths, and with every cross product that is no longer (`thin-up-to`). Assumes nothing.
+use mathlib.Core.Logic.{inl, inr}
+use mathlib.Core.Path.{_≡_, refl, sym, ap, subst}
+use Prim.Native.Nat.{ℕ, zero, suc, _+_, _*_, _^_, _≤_, _<_}
 use native.Mathlib.Nat.{mul-pos, mul-le-mul-right, le-of-mul-le-mul-right, one-le-pow}
 use native.Mathlib.Omega.{arith}
 use native.Mathlib.Bridge.{IsLe, le-by-compare}
-use lib.Dec.{T}
+use mathlib.Core.Bool.{Bool, true, false, not}
+use lib.Dec.{T, leb→le}
 use lib.Pow.{pow-pos}
-use lib.Ieee.{Float, binary32, neg, le, fits, ofBits}
+use lib.Ieee.{Float, nan, inf, fin, binary32, up, down, neg, mul, lt, le, fits, isNan, ofBits}
 use lib.Ieee.Fits.{and-l, and-r}
 use lib.Ieee.Order.{le-of-values}
 use lib.Ieee.Positive.{num, den, value→cross}
 use Rattle.numbers.specs.Rounded.{f32, _⊗_}
-use Rattle.triangle.specs.Quality.{one}
-use Rattle.thin.specs.Thin.{between, isPlain, spread, Quartered, ThinLimit, Thin, AllThin}
+use Rattle.numbers.specs.Root.{root}
+use Rattle.numbers.proofs.OrderLaws.{le-left, lt-le, le-or-lt, le-not-lt, not-lt-le, le-trans, unsigned-le}
+use Rattle.triangle.specs.Quality.{half, one, tiny}
+use Rattle.area_bounds.specs.AreaBound.{AreaLimit}
+use Rattle.area_bounds.proofs.AreaBound as area
+use Rattle.thin.specs.Thin.{between, isPlain, spread, Quartered, ThinLimit, Thin, AllThin, ThinUpTo}
 use Rattle.thin.proofs.Near.{Near, near-eq, near-trans, near-mul, near-add, near-self, near-more, near-times, near-cancel}
 use Rattle.thin.proofs.Rounding.{Units}
 use Rattle.thin.proofs.Operations.{between-units, units-le, minimum-units, mul-units, add-units}
 use Rattle.thin.proofs.Squares.{test-near}
-use Rattle.thin.proofs.Aspect.{two-units, four-units, bound-units, times-below, Passed, passed-turned, passed-swapped, Edge, Cross, aspect-below}
+use Rattle.thin.proofs.Aspect.{two-units, four-units, bound-units, times-below, Passed, passed-less, passed-turned, passed-swapped, Edge, Cross, aspect-below, flat-below, none-below}
 
 -- ---- the limit
 
@@ -100,17 +106,17 @@ edge x f h =
     let u = between-units x (f32 0x32800000) (f32 0x4c800000) 123 175 f (refl, refl) (refl, refl) (and-l (le (f32 0x32800000) x) _ h) (and-r (le (f32 0x32800000) x) _ h) in
     record { n = u .0; held = f; is = u .1 }
 
-cross : (x : Float) → T (fits binary32 x) → T (between x (f32 0x21800000) (f32 0x5d800000)) → Cross x
-unfolding between ofBits
-cross x f h =
-    let u = between-units x (f32 0x21800000) (f32 0x5d800000) 89 209 f (refl, refl) (refl, refl) (and-l (le (f32 0x21800000) x) _ h) (and-r (le (f32 0x21800000) x) _ h) in
+cross : (x : Float) → T (fits binary32 x) → T (le (f32 0x1e800000) x) → T (le x (f32 0x5d800000)) → Cross x
+unfolding ofBits
+cross x f l h =
+    let u = between-units x (f32 0x1e800000) (f32 0x5d800000) 83 209 f (refl, refl) (refl, refl) l h in
     record { n = u .0; held = f; is = u .1 }
 
 limit-units : (α t : Float) → T (fits binary32 t) → T (le (f32 0x35800000) t) → Quartered α t → (n : ℕ) × Units t n 129 151
 limit-units α t f l k = between-units t (f32 0x35800000) (f32 0x40800000) 129 151 f (unfold ofBits in (refl, refl)) (four-units .value) l (k .bounded)
 
-module _ (a b c x t : Float) (ea : Edge a) (eb : Edge b) (ec : Edge c) (ex : Cross x) where
-  test-passed : {q : ℕ} → Units t q 129 151 → T (le (x ⊗ x) (t ⊗ spread a b c ⊗ (a ⊗ b ⊗ c))) → Passed (ea .n) (eb .n) (ec .n) (ex .n) q
+module _ (a b c x t : Float) (ea : Edge a) (eb : Edge b) (ec : Edge c) {X : ℕ} (ux : Units x X 89 209) where
+  test-passed : {q : ℕ} → Units t q 129 151 → T (le (x ⊗ x) (t ⊗ spread a b c ⊗ (a ⊗ b ⊗ c))) → Passed (ea .n) (eb .n) (ec .n) X q
   unfolding spread
   test-passed {q} ut h =
       let w : ℕ = 2 ^ 149 in
@@ -128,7 +134,7 @@ module _ (a b c x t : Float) (ea : Edge a) (eb : Edge b) (ec : Edge c) (ex : Cro
       let p1 = mul-units 97 201 (ea .is) (eb .is) tt in
       let p = mul-units 71 227 (p1 .is) (ec .is) tt in
       let N = mul-units 25 259 (k .is) (p .is) tt in
-      let e = mul-units 29 269 (ex .is) (ex .is) tt in
+      let e = mul-units 29 269 ux ux tt in
       let sums : Near 2 (s2 .n) (ea .n + eb .n + ec .n) = near-trans (s2 .below) (near-add (s1 .below) (near-self 1 (ec .n))) in
       let twos : Near 3 (d .n) (2 * (l .k + m .k + n .k)) =
       near-trans (times-below w (2 ^ 150) 2 (d .n) (d2 .n) W refl (d .below)) (near-mul (near-self 0 2) (near-trans (d2 .below) (near-add (d1 .below) (near-self 1 (n .k))))) in
@@ -143,39 +149,101 @@ module _ (a b c x t : Float) (ea : Edge a) (eb : Edge b) (ec : Edge c) (ex : Cro
         n-first = n .first;
         n-second = n .second;
         near =
-            test-near w (ex .n) (e .n) (N .n) (k .n) (p .n) (p1 .n) q (s .n) (ea .n + eb .n + ec .n + 2 * (l .k + m .k + n .k)) (ea .n) (eb .n) (ec .n) (e .above) (units-le (e .is) (N .is) h) (N .below) (k .below) (p .below) (p1 .below)
+            test-near w X (e .n) (N .n) (k .n) (p .n) (p1 .n) q (s .n) (ea .n + eb .n + ec .n + 2 * (l .k + m .k + n .k)) (ea .n) (eb .n) (ec .n) (e .above) (units-le (e .is) (N .is) h) (N .below) (k .below) (p .below) (p1 .below)
             (near-trans (s .below) (near-add (near-more 1 sums) twos));
       }
 
 -- what the test says of every bound that the limit is for
-abbrev Passes : {a b c x : Float} (t : Float) → Edge a → Edge b → Edge c → Cross x → Type 0
-Passes t ea eb ec ex = (q : ℕ) → Units t q 129 151 → Passed (ea .n) (eb .n) (ec .n) (ex .n) q
+abbrev Passes : {a b c : Float} (t : Float) → Edge a → Edge b → Edge c → ℕ → Type 0
+Passes t ea eb ec X = (q : ℕ) → Units t q 129 151 → Passed (ea .n) (eb .n) (ec .n) X q
 
-thin-of : (a b c x t : Float) (ea : Edge a) (eb : Edge b) (ec : Edge c) (ex : Cross x) → T (fits binary32 t) → T (le (f32 0x35800000) t) → Passes t ea eb ec ex → Thin t a b c x
-thin-of a b c x t ea eb ec ex f l h = record {
+-- ---- cross products whose square is not above the tested one
+
+-- such a square has no root, or is that of next to no area, or is in the range that is analysed and at most X units
+data Kind (y : Float) (X : ℕ) : Type 0 where
+  rootless : root y ≡ nan → Kind y X
+  flat : T (lt (root y ⊗ half) tiny) → Kind y X
+  measured : (e : Cross y) → e .n ≤ X → Kind y X
+
+root-below : (y : Float) → T (lt y (f32 0)) → root y ≡ nan
+unfolding root
+root-below nan h = refl
+root-below (inf true) h = refl
+root-below (inf false) h = absurd (unfold lt ofBits in h)
+root-below (fin true zero e) h = let k = leb→le 1 (0 * up e * 1 + 0 * down e) (unfold lt ofBits in h) in absurd (omega arith)
+root-below (fin false zero e) h = absurd (le-not-lt (f32 0) (fin false 0 e) (unsigned-le (fin false 0 e) tt) h)
+root-below (fin true (suc m) e) h = refl
+root-below (fin false (suc m) e) h = absurd (le-not-lt (f32 0) (fin false (suc m) e) (unsigned-le (fin false (suc m) e) tt) h)
+
+-- the root of 2 ^ -66 is 2 ^ -33
+flat-limit : AreaLimit tiny (f32 0x1e800000)
+flat-limit = area.limit-is tiny (f32 0x1e800000) (unfold fits ofBits in tt) (unfold root mul lt ofBits in tt)
+
+kind : (x y : Float) {X : ℕ} → Units x X 89 209 → T (le x (f32 0x5d800000)) → T (fits binary32 y) → T (not (lt x y)) → Kind y X
+unfolding isNan
+kind x y {X} u h f g = go (isNan y) refl
+  where
+    none : (y : Float) → isNan y ≡ true → root y ≡ nan
+    none nan e = unfold root in refl
+    none (inf s) e = absurd (subst T (sym e) tt)
+    none (fin s m d) e = absurd (subst T (sym e) tt)
+
+    own : T (not (isNan x))
+    own = le-left x (f32 0x5d800000) h
+
+    number : T (not (isNan y)) → Kind y X
+    number n =
+        elim (le-or-lt (f32 0) y (unfold ofBits in tt) n) [
+          | inl z ↦
+              elim (le-or-lt (f32 0x1e800000) y (unfold ofBits in tt) n) [
+                | inl l ↦ let k = not-lt-le x y own n g in let e = cross y f l (le-trans y x (f32 0x5d800000) k h) in measured e (units-le (e .is) u k)
+                | inr l ↦ flat (flat-limit .below y f z (lt-le y (f32 0x1e800000) l))
+              ]
+          | inr z ↦ rootless (root-below y z)
+        ]
+
+    go : (b : Bool) → isNan y ≡ b → Kind y X
+    go true e = rootless (none y e)
+    go false e = number (rw e tt)
+
+thin-of : (a b c y t : Float) (ea : Edge a) (eb : Edge b) (ec : Edge c) {X : ℕ} → T (fits binary32 t) → T (le (f32 0x35800000) t) → Passes t ea eb ec X → Kind y X → Thin t a b c y
+thin-of a b c y t ea eb ec f l h (rootless e) = record { below = λ α z. none-below (root a) (root b) (root c) y t α (z .quartered l) e }
+thin-of a b c y t ea eb ec f l h (flat e) = record { below = λ α z. flat-below (root a) (root b) (root c) y t α (z .quartered l) e }
+thin-of a b c y t ea eb ec f l h (measured ey g) = record {
   below =
       λ α z.
       let k = z .quartered l in
       let u = limit-units α t f l k in
-      aspect-below a b c x t α ea eb ec ex (u .1) (h (u .0) (u .1)) k;
+      aspect-below a b c y t α ea eb ec ey (u .1) (passed-less g (h (u .0) (u .1))) k;
 }
 
-pub all-thin : (a b c x t : Float) → T (fits binary32 a) → T (fits binary32 b) → T (fits binary32 c) → T (fits binary32 x) → T (fits binary32 t) → T (le (f32 0x35800000) t) → T (isPlain a b c x)
-    → T (le (x ⊗ x) (t ⊗ spread a b c ⊗ (a ⊗ b ⊗ c))) → AllThin t a b c x
-unfolding isPlain
-all-thin a b c x t fa fb fc fx f l p h =
+all-thin : (a b c x t : Float) → T (fits binary32 a) → T (fits binary32 b) → T (fits binary32 c) → T (fits binary32 x) → T (fits binary32 t) → T (le (f32 0x35800000) t) → T (isPlain a b c x)
+    → T (le (x ⊗ x) (t ⊗ spread a b c ⊗ (a ⊗ b ⊗ c))) → (y : Float) → T (fits binary32 y) → T (not (lt x y)) → AllThin t a b c y
+unfolding isPlain between ofBits
+all-thin a b c x t fa fb fc fx f l p h y fy g =
     let p1 = and-r (between a (f32 0x32800000) (f32 0x4c800000)) _ p in
     let p2 = and-r (between b (f32 0x32800000) (f32 0x4c800000)) _ p1 in
+    let px = and-r (between c (f32 0x32800000) (f32 0x4c800000)) _ p2 in
     let ea = edge a fa (and-l (between a (f32 0x32800000) (f32 0x4c800000)) _ p) in
     let eb = edge b fb (and-l (between b (f32 0x32800000) (f32 0x4c800000)) _ p1) in
     let ec = edge c fc (and-l (between c (f32 0x32800000) (f32 0x4c800000)) _ p2) in
-    let ex = cross x fx (and-r (between c (f32 0x32800000) (f32 0x4c800000)) _ p2) in
-    let abc : Passes t ea eb ec ex = λ q u. test-passed a b c x t ea eb ec ex u h in
+    let hi = and-r (le (f32 0x21800000) x) (le x (f32 0x5d800000)) px in
+    let ux = between-units x (f32 0x21800000) (f32 0x5d800000) 89 209 fx (refl, refl) (refl, refl) (and-l (le (f32 0x21800000) x) (le x (f32 0x5d800000)) px) hi in
+    let abc : Passes t ea eb ec (ux .0) = λ q u. test-passed a b c x t ea eb ec (ux .1) u h in
+    let k = kind x y (ux .1) hi fy g in
     record {
-      abc = thin-of a b c x t ea eb ec ex f l abc;
-      acb = thin-of a c b x t ea ec eb ex f l (λ q u. passed-swapped (passed-turned (passed-turned (abc q u))));
-      bac = thin-of b a c x t eb ea ec ex f l (λ q u. passed-swapped (abc q u));
-      bca = thin-of b c a x t eb ec ea ex f l (λ q u. passed-turned (abc q u));
-      cab = thin-of c a b x t ec ea eb ex f l (λ q u. passed-turned (passed-turned (abc q u)));
-      cba = thin-of c b a x t ec eb ea ex f l (λ q u. passed-swapped (passed-turned (abc q u)));
+      abc = thin-of a b c y t ea eb ec f l abc k;
+      acb = thin-of a c b y t ea ec eb f l (λ q u. passed-swapped (passed-turned (passed-turned (abc q u)))) k;
+      bac = thin-of b a c y t eb ea ec f l (λ q u. passed-swapped (abc q u)) k;
+      bca = thin-of b c a y t eb ec ea f l (λ q u. passed-turned (abc q u)) k;
+      cab = thin-of c a b y t ec ea eb f l (λ q u. passed-turned (passed-turned (abc q u))) k;
+      cba = thin-of c b a y t ec eb ea f l (λ q u. passed-swapped (passed-turned (abc q u))) k;
     }
+
+pub thin-up-to : (a b c x t : Float) → T (fits binary32 a) → T (fits binary32 b) → T (fits binary32 c) → T (fits binary32 x) → T (fits binary32 t) → T (le (f32 0x35800000) t) → T (isPlain a b c x)
+    → T (le (x ⊗ x) (t ⊗ spread a b c ⊗ (a ⊗ b ⊗ c))) → ThinUpTo t a b c x
+thin-up-to a b c x t fa fb fc fx f l p h = let k = all-thin a b c x t fa fb fc fx f l p h in record { own = k x fx (self (lt x x) refl); less = k }
+  where
+    self : (v : Bool) → lt x x ≡ v → T (not v)
+    self true e = let g : T (lt x x) = rw e tt in absurd (le-not-lt x x (lt-le x x g) g)
+    self false e = tt

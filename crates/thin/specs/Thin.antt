@@ -1,8 +1,8 @@
 -- When the aspect ratio is at most a bound, by the squares of the lengths: the test, the limit that it takes, and what it says. Definitions only.
 use Prim.Native.Nat.{_*_, _^_, _-_, _≤_}
-use mathlib.Core.Bool.{Bool, _&&_}
+use mathlib.Core.Bool.{Bool, not, _&&_}
 use lib.Dec.{T}
-use lib.Ieee.{Float, binary32, le, fits}
+use lib.Ieee.{Float, binary32, lt, le, fits}
 use lib.Ieee.Positive.{num, den}
 use Rattle.numbers.specs.Rounded.{f32, _⊕_, _⊗_}
 use Rattle.numbers.specs.Root.{root}
@@ -47,3 +47,8 @@ pub record AllThin (limit a b c cross : Float) : Type 0 where
   pub bca : Thin limit b c a cross
   pub cab : Thin limit c a b cross
   pub cba : Thin limit c b a cross
+
+-- the same, and with any other cross product whose square is not above that
+pub record ThinUpTo (limit a b c cross : Float) : Type 0 where
+  pub own : AllThin limit a b c cross
+  pub less : (x : Float) → T (fits binary32 x) → T (not (lt cross x)) → AllThin limit a b c x

@@ -1,7 +1,7 @@
 // A test by squares that a triangle's aspect ratio is at most a bound, before any root is taken.
 ghost use mathlib.Core.Path.{_≡_};
 ghost use mathlib.Core.Bool.{true};
-ghost use Rattle.thin.specs.Thin.{ThinLimit, AllThin, between, isPlain, spread};
+ghost use Rattle.thin.specs.Thin.{ThinLimit, ThinUpTo, between, isPlain, spread};
 
 fn is_between(x: f32, lo: f32, hi: f32) -> bool
     ensures { λ r. ⌜ r ≡ between x lo hi ⌝ }
@@ -36,9 +36,9 @@ fn spread(a: f32, b: f32, c: f32) -> f32
     (a + b + c) + 2.0 * (numbers::min(a, b) + numbers::min(b, c) + numbers::min(c, a))
 }
 
-// Whether the aspect ratio is surely at most the bound that the limit is for; from the squares of the edges' lengths and of the cross product's.
+// Whether the aspect ratio is surely at most the bound that the limit is for; from the squares of the edges' lengths and of the cross product's, or one that is not below it.
 pub fn is_thin(a: f32, b: f32, c: f32, cross: f32, limit: f32) -> bool
-    ensures { λ r. ⌜ (r ≡ true → AllThin limit a b c cross) ⌝ }
+    ensures { λ r. ⌜ (r ≡ true → ThinUpTo limit a b c cross) ⌝ }
 {
     if !(limit >= 0.00000095367432) {
         return false;

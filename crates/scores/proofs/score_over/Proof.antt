@@ -38,7 +38,7 @@ returns-3 c =
     over-thin (a .s) (a .radius) (a .top) (a .side .p) (a .side .q) (a .t) (n .pre .2)
     (rw
     (← ap (λ (x : Side). x .square) (n .pre .0), ← c .before .before .cross-squared .ensures, ← c .before .before .before .before .distance-squared2 .ensures, ← c .before .before .before .before .before .before .distance-squared .ensures)
-    (c .before .is-thin .ensures (c .if3 .taken)))
+    (c .before .is-thin .ensures (c .if3 .taken) .own))
 
 score-near-requires : tie.Need-score-near-requires
 score-near-requires c κs = search needs

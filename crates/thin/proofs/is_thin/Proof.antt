@@ -5,7 +5,7 @@ use lib.Ieee.{le}
 use borrow.Author.Needs.{needs}
 use borrow.Author.Tests.{not-false}
 use Rattle.numbers.specs.Rounded.{f32}
-use Rattle.thin.proofs.Thin.{all-thin}
+use Rattle.thin.proofs.Thin.{thin-up-to}
 use Rattle.thin.proofs.is_thin.Statement.{statement}
 use Rattle.thin.proofs.is_thin.Tie as tie
 
@@ -26,7 +26,7 @@ returns-3 c =
     let plain = c .before .before in
     let s = plain .before .before in
     λ h.
-    all-thin (s .args .a) (s .args .b) (s .args .c) (s .args .cross) (s .args .limit) (subst T (sym (s .good .0 .1)) tt) (subst T (sym (s .good .1 .0 .1)) tt) (subst T (sym (s .good .1 .1 .0 .1)) tt)
+    thin-up-to (s .args .a) (s .args .b) (s .args .c) (s .args .cross) (s .args .limit) (subst T (sym (s .good .0 .1)) tt) (subst T (sym (s .good .1 .0 .1)) tt) (subst T (sym (s .good .1 .1 .0 .1)) tt)
     (subst T (sym (s .good .1 .1 .1 .0 .1)) tt) (subst T (sym (s .good .1 .1 .1 .1 .0 .1)) tt)
     (rw (not-false (le (f32 0x35800000) (s .args .limit)) (plain .before .if1 .left)) tt)
     (rw (← plain .is-plain .ensures, not-false (plain .is-plain .result) (c .before .if2 .left)) tt)
