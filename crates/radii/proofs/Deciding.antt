@@ -7,9 +7,9 @@ use Prim.Native.Nat.{ℕ, zero, suc, _+_, _*_, _≤_, _<_, min}
 use native.Mathlib.Omega.{arith}
 use borrow.Author.Tests.{eq-eqb, ltb-true, ltb-false, lt-ltb, le-ltb, eqb-true, eqb-false}
 use lib.Dec.{T, eqb, ltb}
-use lib.ListN.{length, take, drop, getD, length-take, length-drop}
-use lib.Seq.{getD-take, getD-drop, length-take-le, take-take}
-use lib.Ieee.{Float, nan, lt, le, isNan}
+use lib.ListN.{length, take, drop, length-take, length-drop}
+use lib.Seq.{length-take-le}
+use lib.Ieee.{Float, lt, le, isNan}
 use lib.Ieee.Bits.{is-true}
 use Rattle.numbers.specs.Rounded.{f32, _⊗_}
 use Rattle.numbers.specs.Root.{root}
@@ -27,7 +27,7 @@ use Rattle.grid.proofs.Near.{near-is}
 use Rattle.grid.proofs.Sequence.{order-of-below}
 use Rattle.patch.specs.Count.{count, bit}
 use Rattle.patch.specs.Search as search
-use Rattle.patch.proofs.Counts.{not-true, and-both, count-mono, count-zero}
+use Rattle.patch.proofs.Counts.{not-true, and-both, count-mono, count-zero, count-all}
 use Rattle.spatial_hash.specs.declared.Bounds.{Bounds}
 use Rattle.spatial_hash.specs.declared.Hash.{Hash}
 use Rattle.spatial_hash.specs.Near.{Finite, Covers, nobody, Gathers, Gathered}
@@ -36,8 +36,8 @@ use Rattle.spatial_hash.proofs.Squares.{Good, squared-good, distance-back}
 use Rattle.spatial_hash.proofs.Nearby.{count-same, gathered-all, gathered-count, up-whole}
 use Rattle.radii.specs.declared.Around.{Around}
 use Rattle.radii.specs.Radii.{distancesTo, nearOf, nearest}
-use Rattle.radii.specs.Squares.{aroundOf, isNear, squaresTo, leastSquares, Whole, Prepared, Kept, Looked}
-use Rattle.radii.proofs.Rising.{atMost, insert-count, sorted-count, sorted-rising, sorted-good, roots-good, least-same, least-roots, rising-upto}
+use Rattle.radii.specs.Squares.{aroundOf, isNear, within, squaresTo, leastSquares, Whole, Prepared, Kept, Looked}
+use Rattle.radii.proofs.Rising.{atMost, insert-count, sorted-count, sorted-good, roots-good, least-same, least-roots}
 
 -- ---- squares of some points
 abbrev key : List Float → ℕ → ℕ → Float
@@ -63,6 +63,15 @@ module _ (near : ℕ → Bool) (pts : List Float) (i : ℕ) where
   squares-count v (j ∷ js) = go (not (eqb j i) && near j) (squares-count v js)
     where
       go : (b : Bool) → count (atMost v) (squaresTo near pts i js) ≡ count (close v) js → count (atMost v) (cond b (key pts i j ∷ squaresTo near pts i js) (squaresTo near pts i js)) ≡ bit (b && le (key pts i j) v) + count (close v) js
+      go true r = omega arith
+      go false r = omega arith
+
+  squares-length : (js : List ℕ) → length (squaresTo near pts i js) ≡ count (λ (j : ℕ). not (eqb j i) && near j) js
+  unfolding squaresTo
+  squares-length [] = refl
+  squares-length (j ∷ js) = go (not (eqb j i) && near j) (squares-length js)
+    where
+      go : (b : Bool) → length (squaresTo near pts i js) ≡ count (λ (k : ℕ). not (eqb k i) && near k) js → length (cond b (key pts i j ∷ squaresTo near pts i js) (squaresTo near pts i js)) ≡ bit b + count (λ (k : ℕ). not (eqb k i) && near k) js
       go true r = omega arith
       go false r = omega arith
 
@@ -109,54 +118,74 @@ module _ (near : ℕ → Bool) (pts : List Float) (n i : ℕ) (b : Bounds) (js a
       count-mono (close near pts i limit) (close near pts i v)
       (λ (j : ℕ) (e : close near pts i limit j ≡ true). let c = close-le near pts i limit j e in le-close near pts i v j (c .0) (le-trans (key pts i j) limit v (c .1) (lt-le limit v l))) xs
 
-  agree : T (not (isNan limit)) → ((v : Float) → T (lt limit v) → 10 ≤ passing limit js) → (v : Float) → min 10 (passing v js) ≡ min 10 (passing v all)
-  agree f enough v = go (le v limit) refl (isNan v) refl
+  -- the squares that are not above the limit
+  abbrev kept : ℕ → Bool
+  kept = within limit near pts i
+
+  kept-other : (j : ℕ) → (not (eqb j i) && kept j) ≡ true → close near pts i limit j ≡ true
+  kept-other j e =
+      let a = and-both {p = not (eqb j i)} {q = kept j} e in
+      let b = and-both {p = near j} {q = le (key pts i j) limit} (a .1) in
+      rw (a .0, b .0, b .1)
+
+  other-kept : (j : ℕ) → close near pts i limit j ≡ true → (not (eqb j i) && kept j) ≡ true
+  other-kept j e =
+      let a = and-both {p = not (eqb j i) && near j} {q = le (key pts i j) limit} e in
+      let b = and-both {p = not (eqb j i)} {q = near j} (a .0) in
+      rw (b .0, b .1, a .1)
+
+  kept-count : (v : Float) → T (le v limit) → count (close kept pts i v) js ≡ passing v js
+  kept-count v l =
+      let a = count-mono (close kept pts i v) (close near pts i v) (λ (j : ℕ) (e : close kept pts i v j ≡ true). let c = close-le kept pts i v j e in le-close near pts i v j (close-le near pts i limit j (kept-other j (c .0)) .0) (c .1)) js in
+      let b = count-mono (close near pts i v) (close kept pts i v) (λ (j : ℕ) (e : close near pts i v j ≡ true). let c = close-le near pts i v j e in le-close kept pts i v j (other-kept j (le-close near pts i limit j (c .0) (le-trans (key pts i j) v limit (c .1) l))) (c .1)) js in
+      omega arith
+
+  kept-more : (v : Float) → T (lt limit v) → passing limit js ≤ count (close kept pts i v) js
+  kept-more v l =
+      count-mono (close near pts i limit) (close kept pts i v)
+      (λ (j : ℕ) (e : close near pts i limit j ≡ true). le-close kept pts i v j (other-kept j e) (le-trans (key pts i j) limit v (close-le near pts i limit j e .1) (lt-le limit v l))) js
+
+  agree : 10 ≤ passing limit js → (v : Float) → min 10 (count (close kept pts i v) js) ≡ min 10 (passing v all)
+  agree enough v = go (le v limit) refl (isNan v) refl
     where
-      go : (c : Bool) → le v limit ≡ c → (d : Bool) → isNan v ≡ d → min 10 (passing v js) ≡ min 10 (passing v all)
-      go true e d k = ap (min 10) (upto v (subst T (sym e) tt))
+      number : (b : Bool) → isNan limit ≡ b → T (not (isNan limit))
+      number true e = absurd (omega (arith, count-zero (close near pts i limit) (close-nan near pts i limit e) js))
+      number false e = subst (λ (b : Bool). T (not b)) (sym e) tt
+
+      go : (c : Bool) → le v limit ≡ c → (d : Bool) → isNan v ≡ d → min 10 (count (close kept pts i v) js) ≡ min 10 (passing v all)
+      go true e d k = let l : T (le v limit) = subst T (sym e) tt in ap (min 10) (kept-count v l ∙ upto v l)
       go false e true k =
-          ap (min 10) (count-zero (close near pts i v) (close-nan near pts i v k) js ∙ sym (count-zero (close near pts i v) (close-nan near pts i v k) all))
+          ap (min 10) (count-zero (close kept pts i v) (close-nan kept pts i v k) js ∙ sym (count-zero (close near pts i v) (close-nan near pts i v k) all))
       go false e false k =
+          let f : T (not (isNan limit)) = number (isNan limit) refl in
           let l : T (lt limit v) = not-le-lt v limit (subst (λ (x : Bool). T (not x)) (sym k) tt) f (subst (λ (x : Bool). T (not x)) (sym e) tt) in
-          omega (arith, enough v l, upto limit (le-refl limit f), more v l js, more v l all)
+          omega (arith, enough, upto limit (le-refl limit f), kept-more v l, more v l all)
 
-  same : T (not (isNan limit)) → ((v : Float) → T (lt limit v) → 10 ≤ passing limit js) → leastSquares near pts i js ≡ leastSquares near pts i all
+  -- ten of them
+  pub decided-full : (f : List Float) → n + 10 ≤ length f → take 10 (drop n f) ≡ leastSquares kept pts i js → leastSquares kept pts i js ≡ leastSquares near pts i all
   unfolding leastSquares
-  same f enough =
-      least-same 10 (squaresTo near pts i js) (squaresTo near pts i all) (squares-good near pts i n inside numbers js (g .below)) (squares-good near pts i n inside numbers all (whole-below n all whole))
-      (λ (v : Float). ap (min 10) (squares-count near pts i v js) ∙ agree f enough v ∙ ap (min 10) (sym (squares-count near pts i v all)))
-
-  -- ten squares, none above the limit
-  pub decided-full : (f : List Float) → n + 10 ≤ length f → take 10 (drop n f) ≡ leastSquares near pts i js → T (le (getD f (n + 9) nan) limit) → leastSquares near pts i js ≡ leastSquares near pts i all
-  unfolding leastSquares
-  decided-full f long e l = same (le-right (getD f (n + 9) nan) limit l) (λ (v : Float) _. ten)
+  decided-full f long e =
+      least-same 10 ys (squaresTo near pts i all) (squares-good kept pts i n inside numbers js (g .below)) (squares-good near pts i n inside numbers all (whole-below n all whole))
+      (λ (v : Float). ap (min 10) (squares-count kept pts i v js) ∙ agree ten v ∙ ap (min 10) (sym (squares-count near pts i v all)))
     where
       ys : List Float
-      ys = squaresTo near pts i js
-
-      many : 9 < length (sorted ys)
-      many =
-          let a : length (take 10 (drop n f)) ≡ 10 = length-take-le 10 (drop n f) (simp length-drop (omega arith)) in
-          let c = ap length e in
-          omega (arith, length-take 10 (sorted ys))
-
-      tenth : getD (sorted ys) 9 nan ≡ getD f (n + 9) nan
-      tenth =
-          sym (getD-take 10 (sorted ys) 9 nan (omega arith)) ∙ ap (λ (xs : List Float). getD xs 9 nan) (sym e) ∙ getD-take 10 (drop n f) 9 nan (omega arith) ∙ getD-drop n f 9 nan
+      ys = squaresTo kept pts i js
 
       ten : 10 ≤ passing limit js
       ten =
-          let r = rising-upto limit (sorted ys) 9 (sorted-rising ys (squares-good near pts i n inside numbers js (g .below))) many (subst (λ (x : Float). T (le x limit)) (sym tenth) l) in
-          omega (arith, sorted-count (atMost limit) ys, squares-count near pts i limit js)
+          let a : length (take 10 (drop n f)) ≡ 10 = length-take-le 10 (drop n f) (simp length-drop (omega arith)) in
+          let c = ap length e in
+          let all-true : Float → Bool = λ (x : Float). true in
+          omega (arith, length-take 10 (sorted ys), count-all (sorted ys), sorted-count all-true ys, count-all ys, squares-length kept pts i js, count-mono (λ (j : ℕ). not (eqb j i) && kept j) (close near pts i limit) kept-other js)
 
 -- ---- a look
 pub looked : (a : Around) (pts : List Float) (n i : ℕ) (limit : Float) (w u : List ℕ) (f g : List Float) (h : Hash) (p : Point3f) (b : Bounds) (found r : ℕ)
     → Prepared h pts n i w f → length g ≡ length f → p ≡ pointAt pts i → Covers p limit b → Gathered pts n b w u found
-    → take r (drop n g) ≡ leastSquares (isNear a u n) pts i (take found (drop (4 * n) u)) → r ≤ 10 → take n g ≡ take n f → Looked a pts n i limit w u f g r
+    → take r (drop n g) ≡ leastSquares (within limit (isNear a u n) pts i) pts i (take found (drop (4 * n) u)) → r ≤ 10 → take n g ≡ take n f → Looked a pts n i w u f g r
 looked a pts n i limit w u f g h p b found r x size hp covers gathered squares few front = record {
   few = few;
-  full = λ (e : r ≡ 10) (l : T (le (getD g (n + 9) nan) limit)).
-      squares ∙ decided-full near pts n i b js (upFrom 0 n) limit (x .inside) (x .hashed .linked .ready .numbers) covers' (gathered-all (x .hashed) gathered) (up-whole n) g (omega (arith, x .room)) (ap (λ (k : ℕ). take k (drop n g)) (sym e) ∙ squares) l;
+  full = λ (e : r ≡ 10).
+      squares ∙ decided-full near pts n i b js (upFrom 0 n) limit (x .inside) (x .hashed .linked .ready .numbers) covers' (gathered-all (x .hashed) gathered) (up-whole n) g (omega (arith, x .room)) (ap (λ (k : ℕ). take k (drop n g)) (sym e) ∙ squares);
   kept = record { front = front; before = gathered .before; after = gathered .after };
 }
   where
@@ -182,9 +211,6 @@ prepared-kept {h} {pts} {n} {i} {w} {u} x words floats k = record {
   room = omega (arith, x .room);
   hashed = hashed-all-behind h pts n (5 * n) w u (omega arith) (k .after) words (x .hashed);
 }
-
-pub enough : (r : ℕ) (x limit : Float) → (eqb r 10 && le x limit) ≡ true → (r ≡ 10) × T (le x limit)
-enough r x limit e = let b = and-both {p = eqb r 10} {q = le x limit} e in (eqb-true r 10 (b .0), subst T (sym (b .1)) tt)
 
 -- ---- the least distances of the definition
 module _ (pts : List Float) (n i : ℕ) (inside : i < n) (numbers : (j : ℕ) → j < n → Finite (pointAt pts j)) (a : Around) (w : List ℕ) where

@@ -4,23 +4,26 @@ use mathlib.Core.Bool.{Bool, true, false, cond, not, _&&_}
 use mathlib.Core.List.{List, [], _∷_, _++_, map}
 use Prim.Native.Nat.{ℕ, suc, _+_, _-_, _≤_, _<_}
 use native.Mathlib.Omega.{arith}
+use borrow.Author.Tests.{eqb-true}
 use lib.Dec.{T, eqb}
 use lib.ListN.{length, take, drop, getD, set, length-take, length-drop, length-set, drop-of-length-le}
 use lib.Seq.{drop-cons, take-set-le, drop-set-lt, drop-set-add, take-suc, take-suc-set, getD-drop, drop-drop}
-use lib.Ieee.{Float, nan, le}
+use lib.Ieee.{Float, nan, inf, le, isNan}
 use Rattle.numbers.specs.Rounded.{_⊕_}
 use Rattle.numbers.specs.Root.{root}
+use Rattle.numbers.proofs.OrderLaws.{lt-le, not-le-lt, le-top, unsigned-number}
 use Rattle.vector.specs.declared.Point3f.{Point3f}
 use Rattle.vector.specs.Vector.{squared}
 use Rattle.points.specs.Points.{pointAt, upFrom}
-use Rattle.sorting.specs.Sorted.{insert, insertAll}
+use Rattle.sorting.specs.Sorted.{insert, insertAll, Rising}
 use Rattle.sorting.proofs.Insertion.{part-length, part-at}
 use Rattle.sorting.proofs.Least.{least-step, least-end}
+use Rattle.sorting.proofs.Rising.{all-at}
 use Rattle.spatial_hash.specs.Near.{Finite}
-use Rattle.spatial_hash.proofs.Squares.{squared-good}
+use Rattle.spatial_hash.proofs.Squares.{Good, squared-good}
 use Rattle.radii.specs.Radii.{total}
-use Rattle.radii.specs.Squares.{squaresTo, leastSquares, withSquare, Settled}
-use Rattle.radii.proofs.Rising.{Ordered, least-ordered}
+use Rattle.radii.specs.Squares.{within, tenthOf, squaresTo, leastSquares, withSquare}
+use Rattle.radii.proofs.Rising.{Ordered, least-ordered, rising-settled}
 
 -- ---- the rest of a part of a slice
 part-next : {A : Type 0} (w : List A) (at count k : ℕ) (d : A) → at + count ≤ length w → k < count → drop k (take count (drop at w)) ≡ getD w (at + k) d ∷ drop (k + 1) (take count (drop at w))
@@ -34,40 +37,65 @@ part-over : {A : Type 0} (w : List A) (at count k : ℕ) → at + count ≤ leng
 part-over w at count k long h = drop-of-length-le (take count (drop at w)) (subst (λ (m : ℕ). m ≤ k) (sym (part-length w at count long)) h)
 
 -- ---- one point is looked at
-module _ (near : ℕ → Bool) (pts : List Float) (i j : ℕ) (kept : List Float) (b : Bool) (is : b ≡ (not (eqb j i) && near j)) where
-  pub with-none : b ≡ false → kept ≡ withSquare near pts i j kept
-  unfolding withSquare
-  with-none e = let f : (not (eqb j i) && near j) ≡ false = sym is ∙ e in rw f
+not-is-true : (b : Bool) → not b ≡ true → b ≡ false
+not-is-true true e = sym e
+not-is-true false e = refl
 
-  pub with-one : (p q : Point3f) (s : Float) → b ≡ true → p ≡ pointAt pts j → q ≡ pointAt pts i → s ≡ squared p q → take 10 (insert s kept) ≡ withSquare near pts i j kept
-  unfolding withSquare
-  with-one p q s e hp hq hs =
-      let t : (not (eqb j i) && near j) ≡ true = sym is ∙ e in
-      let same : s ≡ squared (pointAt pts j) (pointAt pts i) = cc in
-      rw t (ap (λ (x : Float). take 10 (insert x kept)) same)
+not-is-false : (b : Bool) → not b ≡ false → b ≡ true
+not-is-false true e = refl
+not-is-false false e = sym e
 
--- ten that are in rising order, and a square that is not below the last
 module _ (near : ℕ → Bool) (pts : List Float) (i j : ℕ) where
-  pub with-far : (f : List Float) (n m : ℕ) (p q : Point3f) (s : Float) → n + 10 ≤ length f → p ≡ pointAt pts j → q ≡ pointAt pts i → s ≡ squared p q
-      → Settled (take m (drop n f)) (squared (pointAt pts j) (pointAt pts i)) → m ≡ 10 → T (le (getD f (n + 9) nan) s) → take m (drop n f) ≡ withSquare near pts i j (take m (drop n f))
+  -- squares above the limit go no further
+  pub with-within : (limit : Float) (kept : List Float) → withSquare (within limit near pts i) pts i j kept ≡ cond (le (squared (pointAt pts j) (pointAt pts i)) limit) (withSquare near pts i j kept) kept
   unfolding withSquare
-  with-far f n m p q s long hp hq hs settled e h = go (not (eqb j i) && near j)
+  with-within limit kept = go (not (eqb j i)) (near j) (le (squared (pointAt pts j) (pointAt pts i)) limit)
     where
-      same : s ≡ squared (pointAt pts j) (pointAt pts i)
-      same = cc
+      go : (a b c : Bool) → cond (a && (b && c)) (take 10 (insert (squared (pointAt pts j) (pointAt pts i)) kept)) kept ≡ cond c (cond (a && b) (take 10 (insert (squared (pointAt pts j) (pointAt pts i)) kept)) kept) kept
+      go true true true = refl
+      go true true false = refl
+      go true false true = refl
+      go true false false = refl
+      go false b true = refl
+      go false b false = refl
+
+  -- ten that are in rising order, and a square that is not below the last
+  with-far : (kept : List Float) → Rising kept → length kept ≡ 10 → T (le (getD kept 9 nan) (squared (pointAt pts j) (pointAt pts i))) → kept ≡ withSquare near pts i j kept
+  unfolding withSquare
+  with-far kept rising ten h = go (not (eqb j i) && near j)
+    where
+      go : (b : Bool) → kept ≡ cond b (take 10 (insert (squared (pointAt pts j) (pointAt pts i)) kept)) kept
+      go true = sym (rising-settled kept (squared (pointAt pts j) (pointAt pts i)) rising ten h)
+      go false = refl
+
+  -- so beyond the tenth none counts
+  pub with-tenth : (n : ℕ) (f : List Float) (m : ℕ) → i < n → j < n → ((k : ℕ) → k < n → Finite (pointAt pts k)) → n + 10 ≤ length f → m ≤ 10 → Ordered (take m (drop n f))
+      → withSquare (within (tenthOf f n m) near pts i) pts i j (take m (drop n f)) ≡ withSquare near pts i j (take m (drop n f))
+  unfolding tenthOf
+  with-tenth n f m hi hj numbers long few o = with-within (tenthOf f n m) kept ∙ go (eqb m 10) refl (le s (tenthOf f n m)) refl
+    where
+      kept : List Float
+      kept = take m (drop n f)
+
+      s : Float
+      s = squared (pointAt pts j) (pointAt pts i)
 
       room : n + m ≤ length f
       room = omega arith
 
-      ten : length (take m (drop n f)) ≡ 10
-      ten = part-length f n m room ∙ e
+      number : T (not (isNan s))
+      number = unsigned-number s (squared-good (pointAt pts j) (pointAt pts i) (numbers j hj) (numbers i hi) .1)
 
-      last : T (le (getD (take m (drop n f)) 9 nan) (squared (pointAt pts j) (pointAt pts i)))
-      last = subst (λ (x : Float). T (le x (squared (pointAt pts j) (pointAt pts i)))) (sym (part-at f n m room 9 nan (omega arith))) (subst (λ (x : Float). T (le (getD f (n + 9) nan) x)) same h)
-
-      go : (b : Bool) → take m (drop n f) ≡ cond b (take 10 (insert (squared (pointAt pts j) (pointAt pts i)) (take m (drop n f)))) (take m (drop n f))
-      go true = sym (settled ten last)
-      go false = refl
+      go : (a : Bool) → eqb m 10 ≡ a → (b : Bool) → le s (cond a (getD f (n + 9) nan) (inf false)) ≡ b → cond b (withSquare near pts i j kept) kept ≡ withSquare near pts i j kept
+      go a t true e = refl
+      go true t false e =
+          let ten : m ≡ 10 = eqb-true m 10 t in
+          let size : length kept ≡ m = part-length f n m room in
+          let last : getD kept 9 nan ≡ getD f (n + 9) nan = part-at f n m room 9 nan (omega arith) in
+          let good = all-at Good kept 9 (o .1) (omega arith) in
+          let l : T (le (getD kept 9 nan) s) = lt-le (getD kept 9 nan) s (not-le-lt s (getD kept 9 nan) number (unsigned-number (getD kept 9 nan) (good .1)) (subst (λ (b : Bool). T (not b)) (sym (ap (le s) last ∙ e)) tt)) in
+          with-far kept (o .0) (size ∙ ten) l
+      go false t false e = absurd (subst T e (le-top s number))
 
   pub with-ordered : (n : ℕ) (kept kept' : List Float) → i < n → j < n → ((k : ℕ) → k < n → Finite (pointAt pts k)) → kept' ≡ withSquare near pts i j kept → Ordered kept → Ordered kept'
   unfolding withSquare
@@ -76,6 +104,29 @@ module _ (near : ℕ → Bool) (pts : List Float) (i j : ℕ) where
       go : (b : Bool) → Ordered (cond b (take 10 (insert (squared (pointAt pts j) (pointAt pts i)) kept)) kept)
       go true = least-ordered 10 (squared (pointAt pts j) (pointAt pts i)) kept (squared-good (pointAt pts j) (pointAt pts i) (numbers j hj) (numbers i hi)) o
       go false = o
+
+module _ (near : ℕ → Bool) (pts : List Float) (i j : ℕ) (limit : Float) (kept : List Float) (p q : Point3f) (s : Float) (hp : p ≡ pointAt pts j) (hq : q ≡ pointAt pts i) (hs : s ≡ squared p q) where
+  same : s ≡ squared (pointAt pts j) (pointAt pts i)
+  same = cc
+
+  pub with-above : not (le s limit) ≡ true → kept ≡ withSquare (within limit near pts i) pts i j kept
+  with-above e = sym (with-within near pts i j limit kept ∙ ap (λ (b : Bool). cond b (withSquare near pts i j kept) kept) (ap (λ (x : Float). le x limit) (sym same) ∙ not-is-true (le s limit) e))
+
+  -- not above the limit: as if there were none
+  upto : not (le s limit) ≡ false → withSquare near pts i j kept ≡ withSquare (within limit near pts i) pts i j kept
+  upto e = sym (with-within near pts i j limit kept ∙ ap (λ (b : Bool). cond b (withSquare near pts i j kept) kept) (ap (λ (x : Float). le x limit) (sym same) ∙ not-is-false (le s limit) e))
+
+  module _ (b : Bool) (is : b ≡ (not (eqb j i) && near j)) where
+    pub with-none : not (le s limit) ≡ false → b ≡ false → kept ≡ withSquare (within limit near pts i) pts i j kept
+    unfolding withSquare
+    with-none l e = let f : (not (eqb j i) && near j) ≡ false = sym is ∙ e in (rw f) ∙ upto l
+
+    pub with-one : not (le s limit) ≡ false → b ≡ true → take 10 (insert s kept) ≡ withSquare (within limit near pts i) pts i j kept
+    unfolding withSquare
+    with-one l e =
+        let t : (not (eqb j i) && near j) ≡ true = sym is ∙ e in
+        let kept-one : take 10 (insert s kept) ≡ withSquare near pts i j kept = rw t (ap (λ (x : Float). take 10 (insert x kept)) same) in
+        kept-one ∙ upto l
 
 -- ---- the points to come are looked at
 module _ (near : ℕ → Bool) (pts : List Float) (i : ℕ) where

@@ -1,11 +1,11 @@
 -- The least squared distances from a sample to its neighbours, and when those that were looked at decide. Definitions only.
 use Prim.Native.Nat.{ℕ, _+_, _*_, _≤_, _<_}
 use mathlib.Core.Path.{_≡_}
-use mathlib.Core.Bool.{Bool, cond, not, _&&_, _||_}
+use mathlib.Core.Bool.{Bool, false, cond, not, _&&_, _||_}
 use mathlib.Core.List.{List, [], _∷_}
 use lib.Dec.{T, eqb, ltb}
 use lib.ListN.{length, take, drop, getD}
-use lib.Ieee.{Float, nan, le}
+use lib.Ieee.{Float, nan, inf, le}
 use Rattle.numbers.specs.Rounded.{f32, _⊗_}
 use Rattle.vector.specs.declared.Point3f.{Point3f}
 use Rattle.vector.specs.Vector.{squared}
@@ -28,6 +28,10 @@ aroundOf c g p = record { indexed = c .«use_spatial_index»; range = rangeOf g 
 unfoldable pub isNear : Around → List ℕ → ℕ → ℕ → Bool
 isNear a w n j = not (a .indexed) || inRange (a .range) (a .cell) (cellIn w n j)
 
+-- a neighbour whose square is not above the limit
+abbrev pub within : Float → (ℕ → Bool) → List Float → ℕ → ℕ → Bool
+within limit near pts i j = near j && le (squared (pointAt pts j) (pointAt pts i)) limit
+
 -- the squared distances from point i to the others among js that are near
 unfoldable pub squaresTo : (ℕ → Bool) → List Float → ℕ → List ℕ → List Float
 squaresTo near pts i [] = []
@@ -43,9 +47,9 @@ leastSquares near pts i js = take 10 (sorted (squaresTo near pts i js))
 unfoldable pub withSquare : (ℕ → Bool) → List Float → ℕ → ℕ → List Float → List Float
 withSquare near pts i j kept = cond (not (eqb j i) && near j) (take 10 (insert (squared (pointAt pts j) (pointAt pts i)) kept)) kept
 
--- a square that is not below the last of ten leaves the ten least as they are
-abbrev pub Settled : List Float → Float → Type 0
-Settled kept s = length kept ≡ 10 → T (le (getD kept 9 nan) s) → take 10 (insert s kept) ≡ kept
+-- of ten least squares the last, and no limit where there are fewer
+unfoldable pub tenthOf : List Float → ℕ → ℕ → Float
+tenthOf f n kept = cond (eqb kept 10) (getD f (n + 9) nan) (inf false)
 
 -- every point is listed, each once
 abbrev pub Whole : ℕ → List ℕ → Type 0
@@ -67,10 +71,10 @@ pub record Kept (n : ℕ) (w u : List ℕ) (f g : List Float) : Type 0 where
   pub before : take (4 * n) u ≡ take (4 * n) w
   pub after : drop (5 * n) u ≡ drop (5 * n) w
 
--- a look from point i within a limit decides if it found ten squares and the last is not above the limit
-pub record Looked (a : Around) (pts : List Float) (n i : ℕ) (limit : Float) (w u : List ℕ) (f g : List Float) (r : ℕ) : Type 0 where
+-- a look from point i decides if it found ten squares
+pub record Looked (a : Around) (pts : List Float) (n i : ℕ) (w u : List ℕ) (f g : List Float) (r : ℕ) : Type 0 where
   pub few : r ≤ 10
-  pub full : r ≡ 10 → T (le (getD g (n + 9) nan) limit) → Decided a pts n i u g r
+  pub full : r ≡ 10 → Decided a pts n i u g r
   pub kept : Kept n w u f g
 
 pub record Found (a : Around) (pts : List Float) (n i : ℕ) (w u : List ℕ) (f g : List Float) (r : ℕ) : Type 0 where

@@ -1,5 +1,5 @@
 // The least distances of a sample. Squares are compared, and roots taken only of the ten least; of the points those near by are looked at, through the spatial hash.
-// How near is a guess, which decides nothing: ten squares count only if none is above the limit that was looked within.
+// How near is a guess, which decides nothing: squares above the limit that is looked within go no further, and those that are left count only if they are ten.
 use crate::Around;
 use grid::SpatialGrid;
 use settings::BallPivotingConfig;
@@ -10,8 +10,7 @@ ghost use mathlib.Core.Bool.{not, _&&_};
 ghost use mathlib.Core.List.{map};
 ghost use Prim.Native.Nat.{ℕ, _+_, _*_, _≤_, _<_};
 ghost use lib.Dec.{eqb};
-ghost use lib.ListN.{length, take, drop, getD};
-ghost use lib.Ieee.{nan, le};
+ghost use lib.ListN.{length, take, drop};
 ghost use Rattle.numbers.specs.Root.{root};
 ghost use Rattle.patch.specs.Search.{Below};
 ghost use Rattle.grid.specs.Index.{Indexed};
@@ -19,7 +18,7 @@ ghost use Rattle.sorting.specs.Sorted.{Rising};
 ghost use Rattle.points.specs.Points.{pointAt};
 ghost use Rattle.spatial_hash.specs.Near.{Finite, HashedAll};
 ghost use Rattle.radii.specs.Radii.{nearest};
-ghost use Rattle.radii.specs.Squares.{isNear, aroundOf, withSquare, leastSquares, Decided, Prepared, Looked, Found};
+ghost use Rattle.radii.specs.Squares.{isNear, within, aroundOf, tenthOf, withSquare, leastSquares, Decided, Prepared, Looked, Found};
 
 // The neighbours of a place at 3 × radius.
 fn around_of(config: BallPivotingConfig, grid: SpatialGrid, place: Point3f) -> Around
@@ -45,27 +44,29 @@ fn is_other(w: &[u32], n: usize, around: Around, i: usize, j: usize) -> bool
     grid::search::is_near(w, n, around.indexed, around.range, cell, j)
 }
 
-// Looks at point j for the least squared distances from point i, of which `kept` are in the region of the least distances. Most points are too far, which the square tells soonest.
+// Looks at point j for the least squared distances from point i that are not above the limit, of which `kept` are in the region of the least distances.
+// Most points are too far, which the square tells soonest.
 fn look_at(
     points: &[f32],
     n: usize,
     around: Around,
     i: usize,
     j: usize,
+    limit: f32,
     w: &[u32],
     f: &mut [f32],
     kept: usize,
 ) -> usize
     requires { ⌜ (i < n) × (j < n) × (n ≤ 4096) × (3 * n ≤ length (now points)) × (4 * n ≤ length (now w)) × (n + 10 ≤ length (now f)) × (kept ≤ 10)
         × Rising (take kept (drop n (now f))) ⌝ }
-    ensures { λ r. ⌜ (take r (drop n (now (f .exit))) ≡ withSquare (isNear around (now (w .entry)) n) (now (points .entry)) i j (take kept (drop n (now (f .entry)))))
+    ensures { λ r. ⌜ (take r (drop n (now (f .exit))) ≡ withSquare (within limit (isNear around (now (w .entry)) n) (now (points .entry)) i) (now (points .entry)) i j (take kept (drop n (now (f .entry)))))
         × (r ≤ 10)
         × (take n (now (f .exit)) ≡ take n (now (f .entry))) ⌝ }
 {
     let p = points::point_at(points, j);
     let q = points::point_at(points, i);
     let s = vector::distance_squared(p, q);
-    if is_enough(f, n, kept, s) {
+    if !(s <= limit) {
         return kept;
     }
     if is_other(w, n, around, i, j) {
@@ -74,32 +75,43 @@ fn look_at(
     kept
 }
 
-// The least squared distances from point i to the others among the `found` points that are listed.
+// The least squared distances from point i to the others among the `found` points that are listed, of those that are not above the limit.
 fn least_squares(
     points: &[f32],
     n: usize,
     around: Around,
     i: usize,
+    limit: f32,
     w: &[u32],
     found: usize,
     f: &mut [f32],
 ) -> usize
     requires { ⌜ (i < n) × (n ≤ 4096) × (found ≤ n) × (3 * n ≤ length (now points)) × (5 * n ≤ length (now w)) × (n + 10 ≤ length (now f)) × Below n (take found (drop (4 * n) (now w)))
         × ((j : ℕ) → j < n → Finite (pointAt (now points) j)) ⌝ }
-    ensures { λ r. ⌜ (take r (drop n (now (f .exit))) ≡ leastSquares (isNear around (now (w .entry)) n) (now (points .entry)) i (take found (drop (4 * n) (now (w .entry)))))
+    ensures { λ r. ⌜ (take r (drop n (now (f .exit))) ≡ leastSquares (within limit (isNear around (now (w .entry)) n) (now (points .entry)) i) (now (points .entry)) i (take found (drop (4 * n) (now (w .entry)))))
         × (r ≤ 10)
         × (take n (now (f .exit)) ≡ take n (now (f .entry))) ⌝ }
 {
     let mut kept: usize = 0;
     let mut k: usize = 0;
     while k < found {
-        kept = look_at(points, n, around, i, w[4 * n + k] as usize, w, f, kept);
+        kept = look_at(
+            points,
+            n,
+            around,
+            i,
+            w[4 * n + k] as usize,
+            limit,
+            w,
+            f,
+            kept,
+        );
         k += 1;
     }
     kept
 }
 
-// The least squared distances from point i to its other neighbours, if they are ten and not above the limit.
+// The least squared distances from point i to its other neighbours, if ten are not above the limit.
 fn look_within(
     points: &[f32],
     n: usize,
@@ -111,30 +123,27 @@ fn look_within(
     f: &mut [f32],
 ) -> usize
     requires { ⌜ Prepared hash (now points) n i (now w) (now f) ⌝ }
-    ensures { λ r. ⌜ Looked around (now (points .entry)) n i limit (now (w .entry)) (now (w .exit)) (now (f .entry)) (now (f .exit)) r ⌝ }
+    ensures { λ r. ⌜ Looked around (now (points .entry)) n i (now (w .entry)) (now (w .exit)) (now (f .entry)) (now (f .exit)) r ⌝ }
 {
     let place = points::point_at(points, i);
     let bounds = spatial_hash::covering(place, numbers::sqrt(limit) * 1.01, limit);
     let found = spatial_hash::gather(points, w, n, hash, bounds);
-    least_squares(points, n, around, i, w, found, f)
+    least_squares(points, n, around, i, limit, w, found, f)
 }
 
-// Whether ten squares were found and none is above the limit.
-fn is_enough(f: &[f32], n: usize, kept: usize, limit: f32) -> bool
+// Where there are ten squares the tenth, beyond which none counts, and no limit else.
+fn tenth(f: &[f32], n: usize, kept: usize) -> f32
     requires { ⌜ (n ≤ 4096) × (n + 10 ≤ length (now f)) ⌝ }
-    ensures { λ r. ⌜ r ≡ (eqb kept 10 && le (getD (now (f .entry)) (n + 9) nan) limit) ⌝ }
+    ensures { λ r. ⌜ r ≡ tenthOf (now (f .entry)) n kept ⌝ }
 {
-    if kept == 10 {
-        return f[n + 9] <= limit;
-    }
-    false
+    if kept == 10 { f[n + 9] } else { 1.0 / 0.0 }
 }
 
-// The limit to try next: the tenth square, or a reach four times as far if there are not ten.
-fn wider(f: &[f32], n: usize, kept: usize, limit: f32) -> f32
-    requires { ⌜ (n ≤ 4096) × (n + 10 ≤ length (now f)) ⌝ }
+// The limit to try next, the wider the fewer were found.
+fn wider(kept: usize, limit: f32) -> f32
+    requires { ⌜ kept ≤ 10 ⌝ }
 {
-    if kept == 10 { f[n + 9] } else { limit * 16.0 }
+    limit * 16.0 / (kept + 1) as f32
 }
 
 // The least squared distances from point i to its other neighbours, of all points.
@@ -155,17 +164,17 @@ fn look_everywhere(
     let mut kept: usize = 0;
     let mut j: usize = 0;
     while j < n {
-        kept = look_at(points, n, around, i, j, w, f, kept);
+        kept = look_at(points, n, around, i, j, tenth(f, n, kept), w, f, kept);
         j += 1;
     }
     kept
 }
 
-// How many of the three looks near by are left out: all where there are so few points that a look at each is quicker.
+// How many of the four looks near by are left out: all where there are so few points that a look at each is quicker.
 fn first_try(n: usize) -> u32
-    ensures { λ r. ⌜ r ≤ 3 ⌝ }
+    ensures { λ r. ⌜ r ≤ 4 ⌝ }
 {
-    if n < 200 { 3 } else { 0 }
+    if n < 200 { 4 } else { 0 }
 }
 
 // The least squared distances from point i to its other neighbours.
@@ -184,12 +193,12 @@ fn find_squares(
 {
     let mut limit = guess * guess;
     let mut tries = first_try(n);
-    while tries < 3 {
+    while tries < 4 {
         let kept = look_within(points, n, hash, around, i, limit, w, f);
-        if is_enough(f, n, kept, limit) {
+        if kept == 10 {
             return kept;
         }
-        limit = wider(f, n, kept, limit);
+        limit = wider(kept, limit);
         tries += 1;
     }
     look_everywhere(points, n, around, i, w, f)

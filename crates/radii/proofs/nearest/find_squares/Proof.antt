@@ -1,20 +1,19 @@
--- A look that finds ten squares, none above its limit, decides, and so does a look at all points. Assumes nothing.
-use mathlib.Core.Path.{_≡_, refl, sym, _∙_}
-use Prim.Native.Nat.{_+_, _-_, _≤_}
+-- A look that finds ten squares decides, and so does a look at all points. Assumes nothing.
+use mathlib.Core.Path.{_≡_, refl, _∙_}
+use Prim.Native.Nat.{_-_, _≤_}
 use native.Mathlib.Omega.{arith}
-use lib.ListN.{length, getD}
-use lib.Ieee.{nan}
+use lib.ListN.{length}
 use borrow.Author.Needs.{needs}
 use Rattle.radii.specs.Squares.{Kept}
-use Rattle.radii.proofs.Deciding.{prepared-kept, kept-start, kept-then, enough}
+use Rattle.radii.proofs.Deciding.{prepared-kept, kept-start, kept-then}
 use Rattle.radii.proofs.nearest.find_squares.Statement.{statement}
 use Rattle.radii.proofs.nearest.find_squares.Tie as tie
 
 abbrev Inv-loop : tie.InvT-loop
-Inv-loop points n hash around i guess w₀ f₀ limit₀ tries₀ w f limit tries = (length w ≡ length w₀) × (length f ≡ length f₀) × (tries ≤ 3) × Kept n w₀ w f₀ f
+Inv-loop points n hash around i guess w₀ f₀ limit₀ tries₀ w f limit tries = (length w ≡ length w₀) × (length f ≡ length f₀) × (tries ≤ 4) × Kept n w₀ w f₀ f
 
 abbrev μ-loop : tie.MeasureT-loop
-μ-loop points n hash around i guess w₀ f₀ limit₀ tries₀ w f limit tries = 3 - tries
+μ-loop points n hash around i guess w₀ f₀ limit₀ tries₀ w f limit tries = 4 - tries
 
 first-try-requires : tie.Need-first-try-requires Inv-loop μ-loop
 first-try-requires c κs = search needs
@@ -25,12 +24,6 @@ loop-holds c = let s = c .before .before .before .before in (refl, refl, search 
 look-within-requires : tie.Need-look-within-requires Inv-loop μ-loop
 look-within-requires c κs = let l = c .before .before .before .loop in prepared-kept (c .before .before .before .before .before .before .before .before .pre) (l .inv .0) (l .inv .1) (l .inv .3)
 
-is-enough-requires : tie.Need-is-enough-requires Inv-loop μ-loop
-is-enough-requires c κs =
-    let l = c .before .before .before .before .before .before .before .before .before .loop in
-    let s = c .before .before .before .before .before .before .before .before .before .before .before .before .before .before in
-    (s .pre .hashed .linked .ready .few, omega (arith, s .pre .room, l .inv .1, c .before .before .before .before .before .look-within .kept .1 .1 .1 .1 .1 .1 .1 .0))
-
 same-length : tie.Need-same-length Inv-loop μ-loop
 same-length c = search needs
 
@@ -39,31 +32,27 @@ same-length-2 c = search needs
 
 returns : tie.Need-returns Inv-loop μ-loop
 returns c =
-    let s = c .before .before .before .before .before .before .before .before .before .before .before .before .before .before .before .before in
-    let l = c .before .before .before .before .before .before .before .before .before .before .before .loop in
-    let q = c .before .before .before .before .before .before .before .look-within in
-    let t = enough (q .result) (getD (q .last .1 .1 .1 .1 .1 .1 .1 .0) (s .args .n + 9) nan) (l .limit) (sym (c .before .is-enough .ensures) ∙ c .if1 .taken) in
-    record { few = q .ensures .few; decided = q .ensures .full (t .0) (t .1); kept = kept-then (l .inv .3) (q .ensures .kept) }
+    let q = c .before .before .before .before .before .look-within in
+    let l = c .before .before .before .before .before .before .before .before .before .loop in
+    record { few = q .ensures .few; decided = q .ensures .full (c .if1 .taken); kept = kept-then (l .inv .3) (q .ensures .kept) }
 
 wider-requires : tie.Need-wider-requires Inv-loop μ-loop
-wider-requires c κs =
-    let l = c .before .before .before .before .before .before .before .before .before .before .before .before .loop in
-    let s = c .before .before .before .before .before .before .before .before .before .before .before .before .before .before .before .before .before in
-    (s .pre .hashed .linked .ready .few, omega (arith, s .pre .room, l .inv .1, c .before .before .before .before .before .before .before .before .look-within .kept .1 .1 .1 .1 .1 .1 .1 .0))
+wider-requires c κs = let q = c .before .before .before .before .before .look-within in q .ensures .few
 
 add-tries : tie.Need-add-tries Inv-loop μ-loop
 add-tries c = search needs
 
 loop-less : tie.Need-loop-less Inv-loop μ-loop
-loop-less c = let l = c .before .before .before .before .before .before .before .before .before .before .before .before .before .loop in omega (arith, c .before .before .before .before .before .before .before .before .before .before .before .before .loop-test .taken)
+loop-less c = let t = c .before .before .before .before .before .before .before .before .before .loop-test in omega (arith, t .taken)
 
 loop-again : tie.Need-loop-again Inv-loop μ-loop
 loop-again c =
-    let l = c .before .before .before .before .before .before .before .before .before .before .before .before .before .loop in
-    let q = c .before .before .before .before .before .before .before .before .before .look-within in (
+    let t = c .before .before .before .before .before .before .before .before .before in
+    let l = t .before .loop in
+    let q = c .before .before .before .before .before .before .look-within in (
       q .kept .1 .1 .1 .1 .1 .1 .0 ∙ l .inv .0,
       q .kept .1 .1 .1 .1 .1 .1 .1 .0 ∙ l .inv .1,
-      omega (arith, c .before .before .before .before .before .before .before .before .before .before .before .before .loop-test .taken),
+      omega (arith, t .loop-test .taken),
       kept-then (l .inv .3) (q .ensures .kept),
     )
 
@@ -95,7 +84,6 @@ find-squares-spec =
     first-try-requires
     loop-holds
     look-within-requires
-    is-enough-requires
     same-length
     same-length-2
     returns

@@ -1,13 +1,14 @@
 -- What is in hand, with the points to come, always gives the ten least squares. Assumes nothing.
-use mathlib.Core.Path.{_≡_, refl, sym, _∙_}
+use mathlib.Core.Path.{_≡_, refl, sym, ap, _∙_}
 use Prim.Native.Nat.{_-_, _≤_}
 use native.Mathlib.Omega.{arith}
 use lib.ListN.{length, take, drop}
+use lib.Ieee.{Float}
 use borrow.Author.Needs.{needs}
 use Rattle.points.specs.Points.{upFrom}
 use Rattle.sorting.specs.Sorted.{insertAll}
-use Rattle.radii.specs.Squares.{isNear, squaresTo, leastSquares}
-use Rattle.radii.proofs.Looking.{with-ordered, all-start, all-step, all-end}
+use Rattle.radii.specs.Squares.{isNear, within, squaresTo, leastSquares, withSquare}
+use Rattle.radii.proofs.Looking.{with-tenth, with-ordered, all-start, all-step, all-end}
 use Rattle.radii.proofs.Rising.{Ordered}
 use Rattle.radii.proofs.nearest.look_everywhere.Statement.{statement}
 use Rattle.radii.proofs.nearest.look_everywhere.Tie as tie
@@ -24,11 +25,17 @@ loop-holds c =
     let s = c .before .before .before in
     (refl, search needs, search needs, all-start (isNear (s .args .around) (s .args .w .now) (s .args .n)) (s .args .points .now) (s .args .i) (s .args .n) (drop (s .args .n) (s .args .f .now)), refl, (tt, tt))
 
-look-at-requires : tie.Need-look-at-requires Inv-loop μ-loop
-look-at-requires c κs =
+tenth-requires : tie.Need-tenth-requires Inv-loop μ-loop
+tenth-requires c κs =
     let l = c .before .before .loop in
     let s = c .before .before .before .before .before .before in
-    (s .pre .0, c .before .loop-test .taken, s .pre .1, s .pre .2, s .pre .3, omega (arith, l .inv .0, s .pre .4), l .inv .2, l .inv .5 .0)
+    (s .pre .1, omega (arith, l .inv .0, s .pre .4))
+
+look-at-requires : tie.Need-look-at-requires Inv-loop μ-loop
+look-at-requires c κs =
+    let l = c .before .before .before .before .loop in
+    let s = c .before .before .before .before .before .before .before .before in
+    (s .pre .0, c .before .before .before .loop-test .taken, s .pre .1, s .pre .2, s .pre .3, omega (arith, l .inv .0, s .pre .4), l .inv .2, l .inv .5 .0)
 
 add-j : tie.Need-add-j Inv-loop μ-loop
 add-j c = search needs
@@ -38,16 +45,23 @@ loop-less c = search needs
 
 loop-again : tie.Need-loop-again Inv-loop μ-loop
 loop-again c =
-    let l = c .before .before .before .before .before .loop in
-    let s = c .before .before .before .before .before .before .before .before .before in
-    let e = c .before .before .look-at in (
-      (e .kept .1 .1 .1 .1 .1 .1 .0) ∙ l .inv .0,
+    let t = c .before .before .before .before in
+    let l = t .before .before .before .loop in
+    let s = t .before .before .before .before .before .before .before in
+    let inside = t .before .before .loop-test .taken in
+    let e = c .before .before .look-at in
+    let near = isNear (s .args .around) (s .args .w .now) (s .args .n) in
+    let kept = take (l .kept) (drop (s .args .n) (l .f)) in
+    let next : take (e .result) (drop (s .args .n) (e .last .1 .1 .1 .1 .1 .1 .1 .0)) ≡ withSquare near (s .args .points .now) (s .args .i) (l .j) kept =
+    e .ensures .0
+    ∙ ap (λ (limit : Float). withSquare (within limit near (s .args .points .now) (s .args .i)) (s .args .points .now) (s .args .i) (l .j) kept) (t .tenth .ensures)
+    ∙ with-tenth near (s .args .points .now) (s .args .i) (l .j) (s .args .n) (l .f) (l .kept) (s .pre .0) inside (s .pre .5) (omega (arith, l .inv .0, s .pre .4)) (l .inv .2) (l .inv .5) in (
+      (e .kept .1 .1 .1 .1 .1 .1 .1 .0) ∙ l .inv .0,
       search needs,
       e .ensures .1,
-      l .inv .3
-          ∙ all-step (isNear (s .args .around) (s .args .w .now) (s .args .n)) (s .args .points .now) (s .args .i) (s .args .n) (l .j) (take (l .kept) (drop (s .args .n) (l .f))) (take (e .result) (drop (s .args .n) (e .last .1 .1 .1 .1 .1 .1 .0))) (c .before .before .before .before .loop-test .taken) (e .ensures .0),
+      l .inv .3 ∙ all-step near (s .args .points .now) (s .args .i) (s .args .n) (l .j) kept (take (e .result) (drop (s .args .n) (e .last .1 .1 .1 .1 .1 .1 .1 .0))) inside next,
       e .ensures .2 ∙ l .inv .4,
-      with-ordered (isNear (s .args .around) (s .args .w .now) (s .args .n)) (s .args .points .now) (s .args .i) (l .j) (s .args .n) (take (l .kept) (drop (s .args .n) (l .f))) (take (e .result) (drop (s .args .n) (e .last .1 .1 .1 .1 .1 .1 .0))) (s .pre .0) (c .before .before .before .before .loop-test .taken) (s .pre .5) (e .ensures .0) (l .inv .5),
+      with-ordered near (s .args .points .now) (s .args .i) (l .j) (s .args .n) kept (take (e .result) (drop (s .args .n) (e .last .1 .1 .1 .1 .1 .1 .1 .0))) (s .pre .0) inside (s .pre .5) next (l .inv .5),
     )
 
 same-length : tie.Need-same-length Inv-loop μ-loop
@@ -69,6 +83,7 @@ look-everywhere-spec =
     Inv-loop
     μ-loop
     loop-holds
+    tenth-requires
     look-at-requires
     add-j
     loop-less

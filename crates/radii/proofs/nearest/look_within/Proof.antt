@@ -48,8 +48,8 @@ returns c =
     let s = c .before .before .before .before .before .before .before .before .before .before .before .before .before .before .before in
     let g = c .before .before .before .before .before .before .before .gather in
     let q = c .before .before .least-squares in
-    looked (s .args .around) (s .args .points .now) (s .args .n) (s .args .i) (s .args .limit) (s .args .w .now) (g .last .1 .0) (s .args .f .now) (q .last .1 .1 .1 .1 .1 .1 .0) (s .args .hash) (c .before .before .before .before .before .before .before .before .before .before .before .point-at .result) (c .before .before .before .before .before .before .before .before .before .covering .result) (g .result) (q .result)
-    (s .pre) (q .kept .1 .1 .1 .1 .1 .1 .0) (c .before .before .before .before .before .before .before .before .before .before .before .point-at .ensures) (c .before .before .before .before .before .before .before .before .before .covering .ensures) (g .ensures) (q .ensures .0) (q .ensures .1) (q .ensures .2)
+    looked (s .args .around) (s .args .points .now) (s .args .n) (s .args .i) (s .args .limit) (s .args .w .now) (g .last .1 .0) (s .args .f .now) (q .last .1 .1 .1 .1 .1 .1 .1 .0) (s .args .hash) (c .before .before .before .before .before .before .before .before .before .before .before .point-at .result) (c .before .before .before .before .before .before .before .before .before .covering .result) (g .result) (q .result)
+    (s .pre) (q .kept .1 .1 .1 .1 .1 .1 .1 .0) (c .before .before .before .before .before .before .before .before .before .before .before .point-at .ensures) (c .before .before .before .before .before .before .before .before .before .covering .ensures) (g .ensures) (q .ensures .0) (q .ensures .1) (q .ensures .2)
 
 pub look-within-spec : {M : Type 1} → statement M
 look-within-spec =

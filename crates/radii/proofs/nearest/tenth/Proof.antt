@@ -1,8 +1,10 @@
--- `radii::nearest::is_enough` meets its contract. Assumes nothing.
+-- `radii::nearest::tenth` meets its contract. Assumes nothing.
 use borrow.Author.Needs.{needs}
 use borrow.Author.Tests.{eq-eqb, ne-eqb}
-use Rattle.radii.proofs.nearest.is_enough.Statement.{statement}
-use Rattle.radii.proofs.nearest.is_enough.Tie as tie
+use Rattle.numbers.proofs.Compare.{infinite}
+use Rattle.radii.specs.Squares.{tenthOf}
+use Rattle.radii.proofs.nearest.tenth.Statement.{statement}
+use Rattle.radii.proofs.nearest.tenth.Tie as tie
 
 add-result : tie.Need-add-result
 add-result c = search needs
@@ -14,12 +16,14 @@ shared-slice-read-result : tie.Need-shared-slice-read-result
 shared-slice-read-result c = search needs
 
 returns : tie.Need-returns
+unfolding tenthOf
 returns c = rw (eq-eqb (c .before .before .args .kept) 10 (c .before .if1 .taken))
 
 returns-2 : tie.Need-returns-2
-returns-2 c = rw (ne-eqb (c .before .args .kept) 10 (c .if1 .left))
+unfolding tenthOf
+returns-2 c = rw (ne-eqb (c .before .args .kept) 10 (c .if1 .left)) infinite
 
-pub is-enough-spec : {M : Type 1} → statement M
-is-enough-spec =
+pub tenth-spec : {M : Type 1} → statement M
+tenth-spec =
     tie.close
     (tie.spec add-result mul-result shared-slice-read-result returns returns-2)
