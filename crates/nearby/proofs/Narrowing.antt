@@ -17,6 +17,7 @@ use Rattle.vector.proofs.Distances.{squared-fits, distance-is}
 use Rattle.points.specs.Points.{pointAt}
 use Rattle.sorting.specs.Insertion.{insertBefore, Written}
 use Rattle.sorting.proofs.Insertion.{part-length, part-at}
+use Rattle.regions.specs.Regions.{neighborsAt, usedAt}
 use Rattle.grid.specs.declared.SpatialGrid.{SpatialGrid}
 use Rattle.grid.specs.declared.Cell.{Cell}
 use Rattle.grid.specs.Grid.{rangeOf, orderOf}
@@ -39,7 +40,7 @@ use Rattle.nearby.proofs.Earlier.{earlier-strict, order-of-sorted, orde
 use Rattle.nearby.proofs.Keeping.{drop-more, kept-self, kept-on, cells-kept}
 
 -- ---- the word that is read
-word-same : (w u : List ℕ) (a : ℕ) → drop a u ≡ drop a w → getD u a 0 ≡ getD w a 0
+pub word-same : (w u : List ℕ) (a : ℕ) → drop a u ≡ drop a w → getD u a 0 ≡ getD w a 0
 word-same w u a e =
     let z : a + 0 ≡ a = omega arith in
     ap (λ (k : ℕ). getD u k 0) (sym z) ∙ sym (getD-drop a u 0 0) ∙ ap (λ (l : List ℕ). getD l 0 0) e ∙ getD-drop a w 0 0 ∙ ap (λ (k : ℕ). getD w k 0) z
@@ -225,6 +226,13 @@ inside p c t b covers f h = ⊎-elim
     (λ (o : within b p ≡ false). absurd (true-not-false (is-true (lt t (squared p c)) (covers p f o)) h))
     (either (within b p))
 
+pub gathered-near : {n : ℕ} {hash : Hash} {pts : List Float} (p : Point3f) (t : Float) {b : Bounds} {w u : List ℕ} {r : ℕ} → Hashed hash pts n w → Covers p t b → Gathered pts n b w u r
+    → (k : ℕ) → k < n → unused (take n (drop (usedAt n) w)) k ≡ true → lt t (squared (pointAt pts k) p) ≡ false → 1 ≤ count (eqb k) (take r (drop (neighborsAt n) u))
+gathered-near {pts = pts} p t {b} h c g k l free near = g .gathers .complete k l (h .unused-in k l free) (inside (pointAt pts k) p t b c (h .linked .ready .numbers k l) near)
+
+pub gathered-kept : {s : Scene} {pts : List Float} {b : Bounds} {w u : List ℕ} {r : ℕ} → Gathered pts (s .n) b w u r → Kept s w u
+gathered-kept g = record { before = g .before; after = g .after }
+
 module _ {s : Scene} {hash : Hash} {pts : List Float} {f : Filter} {w u : List ℕ} {r : ℕ} (h : Hashed hash pts (s .n) w) where
   collects : {q : Point3f} {b : Bounds} → ((k : ℕ) → k < s .n → lt (f .limit) (squared (pointAt pts k) (f .center)) ≡ false → lt (f .limit) (squared (pointAt pts k) q) ≡ false → within b (pointAt pts k) ≡ true)
       → Gathered pts (s .n) b w u r → Collected s pts f q w u r
@@ -233,7 +241,7 @@ module _ {s : Scene} {hash : Hash} {pts : List Float} {f : Filter} {w u : List �
     below = g .gathers .below;
     once = g .gathers .once;
     complete = λ k l free x y. g .gathers .complete k l (h .unused-in k l free) (near k l x y);
-    kept = record { before = g .before; after = g .after };
+    kept = gathered-kept {s = s} g;
   }
 
   pub collected : {b : Bounds} → Covers (f .center) (f .limit) b → Gathered pts (s .n) b w u r → Collected s pts f (f .center) w u r
@@ -245,11 +253,15 @@ module _ {s : Scene} {hash : Hash} {pts : List Float} {f : Filter} {w u : List �
       ap (λ (o : Bounds). within o (pointAt pts k)) e
       ∙ overlap-has a b (pointAt pts k) (inside (pointAt pts k) (f .center) (f .limit) a c n x) (inside (pointAt pts k) q (f .limit) b d n y)) g
 
--- the collected points are points of the cloud
-pub collected-listed : {s : Scene} {pts : List Float} {f : Filter} {q : Point3f} {w u : List ℕ} {r : ℕ} → 24 * s .n + 64 ≤ length u → Collected s pts f q w u r → Listed s u r
-collected-listed {s} {u = u} {r = r} long c = record {
-  most = c .most;
+-- listed numbers below n are points of the cloud
+pub below-listed : {s : Scene} {u : List ℕ} {r : ℕ} → 24 * s .n + 64 ≤ length u → r ≤ s .n → Points (s .n) (listed s u r) → Listed s u r
+below-listed {s} {u = u} {r = r} long most below = record {
+  most = most;
   below = λ (m : ℕ) (h : m < r).
-      let fits : 4 * s .n + r ≤ length u = omega (arith, c .most) in
-      subst (λ (k : ℕ). k < s .n) (part-at u (4 * s .n) r fits m 0 h) (c .below (getD (listed s u r) m 0) (in-at (listed s u r) m (omega (arith, part-length u (4 * s .n) r fits))));
+      let fits : 4 * s .n + r ≤ length u = omega arith in
+      subst (λ (k : ℕ). k < s .n) (part-at u (4 * s .n) r fits m 0 h) (below (getD (listed s u r) m 0) (in-at (listed s u r) m (omega (arith, part-length u (4 * s .n) r fits))));
 }
+
+-- as the collected points are
+pub collected-listed : {s : Scene} {pts : List Float} {f : Filter} {q : Point3f} {w u : List ℕ} {r : ℕ} → 24 * s .n + 64 ≤ length u → Collected s pts f q w u r → Listed s u r
+collected-listed {s} {u = u} long c = below-listed {s = s} {u = u} long (c .most) (c .below)

@@ -84,7 +84,7 @@ finite-point f = record { finite-x = f .x-finite; finite-y = f .y-finite; finite
 
 module _ (s : Scene) (pts : List Float) (r : Float) (used : List ℕ) where
   -- a seed's other points are within twice the radius of the first
-  close-far : (i k : ℕ) → Finite (pointAt pts i) → Finite (pointAt pts k) → lt (reach r) (apart pts k i) ≡ true → isClose pts r i k ≡ false
+  pub close-far : (i k : ℕ) → Finite (pointAt pts i) → Finite (pointAt pts k) → lt (reach r) (apart pts k i) ≡ true → isClose pts r i k ≡ false
   unfolding isClose apart
   close-far i k fi fk h =
       let e : distance (pointAt pts i) (pointAt pts k) ≡ distance (pointAt pts k) (pointAt pts i) = distance-swap (pointAt pts i) (pointAt pts k) (finite-point fi) (finite-point fk) in

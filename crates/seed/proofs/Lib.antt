@@ -4,3 +4,4 @@ pub mod Steps
 pub mod State
 pub mod Spread
 pub mod Nothing
+pub mod Threes

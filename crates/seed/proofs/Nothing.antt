@@ -15,7 +15,6 @@ use lib.Ieee.{Float, lt}
 use borrow.Author.Tests.{ltb-true, ltb-false, eq-eqb, eqb-true}
 use Rattle.vector.specs.Vector.{squared}
 use Rattle.vector.specs.declared.Point3f.{Point3f}
-use Rattle.vector.proofs.Distances.{squared-turned}
 use Rattle.points.specs.Points.{pointAt}
 use Rattle.sorting.specs.Insertion.{insertBefore}
 use Rattle.grid.specs.Index.{earlier}
@@ -28,8 +27,8 @@ use Rattle.decisions.specs.declared.Scene.{Scene}
 use Rattle.decisions.specs.Decisions.{reach, apart, isClose, accepts, qualityAt, completes, floatsOf}
 use Rattle.decisions.proofs.Within.{within}
 use Rattle.refusals.specs.declared.Limits.{Limits}
-use Rattle.refusals.specs.Refused.{Refused, far, RefusedThroughout, distant, each, Hopeless}
-use Rattle.refusals.proofs.Refusals.{far-apart, refused-turned, refused-accepts, hopeless-accepts}
+use Rattle.refusals.specs.Refused.{Refused, Hopeless}
+use Rattle.refusals.proofs.Refusals.{refused-turned, refused-accepts, hopeless-accepts}
 use Rattle.nearby.specs.declared.Filter.{Filter}
 use Rattle.nearby.specs.Ready.{usedIn, listed}
 use Rattle.nearby.specs.Narrow.{insertAll, inReach, cellAt, passes, Filters, Collected, Narrowed}
@@ -87,7 +86,7 @@ module _ (s : Scene) (pts : List Float) (r : Float) (used : List ℕ) where
       nothing : (a b c d e : Bool) → (a && (b && (c && (d && (e && false))))) ≡ false
       nothing a b c d e = rw (and-false e, and-false d, and-false c, and-false b, and-false a)
 
-  first-around : (i : ℕ) → ((j : ℕ) → j < s .n → isSecond (floatsOf s pts) r used i j ≡ true → (k : ℕ) → k < s .n → isThird (floatsOf s pts) r used i j k ≡ false) → withFirst (floatsOf s pts) r used i ≡ none
+  pub first-around : (i : ℕ) → ((j : ℕ) → j < s .n → isSecond (floatsOf s pts) r used i j ≡ true → (k : ℕ) → k < s .n → isThird (floatsOf s pts) r used i j k ≡ false) → withFirst (floatsOf s pts) r used i ≡ none
   unfolding withFirst
   first-around i h = second-nothing (floatsOf s pts) r used i (floatsOf s pts .near r i) (floatsOf s pts .near r i) (λ j hj t k hk. h j (near j hj) t k (near k hk))
     where
@@ -167,7 +166,7 @@ near-nothing {s} {pts} {r} {i = i} {j = j} {ks = ks} {u = u} {v = v} used g hi h
 -- ---- points no two of which make a seed
 
 -- the tests of a third point are those of `completes`, and others
-completes-third : (s : Scene) (pts : List Float) (r : Float) (used : List ℕ) (i j k : ℕ) → completes s pts r i j k ≡ false → isThird (floatsOf s pts) r used i j k ≡ false
+pub completes-third : (s : Scene) (pts : List Float) (r : Float) (used : List ℕ) (i j k : ℕ) → completes s pts r i j k ≡ false → isThird (floatsOf s pts) r used i j k ≡ false
 unfolding isThird floatsOf completes
 completes-third s pts r used i j k h = rw h (nothing (not (eqb i k)) (not (eqb j k)) (unused used k))
   where
@@ -188,26 +187,12 @@ limits-third {s} {pts} {r} {i = i} {j = j} {k = k} used g hi hj hk close h = com
 pub refused-fruitless : {s : Scene} {pts : List Float} {r : Float} {l : Limits} {i j k : ℕ} → Judged s pts r l → i < s .n → j < s .n → k < s .n → Refused l (pointAt pts i) (pointAt pts j) (pointAt pts k) → Fruitless s pts r i j k
 refused-fruitless g hi hj hk h = record { forward = refused-completes g hi hj hk h; backward = refused-completes g hi hk hj (refused-turned h) }
 
--- two points that are not close make none with a third
-away-fruitless : (s : Scene) (pts : List Float) (r : Float) (i j k : ℕ) → isClose pts r i k ≡ false → Fruitless s pts r i j k
-unfolding completes
-away-fruitless s pts r i j k h = record { forward = λ c. rw h; backward = λ c. absurd (true-not-false c h) }
-
--- what limits refuse throughout makes none, whichever of the three points comes first
-pub throughout-fruitless : {s : Scene} {pts : List Float} {r : Float} {l : Limits} {i j k : ℕ} → Judged s pts r l → i < s .n → j < s .n → k < s .n → RefusedThroughout l (pointAt pts i) (pointAt pts j) (pointAt pts k)
-    → Fruitless s pts r i j k × (Fruitless s pts r j i k × Fruitless s pts r k i j)
-throughout-fruitless {s} {pts} {r} {i = i} {j = j} {k = k} g hi hj hk (distant h) = (
-  refused-fruitless g hi hj hk (far h),
-  (away-fruitless s pts r j i k (far-apart pts j k (g .limits) h), away-fruitless s pts r k i j (far-apart pts k j (g .limits) (rw (squared-turned (pointAt pts k) (pointAt pts j)) h))),
-)
-throughout-fruitless g hi hj hk (each a b c) = (refused-fruitless g hi hj hk a, (refused-fruitless g hj hi hk b, refused-fruitless g hk hi hj c))
-
 -- what is in a list stands somewhere
 place-of : (k : ℕ) (xs : List ℕ) → 1 ≤ count (eqb k) xs → (m : ℕ) × ((m < length xs) × (getD xs m 0 ≡ k))
 place-of k [] h = absurd (omega arith)
 place-of k (x ∷ xs) h = in-either (eqb k x) (λ e. (0, (omega arith, sym (eqb-true k x e)))) (λ c. let r = place-of k xs c in (suc (r .0), (omega (arith, r .1 .0), r .1 .1))) h
 
-listed-place : (s : Scene) (w : List ℕ) (c k : ℕ) → 1 ≤ count (eqb k) (listed s w c) → (m : ℕ) × ((m < c) × (getD w (neighborsAt (s .n) + m) 0 ≡ k))
+pub listed-place : (s : Scene) (w : List ℕ) (c k : ℕ) → 1 ≤ count (eqb k) (listed s w c) → (m : ℕ) × ((m < c) × (getD w (neighborsAt (s .n) + m) 0 ≡ k))
 listed-place s w c k h =
     let r = place-of k (listed s w c) h in
     let z : r .0 < c = omega (arith, r .1 .0, length-take c (drop (neighborsAt (s .n)) w), min-le-left c (length (drop (neighborsAt (s .n)) w))) in

@@ -21,7 +21,7 @@ use Rattle.patch.proofs.Counts.{either}
 use Rattle.decisions.specs.declared.Scene.{Scene}
 use Rattle.decisions.specs.Decisions.{accepts, qualityAt}
 use Rattle.refusals.specs.declared.Limits.{Limits}
-use Rattle.refusals.specs.Refused.{Refused}
+use Rattle.refusals.specs.Refused.{Refused, RefusedThroughout}
 use Rattle.refusals.proofs.Refusals.{bounded-accepts}
 use Rattle.nearby.proofs.Laws.{part-step, part-end}
 use Rattle.seed.specs.Spread.{spreadFrom, spread, tooSmall}
@@ -90,5 +90,12 @@ below-next {P} {m} f p x h = ⊎-elim (λ (t : eqb x m ≡ true). subst P (sym (
     less : (x ≡ m → ⊥) → x < m
     less n = ⊎-elim (λ (t : ltb x m ≡ true). ltb-true x m t) (λ (t : ltb x m ≡ false). absurd (n (let z = ltb-false x m t in omega arith))) (either (ltb x m))
 
+-- what holds of points that were read
+points-same : {p q t x y z : Point3f} (P : Point3f → Point3f → Point3f → Type 0) → p ≡ x → q ≡ y → t ≡ z → P p q t → P x y z
+points-same {p} {q} {t} {x} {y} {z} P e f g h = subst (λ (k : Point3f). P k y z) e (subst (λ (k : Point3f). P p k z) f (subst (P p q) g h))
+
 pub refused-points : {l : Limits} {p q t x y z : Point3f} → p ≡ x → q ≡ y → t ≡ z → Refused l p q t → Refused l x y z
-refused-points {l} {p} {q} {t} {x} {y} {z} e f g h = subst (λ (k : Point3f). Refused l k y z) e (subst (λ (k : Point3f). Refused l p k z) f (subst (Refused l p q) g h))
+refused-points {l} = points-same (Refused l)
+
+pub throughout-points : {l : Limits} {p q t x y z : Point3f} → p ≡ x → q ≡ y → t ≡ z → RefusedThroughout l p q t → RefusedThroughout l x y z
+throughout-points {l} = points-same (RefusedThroughout l)

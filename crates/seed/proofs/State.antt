@@ -130,15 +130,29 @@ module _ {s : Scene} {pts : List Float} {r : Float} {hash : Hash} {w₀ : List �
         → found ≡ seedFound (withFirst (floatsOf s pts) r (usedIn s w) i) → found ≡ Triangle a b c → Triangle a b c ≡ seedFound (firsts s pts r w₀ (numbers (s .n) 0) 1000)
     seek-hit {a} {b} {c} h ne t e f = sym (ap seedFound (tried h ne t) ∙ else-hit (withFirst (floatsOf s pts) r (usedIn s w₀) i) (firsts s pts r w₀ on (left - 1)) a b c (found-is e f))
 
-    pub seek-miss : {found : Seed} (v : List ℕ) → i < s .n → (left ≡ 0 → ⊥) → unused (usedIn s w) i ≡ true
-        → found ≡ seedFound (withFirst (floatsOf s pts) r (usedIn s w) i) → found ≡ Nothing → Kept s w v → length v ≡ length w → Seeking s pts r hash w₀ v (left - 1) (i + 1)
-    seek-miss v h ne t e f kv l = record {
+    -- after what changes nothing but the list of neighbours
+    pub seek-kept : (v : List ℕ) → Kept s w v → length v ≡ length w → Seeking s pts r hash w₀ v left i
+    seek-kept v kv l = record {
       held = held-kept v (k .held) l;
       hashed = hashed-search {s = s} v (k .hashed) l kv;
       indexed = indexed-kept v (k .indexed) l (kv .before);
       kept = kept-on (k .kept) kv;
       same = l ∙ k .same;
-      most = omega (arith, k .most);
-      inside = omega arith;
-      rest = tried h ne t ∙ else-miss (withFirst (floatsOf s pts) r (usedIn s w₀) i) (firsts s pts r w₀ on (left - 1)) (found-is e f);
+      most = k .most;
+      inside = k .inside;
+      rest = k .rest;
     }
+
+    pub seek-miss : {found : Seed} (v : List ℕ) → i < s .n → (left ≡ 0 → ⊥) → unused (usedIn s w) i ≡ true
+        → found ≡ seedFound (withFirst (floatsOf s pts) r (usedIn s w) i) → found ≡ Nothing → Kept s w v → length v ≡ length w → Seeking s pts r hash w₀ v (left - 1) (i + 1)
+    seek-miss v h ne t e f kv l =
+        let z = seek-kept v kv l in record {
+          held = z .held;
+          hashed = z .hashed;
+          indexed = z .indexed;
+          kept = z .kept;
+          same = z .same;
+          most = omega (arith, k .most);
+          inside = omega arith;
+          rest = tried h ne t ∙ else-miss (withFirst (floatsOf s pts) r (usedIn s w₀) i) (firsts s pts r w₀ on (left - 1)) (found-is e f);
+        }

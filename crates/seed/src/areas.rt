@@ -56,7 +56,25 @@ pub fn is_too_near(s: Scene, points: &[f32], i: usize, j: usize, wide: Point3f) 
     is_too_small(s, own, wide)
 }
 
-// Whether points j and k make no seed with point i, in either order. Limits are asked first, since they need no root.
+// Whether points j and k make no seed with point i, in either order, both being measured.
+pub fn are_measured_fruitless(
+    s: Scene,
+    points: &[f32],
+    radius: f32,
+    i: usize,
+    j: usize,
+    k: usize,
+) -> bool
+    requires { ⌜ (length (now points) ≡ 3 * s .n) × (i < s .n) × (j < s .n) × (k < s .n) ⌝ }
+    ensures { λ r. ⌜ (r ≡ true → Fruitless s (now (points .entry)) radius i j k) ⌝ }
+{
+    if decisions::is_completed(s, points, radius, i, j, k) {
+        return false;
+    }
+    !decisions::is_completed(s, points, radius, i, k, j)
+}
+
+// The same, but limits are asked first, since they need no root.
 fn is_fruitless(
     s: Scene,
     points: &[f32],
@@ -75,10 +93,7 @@ fn is_fruitless(
     if refusals::is_refused(limits, first, second, third) {
         return true;
     }
-    if decisions::is_completed(s, points, radius, i, j, k) {
-        return false;
-    }
-    !decisions::is_completed(s, points, radius, i, k, j)
+    are_measured_fruitless(s, points, radius, i, j, k)
 }
 
 // Whether point j makes no seed with point i and any of the listed points from a place on.

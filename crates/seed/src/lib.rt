@@ -1,5 +1,6 @@
 // The search for a seed triangle.
 mod areas;
+mod barren;
 mod triples;
 
 use decisions::Scene;

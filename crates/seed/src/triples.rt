@@ -7,6 +7,7 @@ use spatial_hash::Hash;
 use vector::Point3f;
 ghost use mathlib.Core.Path.{_≡_};
 ghost use mathlib.Core.Bool.{true};
+ghost use mathlib.Core.Option.{none};
 ghost use Prim.Native.Nat.{_*_, _<_, _+_};
 ghost use Rattle.grid.specs.Index.{Cells, Indexed};
 ghost use Rattle.spatial_hash.specs.Near.{Hashed};
@@ -200,7 +201,28 @@ fn try_first(
     try_listed(s, points, w, found, radius, limits, f, i)
 }
 
-// The first seed; only the first 1,000 unused points are tried as i.
+// The same, where it may be known that it gives nothing.
+fn try_unless_barren(
+    s: Scene,
+    points: &[f32],
+    w: &mut [u32],
+    radius: f32,
+    i: usize,
+    hash: Hash,
+    limits: Limits,
+    barren: bool,
+) -> Seed
+    requires { ⌜ Held s (now points) (now w) × Indexed (s .grid) (now points) (s .n) (now w) × Hashed hash (now points) (s .n) (now w) × (i < s .n) × Limiting s radius limits
+        × (barren ≡ true → withFirst (floatsOf s (now points)) radius (usedIn s (now w)) i ≡ none) ⌝ }
+    ensures { λ r. ⌜ (r ≡ seedFound (withFirst (floatsOf s (now (points .entry))) radius (usedIn s (now (w .entry))) i)) × Kept s (now (w .entry)) (now (w .exit)) ⌝ }
+{
+    if barren {
+        return Seed::Nothing;
+    }
+    try_first(s, points, w, radius, i, hash, limits)
+}
+
+// The first seed; only the first 1,000 unused points are tried as i. As long as no three points that were met make a seed, whichever comes first, each three are looked at once.
 pub fn find_from(
     s: Scene,
     points: &[f32],
@@ -214,6 +236,7 @@ pub fn find_from(
 {
     let n = s.n;
     let mut left: usize = 1000;
+    let mut barren = true;
     let mut i: usize = 0;
     while i < n {
         if left == 0 {
@@ -223,7 +246,8 @@ pub fn find_from(
             i += 1;
             continue;
         }
-        let found = try_first(s, points, w, radius, i, hash, limits);
+        barren = crate::barren::stays_barren(s, points, w, radius, i, hash, limits, barren);
+        let found = try_unless_barren(s, points, w, radius, i, hash, limits, barren);
         if let Seed::Triangle(a, b, c) = found {
             return Seed::Triangle(a, b, c);
         }

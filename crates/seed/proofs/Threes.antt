@@ -1,0 +1,260 @@
+-- Points no three of which make a seed: which of the gathered points are looked at, that this is enough, and that nothing is then found. Assumes nothing.
+use Prim.Native.Nat.{ℕ, _+_, _*_, _≤_, _<_}
+use mathlib.Core.Path.{_≡_, refl, sym, ap, _∙_, subst}
+use mathlib.Core.Logic.{_⊎_, inl, inr, ⊎-elim, _≢_}
+use mathlib.Core.Bool.{Bool, true, false, not, _&&_}
+use mathlib.Core.List.{List, []}
+use mathlib.Core.Option.{none}
+use native.Mathlib.Omega.{arith}
+use lib.Dec.{eqb, ltb}
+use lib.ListN.{length, take, drop, getD, set, length-set}
+use lib.Seq.{getD-set-same, getD-set-other, take-set-le, drop-set-lt}
+use lib.Ieee.{Float, lt}
+use borrow.Author.Tests.{ltb-true, ltb-false, lt-ltb, eq-eqb}
+use Rattle.vector.specs.Vector.{squared}
+use Rattle.vector.proofs.Distances.{squared-turned}
+use Rattle.points.specs.Points.{pointAt}
+use Rattle.regions.specs.Regions.{neighborsAt}
+use Rattle.spatial_hash.specs.declared.Hash.{Hash}
+use Rattle.spatial_hash.specs.Near.{Finite}
+use Rattle.patch.specs.Count.{count}
+use Rattle.patch.specs.Search.{unused, isSecond, isThird}
+use Rattle.patch.proofs.Counts.{either, not-true, true-not-false, and-both}
+use Rattle.decisions.specs.declared.Scene.{Scene}
+use Rattle.decisions.specs.Decisions.{reach, apart, isClose, completes, floatsOf}
+use Rattle.refusals.specs.declared.Limits.{Limits}
+use Rattle.refusals.specs.Refused.{RefusedThroughout, distant, each}
+use Rattle.refusals.proofs.Refusals.{far-apart}
+use Rattle.nearby.specs.Ready.{Held, Listed, Kept, usedIn, listed}
+use Rattle.nearby.specs.Narrow.{inReach}
+use Rattle.nearby.proofs.Keeping.{drop-more, kept-self, kept-on}
+use Rattle.nearby.proofs.Ordered.{and-false}
+use Rattle.nearby.proofs.Narrowing.{word-same, out-of-reach, in-reach}
+use Rattle.seed.specs.Found.{withFirst}
+use Rattle.seed.specs.Spread.{Fruitless, Judged}
+use Rattle.seed.specs.Barren.{Barren, AllBarren, BarrenFrom, Stands, Sifted}
+use Rattle.seed.proofs.LeftOut.{close-far}
+use Rattle.seed.proofs.State.{Seeking}
+use Rattle.seed.proofs.Spread.{below-next}
+use Rattle.seed.proofs.Nothing.{first-around, completes-third, refused-fruitless, listed-place, close-second}
+
+-- ---- the loop of `keep_later` at the m-th point
+
+-- k comes after point i, is unused and within a limit of it
+abbrev later : Scene → List Float → Float → ℕ → List ℕ → ℕ → Bool
+later s pts limit i w k = ltb i k && inReach pts (usedIn s w) (pointAt pts i) limit k
+
+pub record Sifting (s : Scene) (pts : List Float) (limit : Float) (i : ℕ) (w₀ w : List ℕ) (found kept m : ℕ) : Type 0 where
+  pub same : length w ≡ length w₀
+  pub most : kept ≤ m
+  pub inside : m ≤ found
+  pub below : (x : ℕ) → x < kept → getD w (4 * s .n + x) 0 < s .n
+  pub unread : drop (4 * s .n + m) w ≡ drop (4 * s .n + m) w₀
+  pub complete : (x : ℕ) → x < m → later s pts limit i w₀ (getD w₀ (4 * s .n + x) 0) ≡ true → Stands s w kept (getD w₀ (4 * s .n + x) 0)
+  pub others : Kept s w₀ w
+
+module _ {s : Scene} {pts : List Float} {limit : Float} {i : ℕ} {w₀ : List ℕ} {found : ℕ} where
+  pub sift-start : Sifting s pts limit i w₀ w₀ found 0 0
+  sift-start = record { same = refl; most = omega arith; inside = omega arith; below = λ x h. absurd (omega arith); unread = refl; complete = λ x h. absurd (omega arith); others = kept-self s w₀ }
+
+  module _ (held : Held s pts w₀) (points : Listed s w₀ found) {w : List ℕ} {kept m : ℕ} (k : Sifting s pts limit i w₀ w found kept m) where
+    pub sift-end : found ≤ m → Sifted s pts limit i w₀ w found kept
+    sift-end h = record {
+      listed = record { most = omega (arith, k .most, k .inside, points .most); below = k .below };
+      complete = λ j p t. subst (Stands s w kept) (p .1 .1) (k .complete (p .0) (omega (arith, p .1 .0)) (ap (later s pts limit i w₀) (p .1 .1) ∙ t));
+      kept = k .others;
+    }
+
+    sift-word : getD w (4 * s .n + m) 0 ≡ getD w₀ (4 * s .n + m) 0
+    sift-word = word-same w₀ w (4 * s .n + m) (k .unread)
+
+    pub sift-below : m < found → getD w (4 * s .n + m) 0 < s .n
+    sift-below h = subst (λ (j : ℕ). j < s .n) (sym sift-word) (points .below m h)
+
+    test-is : {b : Bool} → b ≡ later s pts limit i w (getD w (4 * s .n + m) 0) → later s pts limit i w₀ (getD w₀ (4 * s .n + m) 0) ≡ b
+    test-is e = sym (e ∙ ap (λ (l : List ℕ). ltb i (getD w (4 * s .n + m) 0) && inReach pts (take (s .n) l) (pointAt pts i) limit (getD w (4 * s .n + m) 0)) (k .others .after) ∙ ap (later s pts limit i w₀) sift-word)
+
+    pub sift-skip : {b : Bool} → m < found → b ≡ later s pts limit i w (getD w (4 * s .n + m) 0) → b ≡ false → Sifting s pts limit i w₀ w found kept (m + 1)
+    sift-skip h e t = record {
+      same = k .same;
+      most = omega (arith, k .most);
+      inside = omega arith;
+      below = k .below;
+      unread = drop-more w₀ w (4 * s .n + m) (4 * s .n + (m + 1)) (omega arith) (k .unread);
+      complete = below-next (k .complete) (λ y. absurd (true-not-false y (test-is e ∙ t)));
+      others = k .others;
+    }
+
+    -- the m-th point, written after those that are kept
+    abbrev stored : List ℕ
+    stored = set w (4 * s .n + kept) (getD w (4 * s .n + m) 0)
+
+    stored-new : m < found → getD stored (4 * s .n + kept) 0 ≡ getD w (4 * s .n + m) 0
+    stored-new h = getD-set-same w (4 * s .n + kept) (getD w (4 * s .n + m) 0) 0 (omega (arith, held .work-long, points .most, k .same, k .most))
+
+    stored-old : (x : ℕ) → x < kept → getD stored (4 * s .n + x) 0 ≡ getD w (4 * s .n + x) 0
+    stored-old x h = getD-set-other w (4 * s .n + kept) (4 * s .n + x) (getD w (4 * s .n + m) 0) 0 (λ e. omega arith)
+
+    pub sift-take : m < found → Sifting s pts limit i w₀ stored found (kept + 1) (m + 1)
+    sift-take h = record {
+      same = length-set w (4 * s .n + kept) (getD w (4 * s .n + m) 0) ∙ k .same;
+      most = omega (arith, k .most);
+      inside = omega arith;
+      below = below-next (λ x l. subst (λ (j : ℕ). j < s .n) (sym (stored-old x l)) (k .below x l)) (subst (λ (j : ℕ). j < s .n) (sym (stored-new h)) (sift-below h));
+      unread = drop-set-lt (4 * s .n + (m + 1)) w (4 * s .n + kept) (getD w (4 * s .n + m) 0) (omega (arith, k .most)) ∙ drop-more w₀ w (4 * s .n + m) (4 * s .n + (m + 1)) (omega arith) (k .unread);
+      complete = below-next
+          (λ x l t. let p = k .complete x l t in (p .0, (omega (arith, p .1 .0), stored-old (p .0) (p .1 .0) ∙ p .1 .1)))
+          (λ t. (kept, (omega arith, stored-new h ∙ sift-word)));
+      others = kept-on (k .others) (record {
+        before = take-set-le (4 * s .n) w (4 * s .n + kept) (getD w (4 * s .n + m) 0) (omega arith);
+        after = drop-set-lt (5 * s .n) w (4 * s .n + kept) (getD w (4 * s .n + m) 0) (omega (arith, k .most, points .most));
+      });
+    }
+
+-- ---- three points
+
+-- of two numbers that differ one is less
+apart-order : (a b : ℕ) → (a ≡ b → ⊥) → (a < b) ⊎ (b < a)
+apart-order a b d = ⊎-elim
+    (λ (t : ltb a b ≡ true). inl (ltb-true a b t))
+    (λ (t : ltb a b ≡ false). ⊎-elim (λ (u : ltb b a ≡ true). inr (ltb-true b a u)) (λ (u : ltb b a ≡ false). absurd (d (omega (arith, ltb-false a b t, ltb-false b a u)))) (either (ltb b a)))
+    (either (ltb a b))
+
+pub fruitless-turned : {s : Scene} {pts : List Float} {r : Float} {i j k : ℕ} → Fruitless s pts r i j k → Fruitless s pts r i k j
+fruitless-turned f = record { forward = f .backward; backward = f .forward }
+
+pub barren-turned : {s : Scene} {pts : List Float} {r : Float} {i j k : ℕ} → Barren s pts r i j k → Barren s pts r i k j
+barren-turned b = record { first = fruitless-turned (b .first); second = b .third; third = b .second }
+
+pub barren-round : {s : Scene} {pts : List Float} {r : Float} {i j k : ℕ} → Barren s pts r j k i → Barren s pts r i j k
+barren-round b = record { first = b .third; second = fruitless-turned (b .first); third = fruitless-turned (b .second) }
+
+module _ (s : Scene) (pts : List Float) (r : Float) where
+  first-far : (i j k : ℕ) → isClose pts r i k ≡ false → completes s pts r i j k ≡ false
+  unfolding completes
+  first-far i j k h = rw h
+
+  second-far : (i j k : ℕ) → isClose pts r j k ≡ false → completes s pts r i j k ≡ false
+  unfolding completes
+  second-far i j k h = rw h (and-false (isClose pts r i k))
+
+  -- two of the points are too far apart
+  far-barren : (i j k : ℕ) → isClose pts r i j ≡ false → isClose pts r j i ≡ false → Barren s pts r i j k
+  far-barren i j k h g = record {
+    first = record { forward = λ d. absurd (true-not-false d h); backward = λ d. first-far i k j h };
+    second = record { forward = λ d. absurd (true-not-false d g); backward = λ d. first-far j k i g };
+    third = record { forward = λ d. second-far k i j h; backward = λ d. second-far k j i g };
+  }
+
+  apart-barren : (i j k : ℕ) → Finite (pointAt pts i) → Finite (pointAt pts j) → lt (reach r) (apart pts j i) ≡ true → Barren s pts r i j k
+  apart-barren i j k fi fj h = far-barren i j k (close-far s pts r [] i j fi fj h) (back h)
+    where
+      back : lt (reach r) (apart pts j i) ≡ true → isClose pts r j i ≡ false
+      back h = unfold isClose in ap not h
+
+-- what limits refuse whichever point comes first
+pub refused-barren : {s : Scene} {pts : List Float} {r : Float} {l : Limits} {i j k : ℕ} → Judged s pts r l → i < s .n → j < s .n → k < s .n → RefusedThroughout l (pointAt pts i) (pointAt pts j) (pointAt pts k) → Barren s pts r i j k
+refused-barren {s} {pts} {r} {i = i} {j = j} {k = k} g hi hj hk (distant h) = barren-round (far-barren s pts r j k i (far-apart pts j k (g .limits) h) (far-apart pts k j (g .limits) (rw (squared-turned (pointAt pts k) (pointAt pts j)) h)))
+refused-barren g hi hj hk (each a b c) = record { first = refused-fruitless g hi hj hk a; second = refused-fruitless g hj hi hk b; third = refused-fruitless g hk hi hj c }
+
+-- ---- the points after i that were gathered are enough
+
+pub barren-from : {s : Scene} {pts : List Float} {r : Float} {l : Limits} {i : ℕ} {w u v : List ℕ} {found c : ℕ} → Judged s pts r l → i < s .n → Kept s w u
+    → ((k : ℕ) → k < s .n → unused (usedIn s w) k ≡ true → lt (l .far) (squared (pointAt pts k) (pointAt pts i)) ≡ false → 1 ≤ count (eqb k) (listed s u found))
+    → Sifted s pts (l .far) i u v found c → AllBarren s pts r v (neighborsAt (s .n)) c i → BarrenFrom s pts r (usedIn s w) i
+barren-from {s} {pts} {r} {l} {i} {w} {u} {v} {found} {c} g hi kept near x all j k hj hk ij ik ne uj uk = ⊎-elim
+    (λ (tj : inReach pts (usedIn s w) (pointAt pts i) (l .far) j ≡ true). ⊎-elim
+    (λ (tk : inReach pts (usedIn s w) (pointAt pts i) (l .far) k ≡ true). two (stands j hj ij uj tj) (stands k hk ik uk tk))
+    (λ (tk : inReach pts (usedIn s w) (pointAt pts i) (l .far) k ≡ false). barren-turned (beyond k j hk uk tk))
+    (either (inReach pts (usedIn s w) (pointAt pts i) (l .far) k)))
+    (λ (tj : inReach pts (usedIn s w) (pointAt pts i) (l .far) j ≡ false). beyond j k hj uj tj)
+    (either (inReach pts (usedIn s w) (pointAt pts i) (l .far) j))
+  where
+    beyond : (a b : ℕ) → a < s .n → unused (usedIn s w) a ≡ true → inReach pts (usedIn s w) (pointAt pts i) (l .far) a ≡ false → Barren s pts r i a b
+    beyond a b ha ua t = ⊎-elim
+        (λ (f : unused (usedIn s w) a ≡ false). absurd (true-not-false ua f))
+        (λ (f : lt (reach r) (apart pts a i) ≡ true). apart-barren s pts r i a b (g .numbers i hi) (g .numbers a ha) f)
+        (out-of-reach pts (usedIn s w) (reach r) i a (l .far) (g .limits .fars) t)
+
+    is-later : (a : ℕ) → i < a → inReach pts (usedIn s w) (pointAt pts i) (l .far) a ≡ true → later s pts (l .far) i u a ≡ true
+    is-later a h t = rw (lt-ltb i a h) (ap (λ (z : List ℕ). inReach pts (take (s .n) z) (pointAt pts i) (l .far) a) (kept .after) ∙ t)
+
+    stands : (a : ℕ) → a < s .n → i < a → unused (usedIn s w) a ≡ true → inReach pts (usedIn s w) (pointAt pts i) (l .far) a ≡ true → Stands s v c a
+    stands a ha h ua t = x .complete a (listed-place s u found a (near a ha ua (in-reach pts (usedIn s w) (pointAt pts i) (l .far) a t))) (is-later a h t)
+
+    word : ℕ → ℕ
+    word m = getD v (neighborsAt (s .n) + m) 0
+
+    at : (a b : ℕ) → a < c → b < c → word a ≢ word b → Barren s pts r i (word a) (word b)
+    at a b ha hb d = ⊎-elim (λ (t : a < b). all a ha b (omega arith) hb) (λ (t : b < a). barren-turned (all b hb a (omega arith) ha)) (apart-order a b (λ e. d (ap word e)))
+
+    two : Stands s v c j → Stands s v c k → Barren s pts r i j k
+    two p q =
+        subst (λ (z : ℕ). Barren s pts r i z k) (p .1 .1)
+        (subst (Barren s pts r i (word (p .0))) (q .1 .1)
+        (at (p .0) (q .0) (p .1 .0) (q .1 .0) (λ e. ne (sym (p .1 .1) ∙ e ∙ q .1 .1))))
+
+-- ---- what is known of second and third points
+
+not-equal : (a b : ℕ) → not (eqb a b) ≡ true → a ≡ b → ⊥
+not-equal a b h e = true-not-false h (ap not (eq-eqb a b e))
+
+second-free : (s : Scene) (pts : List Float) (r : Float) (used : List ℕ) (i j : ℕ) → isSecond (floatsOf s pts) r used i j ≡ true → (i ≡ j → ⊥) × (unused used j ≡ true)
+unfolding isSecond
+second-free s pts r used i j h =
+    let a = and-both {p = not (eqb i j)} h in
+    (not-equal i j (a .0), and-both {p = unused used j} (a .1) .0)
+
+third-free : (s : Scene) (pts : List Float) (r : Float) (used : List ℕ) (i j k : ℕ) → isThird (floatsOf s pts) r used i j k ≡ true → (i ≡ k → ⊥) × ((j ≡ k → ⊥) × (unused used k ≡ true))
+unfolding isThird
+third-free s pts r used i j k h =
+    let a = and-both {p = not (eqb i k)} h in
+    let b = and-both {p = not (eqb j k)} (a .1) in
+    (not-equal i k (a .0), (not-equal j k (b .0), and-both {p = unused used k} (b .1) .0))
+
+-- ---- what is known while no three points that were met make a seed
+
+-- it holds of each unused point below i
+abbrev pub BarrenBelow : Scene → List Float → Float → List ℕ → ℕ → Type 0
+BarrenBelow s pts r used i = (a : ℕ) → a < i → unused used a ≡ true → BarrenFrom s pts r used a
+
+module _ {s : Scene} {pts : List Float} {r : Float} {i : ℕ} where
+  pub barren-used : (used : List ℕ) → BarrenBelow s pts r used i → unused used i ≡ false → BarrenBelow s pts r used (i + 1)
+  barren-used used b h = below-next b (λ u. absurd (true-not-false u h))
+
+  pub barren-next : {barren still : Bool} {w₀ w : List ℕ} → (barren ≡ true → BarrenBelow s pts r (usedIn s w₀) i) → Kept s w₀ w → (still ≡ true → (barren ≡ true) × BarrenFrom s pts r (usedIn s w) i)
+      → still ≡ true → BarrenBelow s pts r (usedIn s w₀) (i + 1)
+  barren-next b k f h = below-next (b (f h .0)) (λ u. subst (λ (l : List ℕ). BarrenFrom s pts r (take (s .n) l) i) (k .after) (f h .1))
+
+  -- of point i and two others the one with the least number has been met
+  pub barren-nothing : (used : List ℕ) → unused used i ≡ true → i < s .n → BarrenBelow s pts r used (i + 1) → withFirst (floatsOf s pts) r used i ≡ none
+  barren-nothing used ui hi b = first-around s pts r used i (λ j hj second k hk. not-true (λ third.
+      let p = second-free s pts r used i j second in
+      let q = third-free s pts r used i j k third in
+      let close = close-second s pts r used i j second in
+      true-not-false third (completes-third s pts r used i j k (least j k hj hk (p .0) (q .0) (q .1 .0) (p .1) (q .1 .1) close))))
+    where
+      least : (j k : ℕ) → j < s .n → k < s .n → (i ≡ j → ⊥) → (i ≡ k → ⊥) → (j ≡ k → ⊥) → unused used j ≡ true → unused used k ≡ true → isClose pts r i j ≡ true → completes s pts r i j k ≡ false
+      least j k hj hk ij ik jk uj uk close = ⊎-elim
+          (λ (a : i < j). ⊎-elim
+          (λ (c : i < k). b i (omega arith) ui j k hj hk a c jk uj uk .first .forward close)
+          (λ (c : k < i). b k (omega arith) uk i j hi hj c (omega arith) ij ui uj .second .backward close)
+          (apart-order i k ik))
+          (λ (a : j < i). ⊎-elim
+          (λ (c : j < k). b j (omega arith) uj i k hi hk a c ik ui uk .second .forward close)
+          (λ (c : k < j). b k (omega arith) uk i j hi hj (omega arith) c ij ui uj .second .backward close)
+          (apart-order j k jk))
+          (apart-order i j ij)
+
+-- ---- the loop of `find_from`
+
+pub unused-kept : {s : Scene} {w v : List ℕ} {t : Bool} (i : ℕ) → Kept s w v → unused (usedIn s w) i ≡ t → unused (usedIn s v) i ≡ t
+unused-kept {s} i k h = ap (λ (l : List ℕ). unused (take (s .n) l) i) (k .after) ∙ h
+
+pub unused-back : {s : Scene} {w v : List ℕ} {t : Bool} (i : ℕ) → Kept s w v → unused (usedIn s v) i ≡ t → unused (usedIn s w) i ≡ t
+unused-back {s} i k h = ap (λ (l : List ℕ). unused (take (s .n) l) i) (sym (k .after)) ∙ h
+
+pub seek-barren : {s : Scene} {pts : List Float} {r : Float} {hash : Hash} {w₀ v : List ℕ} {left i : ℕ} → Seeking s pts r hash w₀ v left i → i < s .n → unused (usedIn s v) i ≡ true → BarrenBelow s pts r (usedIn s w₀) (i + 1)
+    → withFirst (floatsOf s pts) r (usedIn s v) i ≡ none
+seek-barren {s} {pts} {r} {w₀ = w₀} {i = i} k hi u b =
+    ap (λ (l : List ℕ). withFirst (floatsOf s pts) r (take (s .n) l) i) (k .kept .after) ∙ barren-nothing (usedIn s w₀) (unused-back {s = s} i (k .kept) u) hi b

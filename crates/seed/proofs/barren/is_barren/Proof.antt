@@ -1,0 +1,50 @@
+-- `is_barren` meets its contract: limits refuse every order, or each of the three points is tried as the first one. Assumes nothing.
+use mathlib.Core.Path.{sym, subst}
+use lib.Dec.{T}
+use borrow.Author.Needs.{needs}
+use borrow.Author.Tests.{not-false}
+use Rattle.seed.proofs.Spread.{throughout-points}
+use Rattle.seed.proofs.Threes.{refused-barren}
+use Rattle.seed.proofs.barren.is_barren.Statement.{statement}
+use Rattle.seed.proofs.barren.is_barren.Tie as tie
+
+point-at-requires : tie.Need-point-at-requires
+point-at-requires c κs = search needs
+
+point-at-requires-2 : tie.Need-point-at-requires-2
+point-at-requires-2 c κs = search needs
+
+point-at-requires-3 : tie.Need-point-at-requires-3
+point-at-requires-3 c κs = search needs
+
+is-refused-throughout-requires : tie.Need-is-refused-throughout-requires
+is-refused-throughout-requires c κs = search needs
+
+returns : tie.Need-returns
+returns c =
+    let a = c .before .before .before .before .before .before in
+    λ h. refused-barren (a .pre .4) (a .pre .1) (a .pre .2) (a .pre .3) (throughout-points (c .before .before .before .before .point-at .ensures) (c .before .before .before .point-at2 .ensures) (c .before .before .point-at3 .ensures) (c .before .is-refused-throughout .ensures (c .if1 .taken)))
+
+are-measured-fruitless-requires : tie.Need-are-measured-fruitless-requires
+are-measured-fruitless-requires c κs = search needs
+
+returns-2 : tie.Need-returns-2
+returns-2 c = λ h. absurd (subst T (sym h) tt)
+
+are-measured-fruitless-requires-2 : tie.Need-are-measured-fruitless-requires-2
+are-measured-fruitless-requires-2 c κs = search needs
+
+returns-3 : tie.Need-returns-3
+returns-3 c = λ h. absurd (subst T (sym h) tt)
+
+are-measured-fruitless-requires-3 : tie.Need-are-measured-fruitless-requires-3
+are-measured-fruitless-requires-3 c κs = search needs
+
+returns-4 : tie.Need-returns-4
+returns-4 c =
+    let x = c .before .before .before .before .are-measured-fruitless in
+    let y = c .before .before .are-measured-fruitless2 in
+    λ h. record { first = x .ensures (not-false (x .result) (c .before .before .before .if2 .left)); second = y .ensures (not-false (y .result) (c .before .if3 .left)); third = c .are-measured-fruitless3 .ensures h }
+
+pub is-barren-spec : {M : Type 1} → statement M
+is-barren-spec = tie.close (tie.spec point-at-requires point-at-requires-2 point-at-requires-3 is-refused-throughout-requires returns are-measured-fruitless-requires returns-2 are-measured-fruitless-requires-2 returns-3 are-measured-fruitless-requires-3 returns-4)
