@@ -4,12 +4,15 @@ use frontier::Counts;
 use pivot::Pivot;
 use seed::Seed;
 use spatial_hash::Hash;
+ghost use mathlib.Core.Path.{_≡_};
+ghost use mathlib.Core.Bool.{true};
 ghost use Prim.Native.Nat.{_*_, _≤_, _<_};
 ghost use lib.ListN.{take};
 ghost use Rattle.patch.specs.Lay.{edge, run, layOne, patch};
 ghost use Rattle.patch.specs.Frontier.{heapOf};
 ghost use Rattle.patch.proofs.Inv.{Inv};
 ghost use Rattle.patch.proofs.Laying.{Rest};
+ghost use Rattle.seed.specs.Flat.{Flat};
 ghost use Rattle.frontier.specs.Work.{Holds};
 ghost use Rattle.laying.specs.Laying.{Ground, rulesOf, pivotOver, looked, Lays, Opened, Pivoting, Standing, Resting, Without};
 ghost use Rattle.spatial_hash.specs.Near.{Linked};
@@ -102,12 +105,13 @@ fn lay_one(
     radius: f32,
     before: Counts,
     hash: Hash,
+    flat: bool,
 ) -> Counts
-    requires { ⌜ Resting s hash (now points) before (now w) (now faces) ⌝ }
+    requires { ⌜ Resting s hash (now points) before (now w) (now faces) × (flat ≡ true → Flat s (now points)) ⌝ }
     ensures { λ r. ⌜ Lays s hash (now (points .entry)) (Rest (s .n)) (layOne (rulesOf s (now (points .entry))) heapOf (s .n) radius) before (now (w .entry)) (now (faces .entry)) r (now (w .exit)) (now (faces .exit)) ⌝ }
 {
     let c = frontier::clear(before);
-    let seed = seed::find_seed_triangle(s, points, w, radius, hash);
+    let seed = seed::find_seed_triangle(s, points, w, radius, hash, flat);
     match seed {
         Seed::Triangle(i, j, k) => {
             remove_three(points, w, s.n, hash, i, j, k);
@@ -131,10 +135,11 @@ pub fn advanced_ball_pivoting(
     requires { ⌜ Ground s hash (now points) (now w) × (count ≤ 17) ⌝ }
     ensures { λ r. ⌜ Holds (s .n) (now (faces .entry)) (patch (rulesOf s (now (points .entry))) heapOf (s .n) (take count radii)) r (now (w .exit)) (now (faces .exit)) ⌝ }
 {
+    let flat = seed::flat::is_flat(s, points);
     let mut c = frontier::begin(w, s.n);
     let mut i: usize = 0;
     while i < count {
-        c = lay_one(s, points, faces, w, radii[i], c, hash);
+        c = lay_one(s, points, faces, w, radii[i], c, hash, flat);
         i += 1;
     }
     c

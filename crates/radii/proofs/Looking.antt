@@ -4,7 +4,7 @@ use mathlib.Core.Bool.{Bool, true, false, cond, not, _&&_}
 use mathlib.Core.List.{List, [], _∷_, _++_, map}
 use Prim.Native.Nat.{ℕ, suc, _+_, _-_, _≤_, _<_}
 use native.Mathlib.Omega.{arith}
-use borrow.Author.Tests.{eqb-true}
+use borrow.Author.Tests.{not-true, not-false, eqb-true}
 use lib.Dec.{T, eqb}
 use lib.ListN.{length, take, drop, getD, set, length-take, length-drop, length-set, drop-of-length-le}
 use lib.Seq.{drop-cons, take-set-le, drop-set-lt, drop-set-add, take-suc, take-suc-set, getD-drop, drop-drop}
@@ -37,14 +37,6 @@ part-over : {A : Type 0} (w : List A) (at count k : ℕ) → at + count ≤ leng
 part-over w at count k long h = drop-of-length-le (take count (drop at w)) (subst (λ (m : ℕ). m ≤ k) (sym (part-length w at count long)) h)
 
 -- ---- one point is looked at
-not-is-true : (b : Bool) → not b ≡ true → b ≡ false
-not-is-true true e = sym e
-not-is-true false e = refl
-
-not-is-false : (b : Bool) → not b ≡ false → b ≡ true
-not-is-false true e = refl
-not-is-false false e = sym e
-
 module _ (near : ℕ → Bool) (pts : List Float) (i j : ℕ) where
   -- squares above the limit go no further
   pub with-within : (limit : Float) (kept : List Float) → withSquare (within limit near pts i) pts i j kept ≡ cond (le (squared (pointAt pts j) (pointAt pts i)) limit) (withSquare near pts i j kept) kept
@@ -110,11 +102,11 @@ module _ (near : ℕ → Bool) (pts : List Float) (i j : ℕ) (limit : Float) (k
   same = cc
 
   pub with-above : not (le s limit) ≡ true → kept ≡ withSquare (within limit near pts i) pts i j kept
-  with-above e = sym (with-within near pts i j limit kept ∙ ap (λ (b : Bool). cond b (withSquare near pts i j kept) kept) (ap (λ (x : Float). le x limit) (sym same) ∙ not-is-true (le s limit) e))
+  with-above e = sym (with-within near pts i j limit kept ∙ ap (λ (b : Bool). cond b (withSquare near pts i j kept) kept) (ap (λ (x : Float). le x limit) (sym same) ∙ not-true (le s limit) e))
 
   -- not above the limit: as if there were none
   upto : not (le s limit) ≡ false → withSquare near pts i j kept ≡ withSquare (within limit near pts i) pts i j kept
-  upto e = sym (with-within near pts i j limit kept ∙ ap (λ (b : Bool). cond b (withSquare near pts i j kept) kept) (ap (λ (x : Float). le x limit) (sym same) ∙ not-is-false (le s limit) e))
+  upto e = sym (with-within near pts i j limit kept ∙ ap (λ (b : Bool). cond b (withSquare near pts i j kept) kept) (ap (λ (x : Float). le x limit) (sym same) ∙ not-false (le s limit) e))
 
   module _ (b : Bool) (is : b ≡ (not (eqb j i) && near j)) where
     pub with-none : not (le s limit) ≡ false → b ≡ false → kept ≡ withSquare (within limit near pts i) pts i j kept

@@ -3,5 +3,6 @@ pub mod LeftOut
 pub mod Steps
 pub mod State
 pub mod Spread
+pub mod Extents
 pub mod Nothing
 pub mod Threes

@@ -1,5 +1,5 @@
 -- Where nothing is found: around a point whose near points lie in too small a spread (`small-nothing`) or no two of which make a seed with it (`all-fruitless-nothing`), with a second point that is too near (`near-nothing`),
--- and at a radius that is hopeless (`hopeless-nothing`). Assumes nothing.
+-- at a radius that is hopeless (`hopeless-nothing`), and in a cloud that is flat (`flat-nothing`). Assumes nothing.
 use Prim.Native.Nat.{ℕ, zero, suc, _+_, _≤_, _<_}
 use mathlib.Core.Path.{_≡_, refl, sym, ap, _∙_, subst}
 use mathlib.Core.Logic.{_⊎_, inl, inr, ⊎-elim}
@@ -37,6 +37,7 @@ use Rattle.nearby.proofs.Ordered.{and-false, insert-count}
 use Rattle.nearby.proofs.Laws.{chosen, passed}
 use Rattle.nearby.proofs.Narrowing.{out-of-reach, in-reach, in-unused}
 use Rattle.seed.specs.Found.{withSecond, withFirst}
+use Rattle.seed.specs.Flat.{Flat}
 use Rattle.seed.specs.Spread.{spread, tooSmall, Fruitless, AllFruitless, Spans, Judged, Listing}
 use Rattle.seed.proofs.Laws.{orElse, third-miss, third-end, second-step, second-end, first-tried, first-used, first-spent, first-end}
 use Rattle.seed.proofs.LeftOut.{finite-point, second-out, third-out}
@@ -150,6 +151,11 @@ hopeless-nothing s pts r used tries numbers h = first-nothing (floatsOf s pts) r
     none-of i hi j hj second k hk = not-true (λ third.
         let p = third-parts s pts r used i j k third in
         true-not-false (p .1 .1) (hopeless-accepts s pts r i j k (finite-point (numbers i hi)) (finite-point (numbers j hj)) (finite-point (numbers k hk)) (close-second s pts r used i j second) (p .0) (p .1 .0) h))
+
+-- ---- a cloud that is flat
+
+pub flat-nothing : (s : Scene) (pts : List Float) (r : Float) (used : List ℕ) (tries : ℕ) → Flat s pts → firstOf (floatsOf s pts) r used (numbers (s .n) 0) tries ≡ none
+flat-nothing s pts r used tries h = first-nothing (floatsOf s pts) r used (s .n) (λ i hi. first-around s pts r used i (λ j hj _ k hk. third-refused s pts r used i j k (h r i j k hi hj hk))) (s .n) 0 tries (omega arith)
 
 -- ---- a second point that is too near
 

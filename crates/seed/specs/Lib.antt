@@ -2,3 +2,4 @@
 pub mod Found
 pub mod Spread
 pub mod Barren
+pub mod Flat

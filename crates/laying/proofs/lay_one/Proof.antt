@@ -28,32 +28,32 @@ remove-three-requires c κs =
     let f = c .before .before in
     let q = search-of f in
     let s = start-of q in
-    let g = free-seed (s .args .radius) (s .pre) (q .before .before .clear .ensures) (q .find-seed-triangle .ensures .0) (q .find-seed-triangle .ensures .1) (q .find-seed-triangle .kept .1 .1 .0) (f .seed .given .1) in
-    (searched (s .args .radius) (s .pre) (q .before .before .clear .ensures) (q .find-seed-triangle .ensures .0) (q .find-seed-triangle .ensures .1) (q .find-seed-triangle .kept .1 .1 .0) .hashed .linked, g .first .below, g .second .below, g .third .below)
+    let g = free-seed (s .args .radius) (s .pre .0) (q .before .before .clear .ensures) (q .find-seed-triangle .ensures .0) (q .find-seed-triangle .ensures .1) (q .find-seed-triangle .kept .1 .1 .0) (f .seed .given .1) in
+    (searched (s .args .radius) (s .pre .0) (q .before .before .clear .ensures) (q .find-seed-triangle .ensures .0) (q .find-seed-triangle .ensures .1) (q .find-seed-triangle .kept .1 .1 .0) .hashed .linked, g .first .below, g .second .below, g .third .below)
 
 cast-lay-seed : tie.Need-cast-lay-seed
 cast-lay-seed c =
     let f = found-of (c .before .before .before .before) in
     let q = search-of f in
     let s = start-of q in
-    let g = free-seed (s .args .radius) (s .pre) (q .before .before .clear .ensures) (q .find-seed-triangle .ensures .0) (q .find-seed-triangle .ensures .1) (q .find-seed-triangle .kept .1 .1 .0) (f .seed .given .1) in
-    omega (arith, g .first .below, s .pre .ground .held .few)
+    let g = free-seed (s .args .radius) (s .pre .0) (q .before .before .clear .ensures) (q .find-seed-triangle .ensures .0) (q .find-seed-triangle .ensures .1) (q .find-seed-triangle .kept .1 .1 .0) (f .seed .given .1) in
+    omega (arith, g .first .below, s .pre .0 .ground .held .few)
 
 cast-lay-seed-2 : tie.Need-cast-lay-seed-2
 cast-lay-seed-2 c =
     let f = found-of (c .before .before .before .before) in
     let q = search-of f in
     let s = start-of q in
-    let g = free-seed (s .args .radius) (s .pre) (q .before .before .clear .ensures) (q .find-seed-triangle .ensures .0) (q .find-seed-triangle .ensures .1) (q .find-seed-triangle .kept .1 .1 .0) (f .seed .given .1) in
-    omega (arith, g .second .below, s .pre .ground .held .few)
+    let g = free-seed (s .args .radius) (s .pre .0) (q .before .before .clear .ensures) (q .find-seed-triangle .ensures .0) (q .find-seed-triangle .ensures .1) (q .find-seed-triangle .kept .1 .1 .0) (f .seed .given .1) in
+    omega (arith, g .second .below, s .pre .0 .ground .held .few)
 
 cast-lay-seed-3 : tie.Need-cast-lay-seed-3
 cast-lay-seed-3 c =
     let f = found-of (c .before .before .before .before) in
     let q = search-of f in
     let s = start-of q in
-    let g = free-seed (s .args .radius) (s .pre) (q .before .before .clear .ensures) (q .find-seed-triangle .ensures .0) (q .find-seed-triangle .ensures .1) (q .find-seed-triangle .kept .1 .1 .0) (f .seed .given .1) in
-    omega (arith, g .third .below, s .pre .ground .held .few)
+    let g = free-seed (s .args .radius) (s .pre .0) (q .before .before .clear .ensures) (q .find-seed-triangle .ensures .0) (q .find-seed-triangle .ensures .1) (q .find-seed-triangle .kept .1 .1 .0) (f .seed .given .1) in
+    omega (arith, g .third .below, s .pre .0 .ground .held .few)
 
 lay-seed-requires : tie.Need-lay-seed-requires
 lay-seed-requires c κs =
@@ -61,7 +61,7 @@ lay-seed-requires c κs =
     let f = found-of r in
     let q = search-of f in
     let s = start-of q in
-    seed-room (s .args .radius) (s .pre) (q .before .before .clear .ensures) (q .find-seed-triangle .ensures .0) (q .find-seed-triangle .ensures .1) (q .find-seed-triangle .kept .1 .1 .0) (f .seed .given .1) (r .remove-three .ensures) (r .remove-three .kept .1 .0)
+    seed-room (s .args .radius) (s .pre .0) (q .before .before .clear .ensures) (q .find-seed-triangle .ensures .0) (q .find-seed-triangle .ensures .1) (q .find-seed-triangle .kept .1 .1 .0) (f .seed .given .1) (r .remove-three .ensures) (r .remove-three .kept .1 .0)
 
 run-requires : tie.Need-run-requires
 run-requires c κs =
@@ -70,7 +70,7 @@ run-requires c κs =
     let f = found-of r in
     let q = search-of f in
     let s = start-of q in
-    seed-standing (s .args .radius) (s .pre) (q .before .before .clear .ensures) (q .find-seed-triangle .ensures .0) (q .find-seed-triangle .ensures .1) (q .find-seed-triangle .kept .1 .1 .0) (f .seed .given .1) (r .remove-three .ensures) (r .remove-three .kept .1 .0) (l .lay-seed .ensures .0) (l .lay-seed .ensures .1)
+    seed-standing (s .args .radius) (s .pre .0) (q .before .before .clear .ensures) (q .find-seed-triangle .ensures .0) (q .find-seed-triangle .ensures .1) (q .find-seed-triangle .kept .1 .1 .0) (f .seed .given .1) (r .remove-three .ensures) (r .remove-three .kept .1 .0) (l .lay-seed .ensures .0) (l .lay-seed .ensures .1)
 
 enum-told : tie.Need-enum-told
 enum-told c = search needs
@@ -86,7 +86,7 @@ same-length-2 c =
     let f = found-of r in
     let q = search-of f in
     let s = start-of q in
-    seed-laid (s .args .radius) (s .pre) (q .before .before .clear .ensures) (q .find-seed-triangle .ensures .0) (q .find-seed-triangle .ensures .1) (q .find-seed-triangle .kept .1 .1 .0) (f .seed .given .1) (r .remove-three .ensures) (r .remove-three .kept .1 .0) (l .lay-seed .ensures .0) (l .lay-seed .ensures .1) (o .run .ensures) .length-same
+    seed-laid (s .args .radius) (s .pre .0) (q .before .before .clear .ensures) (q .find-seed-triangle .ensures .0) (q .find-seed-triangle .ensures .1) (q .find-seed-triangle .kept .1 .1 .0) (f .seed .given .1) (r .remove-three .ensures) (r .remove-three .kept .1 .0) (l .lay-seed .ensures .0) (l .lay-seed .ensures .1) (o .run .ensures) .length-same
 
 returns : tie.Need-returns
 returns c =
@@ -96,7 +96,7 @@ returns c =
     let f = found-of r in
     let q = search-of f in
     let s = start-of q in
-    seed-laid (s .args .radius) (s .pre) (q .before .before .clear .ensures) (q .find-seed-triangle .ensures .0) (q .find-seed-triangle .ensures .1) (q .find-seed-triangle .kept .1 .1 .0) (f .seed .given .1) (r .remove-three .ensures) (r .remove-three .kept .1 .0) (l .lay-seed .ensures .0) (l .lay-seed .ensures .1) (o .run .ensures)
+    seed-laid (s .args .radius) (s .pre .0) (q .before .before .clear .ensures) (q .find-seed-triangle .ensures .0) (q .find-seed-triangle .ensures .1) (q .find-seed-triangle .kept .1 .1 .0) (f .seed .given .1) (r .remove-three .ensures) (r .remove-three .kept .1 .0) (l .lay-seed .ensures .0) (l .lay-seed .ensures .1) (o .run .ensures)
 
 same-length-3 : tie.Need-same-length-3
 same-length-3 c = search needs
@@ -105,7 +105,7 @@ returns-2 : tie.Need-returns-2
 returns-2 c =
     let q = c .before .before .before .before in
     let s = start-of q in
-    no-seed (s .args .radius) (s .pre) (q .before .before .clear .ensures) (q .find-seed-triangle .ensures .0) (q .find-seed-triangle .ensures .1) (q .find-seed-triangle .kept .1 .1 .0) (c .enum-told .given .1)
+    no-seed (s .args .radius) (s .pre .0) (q .before .before .clear .ensures) (q .find-seed-triangle .ensures .0) (q .find-seed-triangle .ensures .1) (q .find-seed-triangle .kept .1 .1 .0) (c .enum-told .given .1)
 
 pub lay-one-spec : {M : Type 1} → statement M
 lay-one-spec =

@@ -1,0 +1,35 @@
+-- A cloud that is flat, and how far its points reach on an axis. Definitions only.
+use Prim.Native.Nat.{ℕ, _+_, _*_, _<_}
+use mathlib.Core.Path.{_≡_}
+use mathlib.Core.Bool.{false}
+use mathlib.Core.List.{List}
+use lib.Dec.{T}
+use lib.ListN.{getD}
+use lib.Ieee.{Float, nan}
+use lib.Ieee.Scale.{finite}
+use Rattle.numbers.specs.Rounded.{_⊖_}
+use Rattle.numbers.proofs.OrderLaws.{unsigned}
+use Rattle.numbers.proofs.Bounded.{Bounded}
+use Rattle.decisions.specs.declared.Scene.{Scene}
+use Rattle.decisions.specs.Decisions.{accepts, qualityAt}
+
+-- no three of the first n points make an acceptable triangle, at any radius
+abbrev pub FlatAmong : Scene → List Float → ℕ → Type 0
+FlatAmong s pts n = (r : Float) (i j k : ℕ) → i < n → j < n → k < n → accepts s r (qualityAt pts i j k) ≡ false
+
+-- no three points of the cloud do
+abbrev pub Flat : Scene → List Float → Type 0
+Flat s pts = FlatAmong s pts (s .n)
+
+-- the coordinate of point k on an axis
+abbrev pub onAxis : List Float → ℕ → ℕ → Float
+onAxis pts axis k = getD pts (3 * k + axis) nan
+
+-- the coordinates of n points on an axis are finite
+abbrev pub Numbers : List Float → ℕ → ℕ → Type 0
+Numbers pts axis n = (k : ℕ) → k < n → T (finite (onAxis pts axis k))
+
+-- v bounds how far any two of n points are apart on an axis
+pub record Extent (pts : List Float) (axis n : ℕ) (v : Float) : Type 0 where
+  pub sign : T (unsigned v)
+  pub bounds : (j k : ℕ) → j < n → k < n → Bounded (onAxis pts axis j ⊖ onAxis pts axis k) v

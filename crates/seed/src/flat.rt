@@ -1,0 +1,56 @@
+// Whether a cloud's points lie in a box so flat that no three of them make a triangle that is large enough.
+use decisions::Scene;
+ghost use mathlib.Core.Path.{_≡_};
+ghost use mathlib.Core.Bool.{true};
+ghost use Prim.Native.Nat.{ℕ, _*_, _<_, _≤_};
+ghost use lib.ListN.{length};
+ghost use Rattle.points.specs.Points.{pointAt};
+ghost use Rattle.spatial_hash.specs.Near.{Finite};
+ghost use Rattle.seed.specs.Flat.{FlatAmong, Flat, Numbers, Extent};
+
+// How far the n points reach on one axis, 0, 1 or 2. The difference is taken both ways, since a zero may have either sign.
+fn extent_on(points: &[f32], axis: usize, n: usize) -> f32
+    requires { ⌜ (axis < 3) × (0 < n) × (n ≤ 4096) × (3 * n ≤ length (now points)) × Numbers (now points) axis n ⌝ }
+    ensures { λ r. ⌜ Extent (now (points .entry)) axis n r ⌝ }
+{
+    let mut lo = points[axis];
+    let mut hi = points[axis];
+    let mut i: usize = 1;
+    while i < n {
+        lo = numbers::min(lo, points[3 * i + axis]);
+        hi = numbers::max(hi, points[3 * i + axis]);
+        i += 1;
+    }
+    numbers::max(numbers::max(0.0, hi - lo), -(lo - hi))
+}
+
+// Whether no triangle in the box around the first n points is large enough.
+fn is_box_small(s: Scene, points: &[f32], n: usize) -> bool
+    requires { ⌜ (0 < n) × (n ≤ 4096) × (3 * n ≤ length (now points)) × ((k : ℕ) → k < n → Finite (pointAt (now points) k)) ⌝ }
+    ensures { λ r. ⌜ (r ≡ true → FlatAmong s (now (points .entry)) n) ⌝ }
+{
+    let x = extent_on(points, 0, n);
+    let y = extent_on(points, 1, n);
+    let z = extent_on(points, 2, n);
+    let v = vector::point(x, y, z);
+    crate::areas::is_too_small(s, v, v)
+}
+
+// How many points are asked first.
+fn first_few(n: usize) -> usize
+    requires { ⌜ 0 < n ⌝ }
+    ensures { λ r. ⌜ (0 < r) × (r ≤ n) ⌝ }
+{
+    if n < 8 { n } else { 8 }
+}
+
+// Whether no triangle in the box around all points is large enough. Most clouds are known not to be flat by a few of their points.
+pub fn is_flat(s: Scene, points: &[f32]) -> bool
+    requires { ⌜ (0 < s .n) × (s .n ≤ 4096) × (length (now points) ≡ 3 * s .n) × ((k : ℕ) → k < s .n → Finite (pointAt (now points) k)) ⌝ }
+    ensures { λ r. ⌜ (r ≡ true → Flat s (now (points .entry))) ⌝ }
+{
+    if !is_box_small(s, points, first_few(s.n)) {
+        return false;
+    }
+    is_box_small(s, points, s.n)
+}
