@@ -16,7 +16,8 @@ use Rattle.numbers.proofs.ProductOrder.{mul-number, mul-monotone, mul-commutati
 use Rattle.numbers.proofs.Bounded.{Bounded, bounded-above, neg-neg, add-bounded, sub-bounded, mul-bounded, mul-unsigned, add-finite, mul-finite}
 use Rattle.numbers.proofs.Maximum.{maximum-left, maximum-right, maximum-unsigned}
 use Rattle.vector.specs.Vector.{point, difference, magnitudeSquared, magnitude, cross}
-use Rattle.triangle.specs.Quality.{half, area}
+use Rattle.quality.specs.Measures.{half}
+use Rattle.triangle.specs.Quality.{area}
 use Rattle.area_bounds.specs.AreaBound.{wider, widen, crossBound, areaBound, crossSquared, AreaLimit, TooLong, LargeLimit}
 use Rattle.vector.specs.declared.Point3f.{Point3f}
 use Rattle.vector.proofs.Distances.{FinitePoint, magnitude-nonnegative}

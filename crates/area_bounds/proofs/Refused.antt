@@ -19,7 +19,8 @@ use Rattle.numbers.proofs.Minimum.{minimum-le}
 use Rattle.numbers.proofs.Maximum.{maximum-right, minimum-finite, maximum-finite}
 use Rattle.numbers.proofs.AtLeastOne.{ratio-above, mul-above}
 use Rattle.vector.specs.Vector.{difference, magnitudeSquared, magnitude, cross, squared, distance}
-use Rattle.triangle.specs.Quality.{half, one, tiny, area, least, largest, edgeRatio, measures, degenerate, circumradius, quality, acceptable}
+use Rattle.quality.specs.Measures.{half, one, tiny, least, largest, edgeRatio, measures, degenerate}
+use Rattle.triangle.specs.Quality.{area, circumradius, quality, acceptable}
 use Rattle.area_bounds.specs.AreaBound.{TooLong, LargeLimit}
 use Rattle.vector.specs.declared.Point3f.{Point3f}
 use Rattle.vector.proofs.Distances.{FinitePoint, squared-fits, squared-unsigned, magnitude-unsigned}

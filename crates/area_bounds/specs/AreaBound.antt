@@ -6,7 +6,7 @@ use Rattle.numbers.specs.Rounded.{f32, _⊕_, _⊗_}
 use Rattle.numbers.specs.Root.{root}
 use Rattle.numbers.specs.Order.{maximum}
 use Rattle.vector.specs.Vector.{point, difference, magnitudeSquared, magnitude, cross}
-use Rattle.triangle.specs.Quality.{half, one, tiny}
+use Rattle.quality.specs.Measures.{half, one, tiny}
 use Rattle.vector.specs.declared.Point3f.{Point3f}
 
 -- the largest of w, d and -d

@@ -18,7 +18,8 @@ use Rattle.numbers.specs.Acos.{R, abs, cleared, acosMiddle, acosLow, acosHigh, 
 use Rattle.numbers.specs.Cut.{ceil}
 use Rattle.numbers.specs.Order.{minimum, maximum, clamp}
 use Rattle.numbers.specs.Root.{isqrt, nearestRoot, rootOfUnits, root}
-use Rattle.triangle.specs.Quality.{area, radiusOf, circumradius, angle, least, largest, aspectRatio, edgeRatio, score, measures, degenerate, quality, acceptable}
+use Rattle.quality.specs.Measures.{radiusOf, angle, least, largest, aspectRatio, edgeRatio, score, measures, degenerate}
+use Rattle.triangle.specs.Quality.{area, circumradius, quality, acceptable}
 use Rattle.vector.specs.Vector.{difference, magnitudeSquared, magnitude, cross, squared, distance}
 use Rattle.points.specs.Points.{pointAt, upFrom}
 use Rattle.sorting.specs.Insertion.{insertBefore, place}

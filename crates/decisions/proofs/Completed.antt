@@ -8,12 +8,14 @@ use Rattle.numbers.specs.Rounded.{_⊗_}
 use Rattle.numbers.specs.Root.{root}
 use Rattle.vector.specs.Vector.{distance}
 use Rattle.triangle.specs.Quality.{area, acceptable}
-use Rattle.triangle.specs.Bound.{shapeOf, scoreBound, qualityOf}
-use Rattle.triangle.specs.declared.Shape.{Shape}
-use Rattle.triangle.specs.declared.TriangleQuality.{TriangleQuality}
+use Rattle.quality.specs.Shape.{shapeOf, qualityOf}
+use Rattle.score_bounds.specs.Bound.{scoreBound}
+use Rattle.quality.specs.declared.Shape.{Shape}
+use Rattle.quality.specs.declared.TriangleQuality.{TriangleQuality}
 use Rattle.vector.proofs.Distances.{distance-turned}
-use Rattle.triangle.proofs.Bounds.{shape-area, quality-area, quality-edges, quality-is}
-use Rattle.triangle.proofs.Aspect.{bound-low}
+use Rattle.quality.proofs.Shapes.{shape-area, quality-area, quality-edges}
+use Rattle.triangle.proofs.Quality.{quality-is}
+use Rattle.score_bounds.proofs.Aspect.{bound-low}
 use Rattle.points.specs.Points.{pointAt}
 use Rattle.decisions.specs.declared.Scene.{Scene}
 use Rattle.decisions.specs.Decisions.{reach, apart, qualityAt, isClose, accepts, completes}

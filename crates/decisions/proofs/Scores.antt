@@ -6,10 +6,11 @@ use lib.Dec.{T, not-T}
 use lib.Ieee.{Float, lt, le}
 use lib.Ieee.Bits.{is-true, is-false}
 use Rattle.numbers.proofs.OrderLaws.{le-left, le-refl, lt-le, lt-le-trans}
-use Rattle.triangle.specs.Bound.{shapeOf, scoreBound, qualityOf}
-use Rattle.triangle.specs.declared.Shape.{Shape}
-use Rattle.triangle.specs.declared.TriangleQuality.{TriangleQuality}
-use Rattle.triangle.proofs.Bounds.{score-bounded}
+use Rattle.quality.specs.Shape.{shapeOf, qualityOf}
+use Rattle.score_bounds.specs.Bound.{scoreBound}
+use Rattle.quality.specs.declared.Shape.{Shape}
+use Rattle.quality.specs.declared.TriangleQuality.{TriangleQuality}
+use Rattle.score_bounds.proofs.Bounds.{score-bounded}
 use Rattle.patch.proofs.Counts.{true-not-false}
 use Rattle.decisions.specs.declared.Scene.{Scene}
 use Rattle.decisions.specs.Decisions.{accepts}

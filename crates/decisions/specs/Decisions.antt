@@ -8,7 +8,7 @@ use Rattle.numbers.specs.Rounded.{f32, _⊕_, _⊗_}
 use Rattle.vector.specs.Vector.{distance}
 use Rattle.triangle.specs.Quality.{quality, acceptable}
 use Rattle.vector.specs.declared.Point3f.{Point3f}
-use Rattle.triangle.specs.declared.TriangleQuality.{TriangleQuality}
+use Rattle.quality.specs.declared.TriangleQuality.{TriangleQuality}
 use Rattle.points.specs.Points.{pointAt}
 use Rattle.grid.specs.Grid.{neighbors}
 use Rattle.patch.specs.Lay.{Edge}

@@ -6,9 +6,9 @@ use mathlib.Core.List.{List}
 use mathlib.Core.Option.{Option, none, some}
 use lib.Ieee.{Float, le}
 use Rattle.triangle.specs.Quality.{area}
-use Rattle.triangle.specs.Bound.{shapeOf, qualityOf}
-use Rattle.triangle.specs.declared.Shape.{Shape}
-use Rattle.triangle.specs.declared.TriangleQuality.{TriangleQuality}
+use Rattle.quality.specs.Shape.{shapeOf, qualityOf}
+use Rattle.quality.specs.declared.Shape.{Shape}
+use Rattle.quality.specs.declared.TriangleQuality.{TriangleQuality}
 use Rattle.points.specs.Points.{pointAt}
 use Rattle.decisions.specs.Decisions.{accepts}
 use Rattle.decisions.specs.declared.Scene.{Scene}

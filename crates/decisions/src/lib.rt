@@ -1,13 +1,13 @@
 // What the floats decide of points by their numbers: which are near enough to each other, which triangles are acceptable, and how good they are.
 use grid::SpatialGrid;
-use triangle::Shape;
-use triangle::TriangleQuality;
+use quality::Shape;
+use quality::TriangleQuality;
 use vector::Point3f;
 ghost use mathlib.Core.Path.{_≡_};
 ghost use mathlib.Core.Bool.{true};
 ghost use Prim.Native.Nat.{_*_, _<_, _+_};
 ghost use lib.ListN.{length};
-ghost use Rattle.triangle.specs.Bound.{qualityOf};
+ghost use Rattle.quality.specs.Shape.{qualityOf};
 ghost use Rattle.patch.specs.Lay.{edge};
 ghost use Rattle.decisions.specs.Decisions.{apart, isClose, qualityAt, accepts, completes, halfway, middle, pivotable};
 ghost use Rattle.decisions.specs.Found.{scoreFound, atLeast, areaAt, acceptedScore, ShapeRefused};
@@ -103,11 +103,11 @@ pub fn is_pivotable(points: &[f32], radius: f32, a: usize, b: usize) -> bool
 pub fn score_from(s: Scene, radius: f32, a: f32, b: f32, c: f32, area: f32, top: f32) -> Score
     ensures { λ r. ⌜ r ≡ scoreFound (atLeast top (acceptedScore s radius (qualityOf a b c area))) ⌝ }
 {
-    let shape = triangle::shape_of(a, b, c, area);
-    if triangle::score_bound(shape) < top {
+    let shape = quality::shape_of(a, b, c, area);
+    if score_bounds::score_bound(shape) < top {
         return Score::None;
     }
-    let q = triangle::quality_of(a, b, c, shape);
+    let q = quality::quality_of(a, b, c, shape);
     if !(q.quality_score >= top) {
         return Score::None;
     }
@@ -121,7 +121,7 @@ pub fn score_from(s: Scene, radius: f32, a: f32, b: f32, c: f32, area: f32, top:
 fn is_shape_refused(s: Scene, radius: f32, shape: Shape) -> bool
     ensures { λ r. ⌜ (r ≡ true → ShapeRefused s radius shape) ⌝ }
 {
-    if triangle::score_bound(shape) < s.quality_threshold {
+    if score_bounds::score_bound(shape) < s.quality_threshold {
         return true;
     }
     shape.edge_ratio * numbers::sqrt(shape.area) > radius * s.max_edge_factor
@@ -147,11 +147,11 @@ fn is_accepted_at(
         return false;
     }
     let side = apart_at(points, j, i);
-    let shape = triangle::shape_of(side, to_j, to_i, area);
+    let shape = quality::shape_of(side, to_j, to_i, area);
     if is_shape_refused(s, radius, shape) {
         return false;
     }
-    is_accepted(s, radius, triangle::quality_of(side, to_j, to_i, shape))
+    is_accepted(s, radius, quality::quality_of(side, to_j, to_i, shape))
 }
 
 // Whether k is near enough to i and j and makes an acceptable triangle with them.

@@ -13,8 +13,8 @@ ghost use Rattle.ball_pivoting.specs.Outcome.{Reconstructs};
 use ball_pivoting::Patch;
 use cloud::CloudRead;
 use estimate::Estimate;
+use quality::TriangleQuality;
 use settings::BallPivotingConfig;
-use triangle::TriangleQuality;
 
 #[no_mangle]
 pub extern "C" fn yb_sqrt(x: f32) -> f32

@@ -19,7 +19,8 @@ use Rattle.numbers.proofs.ProductOrder.{mul-monotone-finite, mul-monotone, mul-
 use Rattle.numbers.proofs.QuotientOrder.{div-number, div-monotone}
 use Rattle.numbers.proofs.Bounded.{mul-unsigned, mul-finite, root-finite}
 use Rattle.vector.specs.Vector.{difference, magnitudeSquared, magnitude, cross, squared, distance}
-use Rattle.triangle.specs.Quality.{half, tiny, area, radiusOf, circumradius}
+use Rattle.quality.specs.Measures.{half, tiny, radiusOf}
+use Rattle.triangle.specs.Quality.{area, circumradius}
 use Rattle.vector.specs.declared.Point3f.{Point3f}
 use Rattle.vector.proofs.Distances.{squared-fits, squared-nonnegative, distance-turned, magnitude-unsigned, magnitude-nonnegative}
 use Rattle.area_bounds.specs.AreaBound.{crossSquared}

@@ -3,7 +3,7 @@
 use lib.Dec.{T}
 use lib.Ieee.{Float, lt, le}
 use Rattle.numbers.specs.Rounded.{f32, _⊗_}
-use Rattle.triangle.specs.Quality.{half}
+use Rattle.quality.specs.Measures.{half}
 
 -- the square of the longest cross product that is too short, the next number, and the largest number
 abbrev pub thin : Float

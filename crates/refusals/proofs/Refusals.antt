@@ -11,15 +11,17 @@ use lib.Ieee.Scale.{finite}
 use Rattle.numbers.specs.Rounded.{f32, _⊗_}
 use Rattle.numbers.specs.Root.{root}
 use Rattle.vector.specs.Vector.{difference, magnitude, squared, distance}
-use Rattle.triangle.specs.Quality.{half, tiny, area, degenerate, quality}
-use Rattle.triangle.specs.Bound.{shapeOf, AspectLimit}
+use Rattle.quality.specs.Measures.{half, tiny, degenerate}
+use Rattle.triangle.specs.Quality.{area, quality}
+use Rattle.quality.specs.Shape.{shapeOf}
+use Rattle.score_bounds.specs.Bound.{AspectLimit}
 use Rattle.area_bounds.specs.AreaBound.{crossSquared, areaBound}
 use Rattle.vector.specs.declared.Point3f.{Point3f}
 use Rattle.vector.proofs.Distances.{FinitePoint, squared-fits, squared-turned, distance-is, distance-turned}
 use Rattle.area_bounds.proofs.AreaBound.{Bounds, Unsigned, area-bounded, area-limited, area-too-long, cross-squared-turned}
 use Rattle.area_bounds.proofs.Refused.{small-refused, large-refused, long-refused, near-finite, area-number}
-use Rattle.triangle.proofs.Bounds.{quality-is}
-use Rattle.triangle.proofs.Aspect.{aspect-low}
+use Rattle.triangle.proofs.Quality.{quality-is}
+use Rattle.score_bounds.proofs.Aspect.{aspect-low}
 use Rattle.thin.specs.Thin.{ThinLimit, AllThin}
 use Rattle.points.specs.Points.{pointAt}
 use Rattle.decisions.specs.declared.Scene.{Scene}

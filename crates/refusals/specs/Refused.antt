@@ -5,7 +5,7 @@ use lib.Dec.{T}
 use lib.Ieee.{Float, inf, lt, le}
 use Rattle.vector.specs.Vector.{squared}
 use Rattle.triangle.specs.Quality.{area, quality}
-use Rattle.triangle.specs.Bound.{AspectLimit}
+use Rattle.score_bounds.specs.Bound.{AspectLimit}
 use Rattle.vector.specs.declared.Point3f.{Point3f}
 use Rattle.area_bounds.specs.AreaBound.{crossSquared, AreaLimit, TooLong, LargeLimit}
 use Rattle.thin.specs.Thin.{ThinLimit, AllThin}

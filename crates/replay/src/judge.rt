@@ -3,7 +3,7 @@ use super::bits;
 use super::estimates;
 use super::patches;
 ghost use Prim.Native.Nat.{_<_};
-use triangle::TriangleQuality;
+use quality::TriangleQuality;
 use vector::Point3f;
 
 pub enum Verdict {

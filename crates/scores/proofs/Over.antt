@@ -16,10 +16,11 @@ use Rattle.vector.proofs.Distances.{squared-fits}
 use Rattle.area_bounds.specs.AreaBound.{crossSquared}
 use Rattle.thin.specs.Thin.{AllThin}
 use Rattle.spatial_hash.specs.Near.{Limit}
-use Rattle.triangle.specs.Quality.{half, area}
-use Rattle.triangle.specs.Bound.{shapeOf, qualityOf}
-use Rattle.triangle.proofs.Bounds.{quality-turned}
-use Rattle.triangle.proofs.Aspect.{aspect-low}
+use Rattle.quality.specs.Measures.{half}
+use Rattle.triangle.specs.Quality.{area}
+use Rattle.quality.specs.Shape.{shapeOf, qualityOf}
+use Rattle.triangle.proofs.Quality.{quality-turned}
+use Rattle.score_bounds.proofs.Aspect.{aspect-low}
 use Rattle.points.specs.Points.{pointAt}
 use Rattle.patch.specs.Lay.{edge}
 use Rattle.decisions.specs.declared.Scene.{Scene}

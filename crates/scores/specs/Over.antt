@@ -6,7 +6,8 @@ use Rattle.numbers.specs.Root.{root}
 use Rattle.vector.specs.Vector.{squared, distance}
 use Rattle.vector.specs.declared.Point3f.{Point3f}
 use Rattle.triangle.specs.Quality.{area}
-use Rattle.triangle.specs.Bound.{qualityOf, AspectLimit}
+use Rattle.quality.specs.Shape.{qualityOf}
+use Rattle.score_bounds.specs.Bound.{AspectLimit}
 use Rattle.thin.specs.Thin.{ThinLimit}
 use Rattle.decisions.specs.Decisions.{accepts}
 use Rattle.decisions.specs.declared.Scene.{Scene}

@@ -5,7 +5,7 @@ use vector::Point3f;
 ghost use mathlib.Core.Path.{_≡_};
 ghost use Rattle.numbers.specs.Rounded.{_⊗_};
 ghost use Rattle.numbers.specs.Root.{root};
-ghost use Rattle.triangle.specs.Quality.{half};
+ghost use Rattle.quality.specs.Measures.{half};
 ghost use Rattle.spatial_hash.specs.Near.{Limit};
 ghost use Rattle.decisions.specs.Found.{scoreFound, atLeast};
 ghost use Rattle.scores.specs.Over.{sideOf, scoreNear, scoreOver, Thinned};
@@ -35,7 +35,7 @@ pub fn side_of(p: Point3f, q: Point3f) -> Side
 pub fn thin_at(score: f32) -> f32
     ensures { λ t. ⌜ Thinned score t ⌝ }
 {
-    thin::thin_limit(triangle::aspect_limit(score))
+    thin::thin_limit(score_bounds::aspect_limit(score))
 }
 
 // The score of a triangle, from the length of an edge, the squares of the other two and that of twice the area.

@@ -12,8 +12,8 @@ use Rattle.numbers.specs.Rounded.{f32, _⊕_, _⊗_, _⊘_}
 use Rattle.numbers.specs.Root.{root}
 use Rattle.numbers.proofs.OrderLaws.{plus, minus, le-trans}
 use Rattle.numbers.proofs.RoundedOrder.{Rounds, above, rounds-le, rounds-own}
-use Rattle.triangle.specs.Quality.{half, tiny, radiusOf, aspectRatio}
-use Rattle.triangle.specs.Bound.{shape, flat, shapeOf}
+use Rattle.quality.specs.Measures.{half, tiny, radiusOf, aspectRatio}
+use Rattle.quality.specs.Shape.{shape, flat, shapeOf}
 use Rattle.thin.specs.Thin.{Quartered}
 use Rattle.thin.proofs.Near.{Near, near-le, near-eq, near-trans, near-add, near-self, near-times, near-cancel}
 use Rattle.thin.proofs.Rounding.{Units, units-pos, units-positive}

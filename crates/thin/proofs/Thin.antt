@@ -15,7 +15,7 @@ use lib.Ieee.Positive.{num, den, value→cross}
 use Rattle.numbers.specs.Rounded.{f32, _⊗_}
 use Rattle.numbers.specs.Root.{root}
 use Rattle.numbers.proofs.OrderLaws.{le-left, lt-le, le-or-lt, le-not-lt, not-lt-le, le-trans, unsigned-le}
-use Rattle.triangle.specs.Quality.{half, one, tiny}
+use Rattle.quality.specs.Measures.{half, one, tiny}
 use Rattle.area_bounds.specs.AreaBound.{AreaLimit}
 use Rattle.area_bounds.proofs.AreaBound as area
 use Rattle.thin.specs.Thin.{between, isPlain, spread, Quartered, ThinLimit, Thin, AllThin, ThinUpTo}

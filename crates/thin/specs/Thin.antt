@@ -7,8 +7,8 @@ use lib.Ieee.Positive.{num, den}
 use Rattle.numbers.specs.Rounded.{f32, _⊕_, _⊗_}
 use Rattle.numbers.specs.Root.{root}
 use Rattle.numbers.specs.Order.{minimum}
-use Rattle.triangle.specs.Quality.{half}
-use Rattle.triangle.specs.Bound.{shapeOf}
+use Rattle.quality.specs.Measures.{half}
+use Rattle.quality.specs.Shape.{shapeOf}
 
 unfoldable pub between : Float → Float → Float → Bool
 between x lo hi = le lo x && le x hi

@@ -8,9 +8,10 @@ use Rattle.numbers.specs.Root.{root}
 use Rattle.numbers.specs.Order.{minimum, maximum, clamp}
 use Rattle.numbers.specs.Acos.{R, abs, cleared, acosMiddle, acosLow, acosHigh, acosInside, acos}
 use Rattle.vector.specs.Vector.{point, difference, magnitudeSquared, magnitude, cross, squared, distance}
-use Rattle.triangle.specs.Quality.{area, radiusOf, circumradius, angle, least, largest, aspectRatio, edgeRatio, score, measures, degenerate, quality}
+use Rattle.quality.specs.Measures.{radiusOf, angle, least, largest, aspectRatio, edgeRatio, score, measures, degenerate}
+use Rattle.triangle.specs.Quality.{area, circumradius, quality}
 use Rattle.vector.specs.declared.Point3f.{Point3f}
-use Rattle.triangle.specs.declared.TriangleQuality.{TriangleQuality}
+use Rattle.quality.specs.declared.TriangleQuality.{TriangleQuality}
 
 -- a point of the plane, by its bits
 abbrev flat : ℕ → ℕ → Point3f

@@ -1,4 +1,3 @@
 -- Laws of the definitions, and what they give at outside values.
-pub mod Bounds
+pub mod Quality
 pub mod Examples
-pub mod Aspect

@@ -1,3 +1,2 @@
--- What the crate's contracts cite, leaves first.
+-- What the crate's contracts cite.
 pub mod Quality
-pub mod Bound

@@ -6,7 +6,7 @@ const HEADER: &str = include_str!("../../../c/yarrowbleat.h");
 const SYS: &str = include_str!("../src/sys.rs");
 const EXPORTS: &str = include_str!("../../../crates/exports/src/lib.rt");
 const STRUCTS: [(&str, &str); 5] = [
-    ("TriangleQuality", include_str!("../../../crates/triangle/src/lib.rt")),
+    ("TriangleQuality", include_str!("../../../crates/quality/src/lib.rt")),
     ("Estimate", include_str!("../../../crates/estimate/src/lib.rt")),
     ("BallPivotingConfig", include_str!("../../../crates/settings/src/lib.rt")),
     ("Patch", include_str!("../../../crates/ball_pivoting/src/lib.rt")),

@@ -4,7 +4,7 @@ use lib.Dec.{T}
 use lib.Ieee.{le}
 use borrow.Author.Needs.{needs}
 use borrow.Author.Tests.{not-false}
-use Rattle.triangle.specs.Quality.{tiny}
+use Rattle.quality.specs.Measures.{tiny}
 use Rattle.area_bounds.proofs.Refused.{too-long-is}
 use Rattle.area_bounds.proofs.is_too_long.Statement.{statement}
 use Rattle.area_bounds.proofs.is_too_long.Tie as tie

@@ -5,7 +5,7 @@ use lib.Ieee.{Float, binary32}
 use lib.Ieee.Fits.{add-fits}
 use borrow.Author.Needs.{needs}
 use Rattle.numbers.specs.Rounded.{_⊗_}
-use Rattle.triangle.specs.Quality.{half}
+use Rattle.quality.specs.Measures.{half}
 use Rattle.area_bounds.specs.AreaBound.{TooLong}
 use Rattle.numbers.proofs.Compare.{infinite}
 use Rattle.numbers.proofs.RootSpecial.{no-number}

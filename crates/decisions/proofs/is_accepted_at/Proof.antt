@@ -1,5 +1,5 @@
 -- `is_accepted_at` meets its contract: the lengths and the area, each worked out once, are those of the quality. Assumes nothing.
-use Rattle.triangle.proofs.Bounds.{shape-own, quality-own}
+use Rattle.quality.proofs.Shapes.{shape-own, quality-own}
 use Rattle.decisions.proofs.Completed.{accepted-small, accepted-shape, accepted-at}
 use borrow.Author.Needs.{needs}
 use Rattle.decisions.proofs.is_accepted_at.Statement.{statement}

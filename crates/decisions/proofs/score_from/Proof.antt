@@ -2,7 +2,7 @@
 use mathlib.Core.Path.{sym, ap, _∙_}
 use lib.Ieee.{le}
 use borrow.Author.Tests.{not-true, not-false}
-use Rattle.triangle.proofs.Bounds.{shape-own, quality-own}
+use Rattle.quality.proofs.Shapes.{shape-own, quality-own}
 use Rattle.decisions.specs.Found.{scoreFound}
 use Rattle.decisions.proofs.Scores.{score-bound, score-low, score-refused, score-kept}
 use borrow.Author.Needs.{needs}

@@ -4,7 +4,7 @@ use borrow.Author.Needs.{needs}
 use borrow.Author.Tests.{not-true, not-false}
 use Rattle.numbers.specs.Rounded.{_⊗_}
 use Rattle.numbers.specs.Root.{root}
-use Rattle.triangle.specs.Quality.{half}
+use Rattle.quality.specs.Measures.{half}
 use Rattle.scores.proofs.Over.{score-far, score-far-too, score-near}
 use Rattle.scores.proofs.score_near.Statement.{statement}
 use Rattle.scores.proofs.score_near.Tie as tie

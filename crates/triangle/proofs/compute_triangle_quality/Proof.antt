@@ -1,7 +1,8 @@
 -- `compute_triangle_quality` meets its contract: the lengths and the area, worked out once, are those of the circumradius too.
 use mathlib.Core.Path.{ap}
-use Rattle.triangle.specs.declared.Shape.{Shape}
-use Rattle.triangle.proofs.Bounds.{shape-area, shape-own, quality-is}
+use Rattle.quality.specs.declared.Shape.{Shape}
+use Rattle.quality.proofs.Shapes.{shape-area, shape-own}
+use Rattle.triangle.proofs.Quality.{quality-is}
 use borrow.Author.Needs.{needs}
 use Rattle.triangle.proofs.compute_triangle_quality.Statement.{statement}
 use Rattle.triangle.proofs.compute_triangle_quality.Tie as tie

@@ -1,0 +1,3 @@
+-- Laws of the bounds, leaves first.
+pub mod Bounds
+pub mod Aspect
