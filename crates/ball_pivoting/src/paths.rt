@@ -30,7 +30,7 @@ fn index_points(points: &[f32], settings: BallPivotingConfig, words: &mut [u32])
     let indexed = settings.use_spatial_index;
     let size = settings.radius * settings.spatial_cell_factor;
     let grid = grid::build_spatial_grid(points, n, size, words);
-    let hash = spatial_hash::build(points, n, settings.radius, words);
+    let hash = spatial_hash::build(points, n, settings.radius * 1.2, words);
     let scene = Scene {
         n: n,
         indexed: indexed,

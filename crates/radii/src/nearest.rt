@@ -242,10 +242,14 @@ pub fn find_nearest(
     kept
 }
 
-// A guess for the next sample: a little more than the tenth distance of the last one that had ten.
+// A guess for the next sample: a little more than the tenth distance of the last one that had ten. It grows slowly, since a look too wide costs more than one too narrow.
 pub fn guess_after(f: &[f32], n: usize, guess: f32) -> f32
     requires { ⌜ (n ≤ 4096) × (n + 10 ≤ length (now f)) ⌝ }
 {
-    let tenth = f[n + 9];
-    if tenth > 0.0 { tenth * 1.25 } else { guess }
+    let next = f[n + 9] * 1.25;
+    let most = guess * 1.2;
+    if next > most {
+        return most;
+    }
+    if next > 0.0 { next } else { guess }
 }
