@@ -29,13 +29,17 @@ frontierAt n = 6 * n
 abbrev pub frontierEnd : ℕ → ℕ
 frontierEnd n = 9 * n
 
--- the spatial hash: of each point the next one in its bucket
+-- the spatial hash: of each point the next one in its bucket while the hash is built, and whether it was taken out
 abbrev pub linksAt : ℕ → ℕ
 linksAt n = 9 * n
 
--- of each bucket its first point
-abbrev pub headsAt : ℕ → ℕ
-headsAt n = 10 * n
+-- of each bucket its first point while the hash is built, and where its points start in the order
+abbrev pub startsAt : ℕ → ℕ
+startsAt n = 10 * n
+
+-- the points in the order of their buckets
+abbrev pub orderAt : ℕ → ℕ
+orderAt n = 16 * n + 64
 
 abbrev pub words : ℕ → List Region
 words n =
@@ -44,7 +48,8 @@ words n =
     ∷ record { start = usedAt n; size = n }
     ∷ record { start = frontierAt n; size = 3 * n }
     ∷ record { start = linksAt n; size = n }
-    ∷ record { start = headsAt n; size = 4 * n + 64 }
+    ∷ record { start = startsAt n; size = 6 * n + 64 }
+    ∷ record { start = orderAt n; size = n }
     ∷ []
 
 -- ---- the f32 slice

@@ -11,7 +11,7 @@ use Rattle.spatial_hash.specs.Buckets.{linksOf, Appended}
 use Rattle.spatial_hash.specs.Near.{Room}
 use Rattle.spatial_hash.proofs.Kept.{links-behind, linked-behind}
 
-appended-none : (n : ℕ) (w : List ℕ) (at : ℕ) → Appended n w w at at []
+pub appended-none : (n : ℕ) (w : List ℕ) (at : ℕ) → Appended n w w at at []
 appended-none n w at = record { total = omega arith; appended = sym (append-nil (take at (drop (4 * n) w))); before = refl; after = refl; length-same = refl }
 
 pub appended-one : (n : ℕ) (w : List ℕ) (at j : ℕ) → at < n → 24 * n + 64 ≤ length w → Appended n w (set w (4 * n + at) j) at (at + 1) (j ∷ [])
@@ -26,7 +26,7 @@ appended-one n w at j h long =
       length-same = length-set w (4 * n + at) j;
     }
 
-appended-both : {n : ℕ} {w u v : List ℕ} {at r s : ℕ} {js ks : List ℕ} → Appended n w u at r js → Appended n u v r s ks → Appended n w v at s (js ++ ks)
+pub appended-both : {n : ℕ} {w u v : List ℕ} {at r s : ℕ} {js ks : List ℕ} → Appended n w u at r js → Appended n u v r s ks → Appended n w v at s (js ++ ks)
 appended-both {n} {w} {u} {v} {at} {r} {s} {js} {ks} a b =
     let l = length-append js ks in
     let p = a .total in

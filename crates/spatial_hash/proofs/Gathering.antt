@@ -19,7 +19,7 @@ use Rattle.patch.proofs.Counts.{either, pigeons, and-both}
 use Rattle.spatial_hash.specs.declared.Bounds.{Bounds}
 use Rattle.spatial_hash.specs.declared.Hash.{Hash}
 use Rattle.spatial_hash.specs.declared.Span.{Span}
-use Rattle.spatial_hash.specs.Buckets.{slot, bucketOf, buckets, linksOf, isOut, bucketIn, spanned, Spanning, rows, boxOf, pointsIn, Appended}
+use Rattle.spatial_hash.specs.Buckets.{slot, rowFor, placeFor, bucketOf, buckets, linksOf, isOut, bucketIn, spanned, Spanning, rows, boxOf, pointsIn, Appended}
 use Rattle.spatial_hash.specs.Cover.{between}
 use Rattle.spatial_hash.specs.Near.{within, Gathers, Gathered, Linked, Room, Finite}
 use Rattle.spatial_hash.proofs.Inside.{bucket-in, bucket-out}
@@ -58,9 +58,9 @@ module _ (h : Hash) (pts : List Float) (n : ℕ) (w : List ℕ) (b : Bounds) (xs
   -- ---- all three
 
   visited : (p : Point3f) → count (eqb (bucketOf h p)) (boxOf (h .side) xs ys zs) ≡ met (h .least .x) (p .x) xs * met (h .least .y) (p .y) ys * met (h .least .z) (p .z) zs
-  unfolding met bucketOf
+  unfolding met bucketOf rowFor placeFor
   visited p =
-      rows-count (h .side) _ _ (mod-lt _ (s .sound .some)) (rows (h .side) (spanned (h .side) xs) (spanned (h .side) ys)) (spanned (h .side) zs) (below _ _ _ zs on-z)
+      rows-count (h .side + 1) _ _ (let l = mod-lt (slot (h .scale) (h .least .z) (p .z)) (s .sound .some) in omega arith) (rows (h .side) (spanned (h .side) xs) (spanned (h .side) ys)) (spanned (h .side) zs) (λ x l. let o = below _ _ _ zs on-z x l in omega arith)
       ∙ ap (λ (k : ℕ). k * met (h .least .z) (p .z) zs) (rows-count (h .side) _ _ (mod-lt _ (s .sound .some)) (spanned (h .side) xs) (spanned (h .side) ys) (below _ _ _ ys on-y))
 
   visited-once : (p : Point3f) → count (eqb (bucketOf h p)) (boxOf (h .side) xs ys zs) ≤ 1
@@ -88,15 +88,15 @@ module _ (h : Hash) (pts : List Float) (n : ℕ) (w : List ℕ) (b : Bounds) (xs
       let b = below _ _ _ xs on-x m in
       let z : count (eqb m) (spanned m xs) ≡ 0 = elim (decLt 0 (count (eqb m) (spanned m xs))) [ yes k ↦ absurd (omega (arith, b k)) | no k ↦ omega arith ] in
       let p : m * m ≡ m * m + 0 = omega arith in
-      let q : m * m * m ≡ m * m * m + 0 = omega arith in
+      let q : m * m * (m + 1) ≡ m * m * (m + 1) + 0 = omega arith in
       let pairs : count (eqb (m * m)) (rows m (spanned m xs) (spanned m ys)) ≡ 0 * count (eqb 0) (spanned m ys) =
       ap (λ (c : ℕ). count (eqb c) (rows m (spanned m xs) (spanned m ys))) p
       ∙ rows-count m m 0 (s .sound .some) (spanned m xs) (spanned m ys) (below _ _ _ ys on-y)
       ∙ ap (λ (c : ℕ). c * count (eqb 0) (spanned m ys)) z in
       let none : count (eqb (m * m)) (rows m (spanned m xs) (spanned m ys)) ≡ 0 = omega arith in
-      let all : count (eqb (m * m * m)) (boxOf m xs ys zs) ≡ 0 * count (eqb 0) (spanned m zs) =
+      let all : count (eqb (m * m * (m + 1))) (boxOf m xs ys zs) ≡ 0 * count (eqb 0) (spanned m zs) =
       ap (λ (c : ℕ). count (eqb c) (boxOf m xs ys zs)) q
-      ∙ rows-count m (m * m) 0 (s .sound .some) (rows m (spanned m xs) (spanned m ys)) (spanned m zs) (below _ _ _ zs on-z)
+      ∙ rows-count (m + 1) (m * m) 0 (omega arith) (rows m (spanned m xs) (spanned m ys)) (spanned m zs) (λ x l. let o = below _ _ _ zs on-z x l in omega arith)
       ∙ ap (λ (c : ℕ). c * count (eqb 0) (spanned m zs)) none in
       omega arith
 

@@ -14,12 +14,14 @@ use lib.Ieee.{Float}
 use Rattle.vector.specs.declared.Point3f.{Point3f}
 use Rattle.patch.proofs.Counts.{either}
 use Rattle.spatial_hash.specs.declared.Hash.{Hash}
-use Rattle.spatial_hash.specs.Buckets.{bucketOf, bucketAt, buckets, linksOf, isOut, bucketIn, Chained}
-use Rattle.spatial_hash.specs.Near.{Empty, Ready, Sound, HashedAll}
+use Rattle.spatial_hash.specs.Buckets.{rowFor, placeFor, bucketOf, bucketAt, buckets, linksOf, isOut, bucketIn, Chained}
+use Rattle.spatial_hash.specs.Order.{Laid}
+use Rattle.spatial_hash.specs.Near.{Empty, Ready, Sound, Heading, HashedAll}
 use Rattle.spatial_hash.proofs.Sizes.{joined-below}
 use Rattle.spatial_hash.proofs.Chains.{last-le, chained-start, chained-step}
 use Rattle.spatial_hash.proofs.Inside.{link-in, bucket-in}
-use Rattle.spatial_hash.proofs.Unlinking.{chained-same}
+use Rattle.spatial_hash.proofs.Ordering.{in-front}
+use Rattle.spatial_hash.proofs.Kept.{ready-same, laid-same}
 
 -- the heads below b are empty, and what lies before the links is as it was
 pub record Cleared (w₀ : List ℕ) (n : ℕ) (w : List ℕ) (b : ℕ) : Type 0 where
@@ -37,9 +39,17 @@ cleared-step w₀ w n b h s = record {
   length-same = length-set w (10 * n + b) 0 ∙ s .length-same;
 }
 
+pub row-below : (h : Hash) (p : Point3f) → 0 < h .side → rowFor h p < h .side * h .side
+unfolding rowFor
+row-below h p l = joined-below (h .side) (h .side) _ _ (mod-lt _ l) (mod-lt _ l)
+
+pub place-below : (h : Hash) (p : Point3f) → 0 < h .side → placeFor h p < h .side
+unfolding placeFor
+place-below h p l = mod-lt _ l
+
 pub bucket-below : (h : Hash) (p : Point3f) → 0 < h .side → bucketOf h p < buckets h
 unfolding bucketOf
-bucket-below h p l = joined-below (h .side * h .side) (h .side) _ _ (joined-below (h .side) (h .side) _ _ (mod-lt _ l) (mod-lt _ l)) (mod-lt _ l)
+bucket-below h p l = let k = place-below h p l in joined-below (h .side * h .side) (h .side + 1) (rowFor h p) (placeFor h p) (row-below h p l) (omega arith)
 
 -- the first j points are chained, and what lies before the links is as it was
 pub record Linking (h : Hash) (pts : List Float) (n : ℕ) (w₀ w : List ℕ) (j : ℕ) : Type 0 where
@@ -69,12 +79,18 @@ linking-step h pts n w₀ w u j b e l q s i =
 pub linking-end : (h : Hash) (pts : List Float) (n : ℕ) (w₀ w : List ℕ) (j : ℕ) → n ≤ j → Linking h pts n w₀ w j → Chained (bucketAt h pts) n (buckets h) w n
 linking-end h pts n w₀ w j l s = let e : j ≡ n = let m = s .most in omega arith in subst (Chained (bucketAt h pts) n (buckets h) w) e (s .chained)
 
--- where all points are chained nobody is out
-pub hashed-all : (h : Hash) (pts : List Float) (n : ℕ) (w : List ℕ) → Ready pts n w → Sound h n → Chained (bucketAt h pts) n (buckets h) w n → HashedAll h pts n w
-hashed-all h pts n w r s c = record {
-  linked = record { ready = r; sound = s; chained = chained-same (bucketAt h pts) (bucketIn h pts n (linksOf n w)) n (buckets h) w (λ i l. bucket-in h pts n (linksOf n w) i (inside i l)) c };
+-- where all points are chained and put into the order nobody is out: w before that, u after
+pub hashed-all : (h : Hash) (pts : List Float) (n : ℕ) (w u : List ℕ) → Heading h pts n w → length u ≡ length w → take (10 * n) u ≡ take (10 * n) w → Laid (bucketAt h pts) n (h .side) u → HashedAll h pts n u
+hashed-all h pts n w u c l same s = record {
+  linked = record {
+    ready = ready-same pts n w u l (c .ready);
+    sound = c .sound;
+    laid = laid-same (bucketAt h pts) (bucketIn h pts n (linksOf n u)) n (h .side) u u (λ i k. refl) (λ i k. bucket-in h pts n (linksOf n u) i (inside i k)) s;
+  };
   all-in = inside;
 }
   where
-    inside : (j : ℕ) → j < n → isOut n (linksOf n w) j ≡ false
-    inside j l = link-in n j w (omega (arith, c .links j l (bucket-below h _ (s .some)), last-le (bucketAt h pts) (bucketAt h pts j) j))
+    inside : (j : ℕ) → j < n → isOut n (linksOf n u) j ≡ false
+    inside j k =
+        link-in n j u
+        (omega (arith, in-front (10 * n) w u same (9 * n + j) (omega arith), c .chained .links j k (bucket-below h _ (c .sound .some)), last-le (bucketAt h pts) (bucketAt h pts j) j))

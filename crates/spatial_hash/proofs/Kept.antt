@@ -1,21 +1,25 @@
--- A hash lasts as long as its own words do: those from `linksAt` on, 5n + 64 of them. Assumes nothing.
+-- A hash lasts as long as its own words do: those from `linksAt` on. Assumes nothing.
 use mathlib.Core.Path.{_≡_, sym, ap, _∙_, subst}
 use mathlib.Core.Bool.{true}
 use mathlib.Core.List.{List}
 use Prim.Native.Nat.{ℕ, _+_, _-_, _*_, _≤_, _<_}
 use native.Mathlib.Omega.{arith}
+use lib.Dec.{eqb}
 use lib.ListN.{length, take, drop, getD}
 use lib.Seq.{getD-drop, drop-drop}
 use lib.Ieee.{Float}
 use Rattle.spatial_hash.specs.declared.Hash.{Hash}
 use Rattle.patch.specs.Search.{unused}
-use Rattle.spatial_hash.specs.Buckets.{bucketIn, buckets, linksOf, isOut, Chained}
+use Rattle.spatial_hash.specs.Buckets.{bucketIn, linksOf, isOut}
+use Rattle.spatial_hash.specs.Order.{reads, startOf, partOf, Laid}
 use Rattle.spatial_hash.specs.Near.{Ready, Linked, Hashed, HashedAll}
+use Rattle.spatial_hash.proofs.Chains.{chain-same}
+use Rattle.spatial_hash.proofs.Words.{reads-same}
 
 pub ready-same : (pts : List Float) (n : ℕ) (w u : List ℕ) → length u ≡ length w → Ready pts n w → Ready pts n u
 ready-same pts n w u l s = record { few = s .few; points-long = s .points-long; work-long = let o = s .work-long in omega arith; numbers = s .numbers }
 
-behind : (a k : ℕ) (w u : List ℕ) → drop a u ≡ drop a w → a ≤ k → getD u k 0 ≡ getD w k 0
+pub behind : (a k : ℕ) (w u : List ℕ) → drop a u ≡ drop a w → a ≤ k → getD u k 0 ≡ getD w k 0
 behind a k w u e h =
     let s : a + (k - a) ≡ k = omega arith in
     ap (λ (i : ℕ). getD u i 0) (sym s)
@@ -34,9 +38,29 @@ drop-behind a c w u h e =
     ∙ drop-drop (c - a) a w
     ∙ ap (λ (i : ℕ). drop i w) s
 
--- the links are written otherwise
-pub chained-as : (h : Hash) (pts : List Float) (n : ℕ) (w ls ks : List ℕ) → ls ≡ ks → Chained (bucketIn h pts n ls) n (buckets h) w n → Chained (bucketIn h pts n ks) n (buckets h) w n
-chained-as h pts n w ls ks e c = subst (λ (l : List ℕ). Chained (bucketIn h pts n l) n (buckets h) w n) e c
+-- a bucket's points are the same where its words and theirs are
+pub part-same : (n b : ℕ) (w u : List ℕ) → startOf n u b ≡ startOf n w b → startOf n u (b + 1) ≡ startOf n w (b + 1)
+    → ((i : ℕ) → startOf n w b ≤ i → i < startOf n w (b + 1) → getD u (16 * n + 64 + i) 0 ≡ getD w (16 * n + 64 + i) 0) → partOf n u b ≡ partOf n w b
+part-same n b w u e f same =
+    ap (λ (x : ℕ). reads u (16 * n + 64 + x) (startOf n u (b + 1) - x)) e
+    ∙ ap (λ (y : ℕ). reads u (16 * n + 64 + startOf n w b) (y - startOf n w b)) f
+    ∙ reads-same u w (16 * n + 64 + startOf n w b) (16 * n + 64 + startOf n w b) (startOf n w (b + 1) - startOf n w b) (λ i l. moved i l)
+  where
+    moved : (i : ℕ) → i < startOf n w (b + 1) - startOf n w b → getD u (16 * n + 64 + startOf n w b + i) 0 ≡ getD w (16 * n + 64 + startOf n w b + i) 0
+    moved i l =
+        let q : 16 * n + 64 + startOf n w b + i ≡ 16 * n + 64 + (startOf n w b + i) = omega arith in
+        ap (λ (x : ℕ). getD u x 0) q ∙ same (startOf n w b + i) (omega arith) (omega arith) ∙ ap (λ (x : ℕ). getD w x 0) (sym q)
+
+-- the same words from `startsAt` on, and each point in the same bucket
+pub laid-same : (f g : ℕ → ℕ) (n m : ℕ) (w u : List ℕ) → ((i : ℕ) → 10 * n ≤ i → getD u i 0 ≡ getD w i 0) → ((i : ℕ) → i < n → g i ≡ f i) → Laid f n m w → Laid g n m u
+laid-same f g n m w u same agree s = record {
+  rising = λ b l. omega (arith, same (10 * n + b) (omega arith), same (10 * n + (b + 1)) (omega arith), s .rising b l);
+  few = λ b l. omega (arith, same (10 * n + b) (omega arith), s .few b l);
+  parts = λ p z l k.
+      part-same n (p * (m + 1) + z) w u (same _ (omega arith)) (same _ (omega arith)) (λ i x y. same _ (omega arith))
+      ∙ s .parts p z l k
+      ∙ sym (chain-same f g (p * (m + 1) + z) n (λ i q. ap (λ (x : ℕ). eqb x (p * (m + 1) + z)) (agree i q)));
+}
 
 -- only words before a were changed
 module _ (h : Hash) (pts : List Float) (n a : ℕ) (w u : List ℕ) (q : a ≤ 9 * n) (e : drop a u ≡ drop a w) (l : length u ≡ length w) where
@@ -47,10 +71,7 @@ module _ (h : Hash) (pts : List Float) (n a : ℕ) (w u : List ℕ) (q : a ≤ 9
   linked-behind s = record {
     ready = ready-same pts n w u l (s .ready);
     sound = s .sound;
-    chained = chained-as h pts n u (linksOf n w) (linksOf n u) (sym links-behind) (record {
-      heads = λ b k. behind a (10 * n + b) w u e (omega arith) ∙ s .chained .heads b k;
-      links = λ i k small. behind a (9 * n + i) w u e (omega arith) ∙ s .chained .links i k small;
-    });
+    laid = laid-same (bucketIn h pts n (linksOf n w)) (bucketIn h pts n (linksOf n u)) n (h .side) w u (λ i k. behind a i w u e (omega arith)) (λ i k. ap (λ (ls : List ℕ). bucketIn h pts n ls i) links-behind) (s .laid);
   }
 
   pub hashed-all-behind : HashedAll h pts n w → HashedAll h pts n u

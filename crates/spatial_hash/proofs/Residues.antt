@@ -1,6 +1,6 @@
 -- Laws of the remainders that a walk visits: none twice, and each number's own where the span has the number. Two in one number can be told apart. Assumes nothing.
 use mathlib.Core.Path.{_≡_, refl, sym, ap, _∙_, subst}
-use mathlib.Core.Logic.{_⊎_, inl, inr, ⊎-elim}
+use mathlib.Core.Logic.{_≢_, _⊎_, inl, inr, ⊎-elim}
 use mathlib.Core.Bool.{true, false}
 use mathlib.Core.List.{List, [], _∷_, _++_, append-assoc}
 use Prim.Native.Nat.{ℕ, zero, suc, _+_, _-_, _*_, _%_, _≤_, _<_}
@@ -152,6 +152,19 @@ row-own m p q h (q' ∷ qs) b =
 
 differ : (m p q p' q' : ℕ) → q < m → q' < m → p < p' → p * m + q ≡ p' * m + q' → ⊥
 differ m p q p' q' h k l e = let s : suc p * m ≤ p' * m = mul-le-mul-right m l in omega arith
+
+-- numbers with different remainders are different
+pub joined-apart : (m p q p' q' : ℕ) → q < m → q' < m → q ≢ q' → p * m + q ≡ p' * m + q' → ⊥
+joined-apart m p q p' q' h k d e = elim (decLt p p') [
+  | yes l ↦ differ m p q p' q' h k l e
+  | no l ↦ elim (decLt p' p) [
+    | yes r ↦ differ m p' q' p q k h r (sym e)
+    | no r ↦
+        let z : p ≡ p' = omega arith in
+        let x = ap (λ (i : ℕ). i * m) z in
+        d (omega arith)
+  ]
+]
 
 row-other : (m p q p' : ℕ) → q < m → (p ≡ p' → ⊥) → (qs : List ℕ) → Below m qs → count (eqb (p * m + q)) (row m p' qs) ≡ 0
 unfolding row

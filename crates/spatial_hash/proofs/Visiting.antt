@@ -5,21 +5,18 @@ use Prim.Native.Nat.{ℕ, _+_, _-_, _*_, _≤_, _<_}
 use native.Mathlib.Omega.{arith}
 use lib.Ieee.{Float}
 use Rattle.spatial_hash.specs.declared.Hash.{Hash}
-use Rattle.spatial_hash.specs.Buckets.{bucketIn, linksOf, chain, next, residues, row, rows, listed, pointsIn, Appended}
+use Rattle.spatial_hash.specs.Buckets.{bucketIn, linksOf, next, residues, row, rows, listed, pointsIn, Appended}
 use Rattle.spatial_hash.specs.Near.{Room}
 use Rattle.spatial_hash.proofs.Chains.{listed-append}
 use Rattle.spatial_hash.proofs.Residues.{residues-step, rows-append, next-below}
 use Rattle.spatial_hash.proofs.Appending.{Walking, walking-start, walking-as, walking-room, walking-step, walking-end}
 
--- the buckets that are left of a row, of a plane and of all
-abbrev pub rowLeft : ℕ → ℕ → ℕ → ℕ → List ℕ
-rowLeft m p r k = row m p (residues m r k)
-
+-- the buckets that are left of a plane and of all
 abbrev pub planeLeft : ℕ → ℕ → List ℕ → ℕ → ℕ → List ℕ
-planeLeft m x zs r k = rows m (row m x (residues m r k)) zs
+planeLeft m x zs r k = rows (m + 1) (row m x (residues m r k)) zs
 
 abbrev pub boxLeft : ℕ → List ℕ → List ℕ → ℕ → ℕ → List ℕ
-boxLeft m ys zs r k = rows m (rows m (residues m r k) ys) zs
+boxLeft m ys zs r k = rows (m + 1) (rows m (residues m r k) ys) zs
 
 -- `bs r k` are the buckets left; js ls r the points of those with the remainder r, the links being ls
 pub record Splits (h : Hash) (pts : List Float) (n : ℕ) (bs : ℕ → ℕ → List ℕ) (js : List ℕ → ℕ → List ℕ) : Type 0 where
@@ -27,26 +24,22 @@ pub record Splits (h : Hash) (pts : List Float) (n : ℕ) (bs : ℕ → ℕ → 
   pub none : (ls : List ℕ) (r : ℕ) → pointsIn h pts n ls (bs r 0) ≡ []
 
 module _ (h : Hash) (pts : List Float) (n : ℕ) where
-  pub row-splits : (p : ℕ) → Splits h pts n (rowLeft (h .side) p) (λ ls r. chain (bucketIn h pts n ls) (p * h .side + r) n)
-  unfolding row listed residues
-  row-splits p = record { one = λ ls r k l. ap (λ (rs : List ℕ). pointsIn h pts n ls (row (h .side) p rs)) (residues-step (h .side) r k l); none = λ ls r. refl }
-
-  pub plane-splits : (x : ℕ) (zs : List ℕ) → Splits h pts n (planeLeft (h .side) x zs) (λ ls r. pointsIn h pts n ls (row (h .side) (x * h .side + r) zs))
+  pub plane-splits : (x : ℕ) (zs : List ℕ) → Splits h pts n (planeLeft (h .side) x zs) (λ ls r. pointsIn h pts n ls (row (h .side + 1) (x * h .side + r) zs))
   unfolding row rows listed residues
   plane-splits x zs = record {
     one = λ ls r k l.
-        ap (λ (rs : List ℕ). pointsIn h pts n ls (rows (h .side) (row (h .side) x rs) zs)) (residues-step (h .side) r k l)
-        ∙ listed-append (bucketIn h pts n ls) n (row (h .side) (x * h .side + r) zs) (planeLeft (h .side) x zs (next (h .side) r) (k - 1));
+        ap (λ (rs : List ℕ). pointsIn h pts n ls (rows (h .side + 1) (row (h .side) x rs) zs)) (residues-step (h .side) r k l)
+        ∙ listed-append (bucketIn h pts n ls) n (row (h .side + 1) (x * h .side + r) zs) (planeLeft (h .side) x zs (next (h .side) r) (k - 1));
     none = λ ls r. refl;
   }
 
-  pub box-splits : (ys zs : List ℕ) → Splits h pts n (boxLeft (h .side) ys zs) (λ ls r. pointsIn h pts n ls (rows (h .side) (row (h .side) r ys) zs))
+  pub box-splits : (ys zs : List ℕ) → Splits h pts n (boxLeft (h .side) ys zs) (λ ls r. pointsIn h pts n ls (rows (h .side + 1) (row (h .side) r ys) zs))
   unfolding rows listed residues
   box-splits ys zs = record {
     one = λ ls r k l.
-        ap (λ (rs : List ℕ). pointsIn h pts n ls (rows (h .side) (rows (h .side) rs ys) zs)) (residues-step (h .side) r k l)
-        ∙ ap (pointsIn h pts n ls) (rows-append (h .side) (row (h .side) r ys) (rows (h .side) (residues (h .side) (next (h .side) r) (k - 1)) ys) zs)
-        ∙ listed-append (bucketIn h pts n ls) n (rows (h .side) (row (h .side) r ys) zs) (boxLeft (h .side) ys zs (next (h .side) r) (k - 1));
+        ap (λ (rs : List ℕ). pointsIn h pts n ls (rows (h .side + 1) (rows (h .side) rs ys) zs)) (residues-step (h .side) r k l)
+        ∙ ap (pointsIn h pts n ls) (rows-append (h .side + 1) (row (h .side) r ys) (rows (h .side) (residues (h .side) (next (h .side) r) (k - 1)) ys) zs)
+        ∙ listed-append (bucketIn h pts n ls) n (rows (h .side + 1) (row (h .side) r ys) zs) (boxLeft (h .side) ys zs (next (h .side) r) (k - 1));
     none = λ ls r. refl;
   }
 

@@ -10,7 +10,7 @@ use Rattle.numbers.specs.Rounded.{_⊖_, _⊗_}
 use Rattle.numbers.specs.Cut.{cut}
 use Rattle.vector.specs.declared.Point3f.{Point3f}
 use Rattle.points.specs.Points.{pointAt}
-use Rattle.regions.specs.Regions.{neighborsAt, usedAt, linksAt, headsAt}
+use Rattle.regions.specs.Regions.{neighborsAt, usedAt, linksAt, startsAt}
 use Rattle.patch.specs.Count.{count}
 use Rattle.spatial_hash.specs.declared.Hash.{Hash}
 use Rattle.spatial_hash.specs.declared.Span.{Span}
@@ -21,18 +21,24 @@ use Rattle.spatial_hash.specs.declared.Span.{Span}
 unfoldable pub slot : Float → Float → Float → ℕ
 slot scale least v = cut ((v ⊖ least) ⊗ scale)
 
--- a place's bucket: what its three numbers leave when divided by the side, as one number
+-- a place's row of buckets: what its first two numbers leave when divided by the side, as one number
+unfoldable pub rowFor : Hash → Point3f → ℕ
+rowFor h p = slot (h .scale) (h .least .x) (p .x) % h .side * h .side + slot (h .scale) (h .least .y) (p .y) % h .side
+
+-- its place there: what the third number leaves
+unfoldable pub placeFor : Hash → Point3f → ℕ
+placeFor h p = slot (h .scale) (h .least .z) (p .z) % h .side
+
+-- a place's bucket; a row has one more than there are remainders, which stays empty
 unfoldable pub bucketOf : Hash → Point3f → ℕ
-bucketOf h p =
-    (slot (h .scale) (h .least .x) (p .x) % h .side * h .side + slot (h .scale) (h .least .y) (p .y) % h .side) * h .side
-    + slot (h .scale) (h .least .z) (p .z) % h .side
+bucketOf h p = rowFor h p * (h .side + 1) + placeFor h p
 
 -- the bucket of point j
 abbrev pub bucketAt : Hash → List Float → ℕ → ℕ
 bucketAt h pts j = bucketOf h (pointAt pts j)
 
 abbrev pub buckets : Hash → ℕ
-buckets h = h .side * h .side * h .side
+buckets h = h .side * h .side * (h .side + 1)
 
 -- ---- who is in a bucket
 
@@ -62,32 +68,8 @@ chain f b (suc j) = elim (eqb (f j) b) [ true ↦ j ∷ chain f b j | false ↦ 
 
 -- the n points' words when the first j are chained into m buckets: each bucket has its last point, and each point in one of them the one before it there
 pub record Chained (f : ℕ → ℕ) (n m : ℕ) (w : List ℕ) (j : ℕ) : Type 0 where
-  pub heads : (b : ℕ) → b < m → getD w (headsAt n + b) 0 ≡ lastIn f b j
+  pub heads : (b : ℕ) → b < m → getD w (startsAt n + b) 0 ≡ lastIn f b j
   pub links : (i : ℕ) → i < j → f i < m → getD w (linksAt n + i) 0 ≡ lastIn f (f i) i
-
--- the word that has the last point of bucket b below p: the bucket's own for p = n, else that of point p, which is in the bucket
-unfoldable pub wordOf : ℕ → ℕ → ℕ → ℕ
-wordOf n b p = elim (eqb p n) [ true ↦ headsAt n + b | false ↦ linksAt n + p ]
-
--- point k is one of n that are chained into m buckets, and is in bucket b
-pub record Chains (f : ℕ → ℕ) (n : ℕ) (w : List ℕ) (b k : ℕ) : Type 0 where
-  pub many : ℕ
-  pub few : n ≤ 4096
-  pub fitting : many ≤ 4 * n + 64
-  pub long : 24 * n + 64 ≤ length w
-  pub chained : Chained f n many w n
-  pub bucket-below : b < many
-  pub below : k < n
-  pub inside : f k ≡ b
-
--- r is the word that leads to point k in bucket b
-pub record Leads (f : ℕ → ℕ) (n b k r : ℕ) : Type 0 where
-  pub place : ℕ
-  pub most : place ≤ n
-  pub above : k < place
-  pub inside : place < n → f place ≡ b
-  pub last : lastIn f b place ≡ k + 1
-  pub is : r ≡ wordOf n b place
 
 -- ---- the buckets that a walk visits
 
@@ -119,15 +101,15 @@ unfoldable pub rows : ℕ → List ℕ → List ℕ → List ℕ
 rows m [] qs = []
 rows m (p ∷ ps) qs = row m p qs ++ rows m ps qs
 
--- the buckets that have the remainders p, and one of a span; x, and one of each of two spans; one of each of three
+-- the buckets of row p that have one of a span; of the rows with x and one of a span; of those with one of each of two spans
 abbrev pub rowOf : ℕ → ℕ → Span → List ℕ
-rowOf m p zs = row m p (spanned m zs)
+rowOf m p zs = row (m + 1) p (spanned m zs)
 
 abbrev pub planeOf : ℕ → ℕ → Span → Span → List ℕ
-planeOf m x ys zs = rows m (rowOf m x ys) (spanned m zs)
+planeOf m x ys zs = rows (m + 1) (row m x (spanned m ys)) (spanned m zs)
 
 abbrev pub boxOf : ℕ → Span → Span → Span → List ℕ
-boxOf m xs ys zs = rows m (rows m (spanned m xs) (spanned m ys)) (spanned m zs)
+boxOf m xs ys zs = rows (m + 1) (rows m (spanned m xs) (spanned m ys)) (spanned m zs)
 
 -- the points below n of several buckets
 unfoldable pub listed : (ℕ → ℕ) → ℕ → List ℕ → List ℕ

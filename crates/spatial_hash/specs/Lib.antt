@@ -1,3 +1,5 @@
 pub mod Cover
 pub mod Buckets
+pub mod Order
+pub mod Leave
 pub mod Near

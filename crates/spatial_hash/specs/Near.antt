@@ -13,13 +13,14 @@ use Rattle.numbers.specs.Root.{root}
 unfoldable pub use Rattle.vector.specs.Vector.{squared}
 use Rattle.vector.specs.declared.Point3f.{Point3f}
 use Rattle.points.specs.Points.{pointAt}
-use Rattle.regions.specs.Regions.{neighborsAt, usedAt, linksAt, headsAt}
+use Rattle.regions.specs.Regions.{neighborsAt, usedAt, linksAt, startsAt}
 use Rattle.patch.specs.Count.{count}
 use Rattle.patch.specs.Search.{Below, unused}
 use Rattle.spatial_hash.specs.declared.Bounds.{Bounds}
 use Rattle.spatial_hash.specs.declared.Hash.{Hash}
 pub use Rattle.spatial_hash.specs.Cover.{between}
-use Rattle.spatial_hash.specs.Buckets.{Chained, bucketIn, buckets, linksOf, isOut}
+use Rattle.spatial_hash.specs.Buckets.{Chained, bucketAt, bucketIn, buckets, linksOf, isOut}
+use Rattle.spatial_hash.specs.Order.{Laid}
 
 -- a place whose coordinates are numbers
 pub record Finite (p : Point3f) : Type 0 where
@@ -60,7 +61,7 @@ pub record Ready (pts : List Float) (n : ℕ) (w : List ℕ) : Type 0 where
 pub record Sound (h : Hash) (n : ℕ) : Type 0 where
   pub some : 0 < h .side
   pub few : h .side ≤ 24
-  pub fitting : buckets h ≤ 4 * n + 64
+  pub fitting : buckets h ≤ 6 * n + 64
   pub positive : T (lt (f32 0) (h .scale))
   pub scale-finite : T (finite (h .scale))
   pub corner : Finite (h .least)
@@ -69,13 +70,19 @@ pub record Sound (h : Hash) (n : ℕ) : Type 0 where
 pub record Empty (h : Hash) (pts : List Float) (n : ℕ) (w : List ℕ) : Type 0 where
   pub ready : Ready pts n w
   pub sound : Sound h n
-  pub empty : (b : ℕ) → b < buckets h → getD w (headsAt n + b) 0 ≡ 0
+  pub empty : (b : ℕ) → b < buckets h → getD w (startsAt n + b) 0 ≡ 0
+
+-- a hash whose buckets have chains of all points
+pub record Heading (h : Hash) (pts : List Float) (n : ℕ) (w : List ℕ) : Type 0 where
+  pub ready : Ready pts n w
+  pub sound : Sound h n
+  pub chained : Chained (bucketAt h pts) n (buckets h) w n
 
 -- what `gather` needs and `remove` keeps: it lies in the words from `linksAt` on
 pub record Linked (h : Hash) (pts : List Float) (n : ℕ) (w : List ℕ) : Type 0 where
   pub ready : Ready pts n w
   pub sound : Sound h n
-  pub chained : Chained (bucketIn h pts n (linksOf n w)) n (buckets h) w n
+  pub laid : Laid (bucketIn h pts n (linksOf n w)) n (h .side) w
 
 -- whoever is out is used
 pub record Hashed (h : Hash) (pts : List Float) (n : ℕ) (w : List ℕ) : Type 0 where

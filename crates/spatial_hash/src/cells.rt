@@ -8,7 +8,7 @@ ghost use lib.Dec.{T};
 ghost use lib.Ieee.{lt};
 ghost use lib.Ieee.Scale.{finite};
 ghost use Rattle.numbers.specs.Rounded.{f32};
-ghost use Rattle.spatial_hash.specs.Buckets.{slot, bucketOf, next, Spanning};
+ghost use Rattle.spatial_hash.specs.Buckets.{slot, rowFor, placeFor, bucketOf, next, Spanning};
 
 // One over the size of a cell, or 1 if that is no use as a scale.
 pub fn scale_for(size: f32) -> f32
@@ -26,22 +26,22 @@ pub fn scale_for(size: f32) -> f32
 // How many cells on an axis have buckets of their own: as many as there is room for.
 pub fn side_for(n: usize) -> usize
     requires { ⌜ n ≤ 4096 ⌝ }
-    ensures { λ r. ⌜ (0 < r) × (r ≤ 24) × (r * r * r ≤ 4 * n + 64) ⌝ }
+    ensures { λ r. ⌜ (0 < r) × (r ≤ 24) × (r * r * (r + 1) ≤ 6 * n + 64) ⌝ }
 {
-    let room = 4 * n + 64;
-    if 13824 <= room {
+    let room = 6 * n + 64;
+    if 14400 <= room {
         return 24;
     }
-    if 4096 <= room {
+    if 4352 <= room {
         return 16;
     }
-    if 1728 <= room {
+    if 1872 <= room {
         return 12;
     }
-    if 512 <= room {
+    if 576 <= room {
         return 8;
     }
-    4
+    3
 }
 
 // The number of the cell that a coordinate is in.
@@ -59,16 +59,32 @@ fn residue(side: usize, scale: f32, least: f32, v: f32) -> usize
     (slot(scale, least, v) as usize) % side
 }
 
-// The bucket of a place.
-pub fn bucket_of(hash: Hash, p: Point3f) -> usize
+// The row of buckets that a place is in.
+pub fn row_of(hash: Hash, p: Point3f) -> usize
     requires { ⌜ (0 < hash .side) × (hash .side ≤ 24) ⌝ }
-    ensures { λ r. ⌜ r ≡ bucketOf hash p ⌝ }
+    ensures { λ r. ⌜ (r ≡ rowFor hash p) × (r < hash .side * hash .side) ⌝ }
 {
     let side = hash.side;
     let x = residue(side, hash.scale, hash.least.x, p.x);
     let y = residue(side, hash.scale, hash.least.y, p.y);
-    let z = residue(side, hash.scale, hash.least.z, p.z);
-    (x * side + y) * side + z
+    x * side + y
+}
+
+// Which bucket of its row that is.
+pub fn place_in_row(hash: Hash, p: Point3f) -> usize
+    requires { ⌜ 0 < hash .side ⌝ }
+    ensures { λ r. ⌜ (r ≡ placeFor hash p) × (r < hash .side) ⌝ }
+{
+    residue(hash.side, hash.scale, hash.least.z, p.z)
+}
+
+// The bucket of a place. A row has one bucket more than it has remainders.
+pub fn bucket_of(hash: Hash, p: Point3f) -> usize
+    requires { ⌜ (0 < hash .side) × (hash .side ≤ 24) ⌝ }
+    ensures { λ r. ⌜ r ≡ bucketOf hash p ⌝ }
+{
+    let row = row_of(hash, p);
+    row * (hash.side + 1) + place_in_row(hash, p)
 }
 
 // The remainder after r.

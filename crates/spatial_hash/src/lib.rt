@@ -1,13 +1,16 @@
 // The points near a place: a spatial hash over the cloud, in the words of the work slice from 9n on. How its cells are sized is a guess that decides nothing;
 // what is promised is that no point within the bounds asked for is left out, but those that were removed.
+// The points of a row of buckets, those with the same remainders on the first two axes, lie one after another, so that a walk goes from row to row and passes no empty bucket.
 mod cells;
 mod cover;
+mod leave;
 mod links;
-mod unlink;
+mod order;
 mod walk;
 
 use vector::Point3f;
 ghost use Prim.Native.Nat.{_*_, _≤_, _<_};
+ghost use Rattle.spatial_hash.specs.Leave.{Leaving, Left};
 ghost use Rattle.spatial_hash.specs.Near.{Finite, Limit, Covers, Ready, Linked, Gathered, Built, Removed};
 
 // The places between two corners, both included.
@@ -85,6 +88,7 @@ pub fn build(points: &[f32], n: usize, size: f32, w: &mut [u32]) -> Hash
     };
     links::clear_heads(w, n, side);
     links::link_points(points, w, n, hash);
+    order::order_points(points, w, n, hash);
     hash
 }
 
@@ -99,15 +103,31 @@ pub fn gather(points: &[f32], w: &mut [u32], n: usize, hash: Hash, bounds: Bound
     walk::visit_planes(points, w, n, hash, xs, ys, zs)
 }
 
+// Takes point k out of the bucket whose word is `own`, in the row whose last word is `last`.
+fn leave_row(w: &mut [u32], n: usize, k: usize, own: usize, last: usize)
+    requires { ⌜ Leaving n k own last (now w) ⌝ }
+    ensures { λ _. ⌜ Left n k own last (now (w .entry)) (now (w .exit)) ⌝ }
+{
+    let from = 16 * n + 64 + w[own] as usize;
+    let to = 16 * n + 64 + w[own + 1] as usize;
+    let end = 16 * n + 64 + w[last] as usize;
+    let at = leave::find_word(w, k, from, to);
+    leave::close_gap(w, at, end);
+    leave::lower_words(w, own + 1, last + 1);
+}
+
 // Takes point k out of its bucket, if it is still there.
 pub fn remove(points: &[f32], w: &mut [u32], n: usize, hash: Hash, k: usize)
     requires { ⌜ Linked hash (now points) n (now w) × (k < n) ⌝ }
     ensures { λ _. ⌜ Removed hash (now (points .entry)) n (now (w .entry)) (now (w .exit)) k ⌝ }
 {
-    if unlink::is_out(w, n, k) {
+    if leave::is_out(w, n, k) {
         return;
     }
-    let b = cells::bucket_of(hash, points::point_at(points, k));
-    let at = unlink::word_to(w, n, b, k);
-    unlink::pass_over(w, n, at, k);
+    let side = hash.side;
+    let place = points::point_at(points, k);
+    let row = 10 * n + cells::row_of(hash, place) * (side + 1);
+    let own = row + cells::place_in_row(hash, place);
+    leave_row(w, n, k, own, row + side);
+    w[9 * n + k] = (n + 1) as u32;
 }

@@ -44,11 +44,11 @@ pub fn least_corner(points: &[f32], n: usize) -> Point3f
 
 // Empties the buckets.
 pub fn clear_heads(w: &mut [u32], n: usize, side: usize)
-    requires { ⌜ (n ≤ 4096) × (side ≤ 24) × (side * side * side ≤ 4 * n + 64) × (24 * n + 64 ≤ length (now w)) ⌝ }
-    ensures { λ _. ⌜ ((b : ℕ) → b < side * side * side → getD (now (w .exit)) (10 * n + b) 0 ≡ 0)
+    requires { ⌜ (n ≤ 4096) × (side ≤ 24) × (side * side * (side + 1) ≤ 6 * n + 64) × (24 * n + 64 ≤ length (now w)) ⌝ }
+    ensures { λ _. ⌜ ((b : ℕ) → b < side * side * (side + 1) → getD (now (w .exit)) (10 * n + b) 0 ≡ 0)
         × (take (9 * n) (now (w .exit)) ≡ take (9 * n) (now (w .entry))) ⌝ }
 {
-    let buckets = side * side * side;
+    let buckets = side * side * (side + 1);
     let mut b: usize = 0;
     while b < buckets {
         w[10 * n + b] = 0;
@@ -58,7 +58,7 @@ pub fn clear_heads(w: &mut [u32], n: usize, side: usize)
 
 // Puts point j at the head of bucket b.
 fn link_point(w: &mut [u32], n: usize, b: usize, j: usize)
-    requires { ⌜ (n ≤ 4096) × (j < n) × (b < 4 * n + 64) × (24 * n + 64 ≤ length (now w)) ⌝ }
+    requires { ⌜ (n ≤ 4096) × (j < n) × (b < 6 * n + 64) × (24 * n + 64 ≤ length (now w)) ⌝ }
     ensures { λ _. ⌜ now (w .exit) ≡ set (set (now (w .entry)) (9 * n + j) (getD (now (w .entry)) (10 * n + b) 0)) (10 * n + b) (j + 1) ⌝ }
 {
     w[9 * n + j] = w[10 * n + b];

@@ -1,37 +1,50 @@
-// Walks through buckets. Each appends the points there to the neighbours, of which there are `count`, and returns how many there are then.
+// Walks through rows of buckets. Each appends the points there to the neighbours, of which there are `count`, and returns how many there are then.
 // The coordinates are there for the contracts alone.
 use super::cells;
 use crate::Hash;
 use crate::Span;
-ghost use mathlib.Core.Path.{_≡_};
-ghost use Prim.Native.Nat.{_+_, _*_, _≤_, _<_};
-ghost use Rattle.spatial_hash.specs.Buckets.{bucketIn, linksOf, chain, rowOf, planeOf, boxOf, pointsIn, Appended};
+ghost use Prim.Native.Nat.{_+_, _-_, _*_, _≤_, _<_};
+ghost use lib.ListN.{length};
+ghost use Rattle.regions.specs.Regions.{orderAt};
+ghost use Rattle.spatial_hash.specs.Buckets.{linksOf, residues, row, rowOf, planeOf, boxOf, pointsIn, Appended};
+ghost use Rattle.spatial_hash.specs.Order.{reads};
 ghost use Rattle.spatial_hash.specs.Near.{Room};
 
-// The points of one bucket, the one with the remainder z in a row.
-fn visit_chain(
+// The points at some places of the order, one after another.
+fn copy_points(w: &mut [u32], n: usize, from: usize, to: usize, count: usize) -> usize
+    requires { ⌜ (n ≤ 4096) × (24 * n + 64 ≤ length (now w)) × (from ≤ to) × (to ≤ n) × (count + (to - from) ≤ n) ⌝ }
+    ensures { λ r. ⌜ Appended n (now (w .entry)) (now (w .exit)) count r (reads (now (w .entry)) (orderAt n + from) (to - from)) ⌝ }
+{
+    let mut total = count;
+    let mut i = from;
+    while i < to {
+        w[4 * n + total] = w[16 * n + 64 + i];
+        total += 1;
+        i += 1;
+    }
+    total
+}
+
+// The points of the buckets of one row from one remainder to before another.
+fn visit_run(
     points: &[f32],
     w: &mut [u32],
     n: usize,
     hash: Hash,
     at: usize,
-    z: usize,
+    first: usize,
+    end: usize,
     count: usize,
 ) -> usize
-    requires { ⌜ (at < hash .side * hash .side) × (z < hash .side)
-        × Room hash (now points) n (now w) count (chain (bucketIn hash (now points) n (linksOf n (now w))) (at * hash .side + z) n) ⌝ }
-    ensures { λ r. ⌜ Appended n (now (w .entry)) (now (w .exit)) count r (chain (bucketIn hash (now (points .entry)) n (linksOf n (now (w .entry)))) (at * hash .side + z) n) ⌝ }
+    requires { ⌜ (at < hash .side * hash .side) × (first ≤ end) × (end ≤ hash .side)
+        × Room hash (now points) n (now w) count (pointsIn hash (now points) n (linksOf n (now w)) (row (hash .side + 1) at (residues (hash .side) first (end - first)))) ⌝ }
+    ensures { λ r. ⌜ Appended n (now (w .entry)) (now (w .exit)) count r (pointsIn hash (now (points .entry)) n (linksOf n (now (w .entry))) (row (hash .side + 1) at (residues (hash .side) first (end - first)))) ⌝ }
 {
-    let b = at * hash.side + z;
-    let mut total = count;
-    let mut t = w[10 * n + b];
-    while t > 0 {
-        let j = t - 1;
-        w[4 * n + total] = j;
-        total += 1;
-        t = w[9 * n + j as usize];
-    }
-    total
+    let side = hash.side;
+    let starts = 10 * n + at * (side + 1);
+    let from = w[starts + first] as usize;
+    let to = w[starts + end] as usize;
+    copy_points(w, n, from, to, count)
 }
 
 // The points of the buckets of one row: those with the same remainders on the first two axes.
@@ -44,19 +57,19 @@ fn visit_row(
     zs: Span,
     count: usize,
 ) -> usize
-    requires { ⌜ (at < hash .side * hash .side) × (zs .first < hash .side)
+    requires { ⌜ (at < hash .side * hash .side) × (zs .first < hash .side) × (zs .count ≤ hash .side)
         × Room hash (now points) n (now w) count (pointsIn hash (now points) n (linksOf n (now w)) (rowOf (hash .side) at zs)) ⌝ }
     ensures { λ r. ⌜ Appended n (now (w .entry)) (now (w .exit)) count r (pointsIn hash (now (points .entry)) n (linksOf n (now (w .entry))) (rowOf (hash .side) at zs)) ⌝ }
 {
-    let mut total = count;
-    let mut z = zs.first;
-    let mut left = zs.count;
-    while left > 0 {
-        total = visit_chain(points, w, n, hash, at, z, total);
-        z = cells::next(hash.side, z);
-        left -= 1;
+    let side = hash.side;
+    let first = zs.first;
+    let width = zs.count;
+    let end = first + width;
+    if end <= side {
+        return visit_run(points, w, n, hash, at, first, end, count);
     }
-    total
+    let total = visit_run(points, w, n, hash, at, first, side, count);
+    visit_run(points, w, n, hash, at, 0, end - side, total)
 }
 
 // The points of the buckets of one plane: those with the same remainder on the first axis.
@@ -70,7 +83,7 @@ fn visit_plane(
     zs: Span,
     count: usize,
 ) -> usize
-    requires { ⌜ (x < hash .side) × (ys .first < hash .side) × (zs .first < hash .side)
+    requires { ⌜ (x < hash .side) × (ys .first < hash .side) × (zs .first < hash .side) × (zs .count ≤ hash .side)
         × Room hash (now points) n (now w) count (pointsIn hash (now points) n (linksOf n (now w)) (planeOf (hash .side) x ys zs)) ⌝ }
     ensures { λ r. ⌜ Appended n (now (w .entry)) (now (w .exit)) count r (pointsIn hash (now (points .entry)) n (linksOf n (now (w .entry))) (planeOf (hash .side) x ys zs)) ⌝ }
 {
@@ -95,7 +108,7 @@ pub fn visit_planes(
     ys: Span,
     zs: Span,
 ) -> usize
-    requires { ⌜ (xs .first < hash .side) × (ys .first < hash .side) × (zs .first < hash .side)
+    requires { ⌜ (xs .first < hash .side) × (ys .first < hash .side) × (zs .first < hash .side) × (zs .count ≤ hash .side)
         × Room hash (now points) n (now w) 0 (pointsIn hash (now points) n (linksOf n (now w)) (boxOf (hash .side) xs ys zs)) ⌝ }
     ensures { λ r. ⌜ Appended n (now (w .entry)) (now (w .exit)) 0 r (pointsIn hash (now (points .entry)) n (linksOf n (now (w .entry))) (boxOf (hash .side) xs ys zs)) ⌝ }
 {

@@ -1,6 +1,10 @@
 -- `spatial_hash::build` meets its contract. Assumes nothing.
-use mathlib.Core.Path.{_∙_}
-use Rattle.spatial_hash.specs.Near.{Sound}
+use mathlib.Core.Path.{sym, ap, _∙_}
+use Prim.Native.Nat.{_*_}
+use native.Mathlib.Omega.{arith}
+use lib.ListN.{take}
+use lib.Seq.{take-take}
+use Rattle.spatial_hash.specs.Near.{Sound, Heading}
 use Rattle.spatial_hash.proofs.Kept.{ready-same}
 use Rattle.spatial_hash.proofs.Heads.{hashed-all}
 use borrow.Author.Needs.{needs}
@@ -36,18 +40,37 @@ link-points-requires c κs =
     let e = c .before .before .before .clear-heads in
     record { ready = ready-same _ _ _ _ (e .kept .0) (s .pre); sound = sound (c .before .before .before .before .before); empty = e .ensures .0 }
 
+-- all points are chained
+heading : (c : tie.After-link-points) → Heading (record { least = c .before .before .before .before .before .before .before .before .least-corner .result; scale = c .before .before .before .before .before .before .before .scale-for .result; side = c .before .before .before .before .before .before .side-for .result }) (c .before .before .before .before .before .before .before .before .before .before .before .args .points .now) (c .before .before .before .before .before .before .before .before .before .before .before .args .n) (c .link-points .last .1 .0)
+heading c =
+    let e = c .before .before .before .before .clear-heads in
+    record {
+      ready = ready-same _ _ _ _ (c .link-points .kept .1 .0 ∙ e .kept .0) (c .before .before .before .before .before .before .before .before .before .before .before .pre);
+      sound = sound (c .before .before .before .before .before .before);
+      chained = c .link-points .ensures .0;
+    }
+
+order-points-requires : tie.Need-order-points-requires
+order-points-requires c κs = heading (c .before .before .before)
+
 same-length : tie.Need-same-length
 same-length c = search needs
 
 returns : tie.Need-returns
 returns c =
-    let s = c .before .before .before .before .before .before .before .before .before .before .before .before .before in
-    let e = c .before .before .before .before .before .before .clear-heads in
-    let l = c .before .before .link-points in
+    let o = c .before .before in
+    let l = o .before .before .before .before in
+    let e = l .before .before .before .before .clear-heads in
+    let n = l .before .before .before .before .before .before .before .before .before .before .before .args .n in
     record {
-      hashed = hashed-all _ _ _ _ (ready-same _ _ _ _ (l .kept .1 .0 ∙ e .kept .0) (s .pre)) (sound (c .before .before .before .before .before .before .before .before)) (l .ensures .0);
-      before = l .ensures .1 ∙ e .ensures .1;
-      length-same = l .kept .1 .0 ∙ e .kept .0;
+      hashed = hashed-all _ _ _ _ _ (heading l) (o .order-points .kept .1 .0) (o .order-points .ensures .1) (o .order-points .ensures .0);
+      before =
+          sym (take-take (9 * n) (10 * n) (o .order-points .last .1 .0) (omega arith))
+          ∙ ap (take (9 * n)) (o .order-points .ensures .1)
+          ∙ take-take (9 * n) (10 * n) (l .link-points .last .1 .0) (omega arith)
+          ∙ l .link-points .ensures .1
+          ∙ e .ensures .1;
+      length-same = o .order-points .kept .1 .0 ∙ l .link-points .kept .1 .0 ∙ e .kept .0;
     }
 
 pub build-spec : {M : Type 1} → statement M
@@ -59,5 +82,6 @@ build-spec =
     side-for-requires
     clear-heads-requires
     link-points-requires
+    order-points-requires
     same-length
     returns)

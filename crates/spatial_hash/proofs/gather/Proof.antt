@@ -19,7 +19,7 @@ visit-planes-requires c κs =
     let x = c .before .before .before .span .ensures in
     let y = c .before .before .span2 .ensures in
     let z = c .before .span3 .ensures in
-    (x .starts, y .starts, z .starts, box-room _ _ _ _ (s .args .bounds) _ _ _ (s .pre) x y z)
+    (x .starts, y .starts, z .starts, z .few, box-room _ _ _ _ (s .args .bounds) _ _ _ (s .pre) x y z)
 
 same-length : tie.Need-same-length
 same-length c = search needs

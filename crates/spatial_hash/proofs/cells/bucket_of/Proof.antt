@@ -1,35 +1,31 @@
 -- `spatial_hash::cells::bucket_of` meets its contract. Assumes nothing.
+use Prim.Native.Nat.{_+_, _≤_}
+use native.Mathlib.Nat.{mul-le-mul}
+use Rattle.spatial_hash.specs.Buckets.{bucketOf}
+use Rattle.spatial_hash.proofs.Sizes.{square-few}
 use native.Mathlib.Omega.{arith}
 use borrow.Author.Needs.{needs}
-use Rattle.spatial_hash.specs.Buckets.{bucketOf}
-use Rattle.spatial_hash.proofs.Sizes.{Few, joined-few}
 use Rattle.spatial_hash.proofs.cells.bucket_of.Statement.{statement}
 use Rattle.spatial_hash.proofs.cells.bucket_of.Tie as tie
+use Rattle.spatial_hash.proofs.cells.bucket_of.Reads as reads
+use Rattle.spatial_hash.proofs.cells.bucket_of.Lts as lts
+use Rattle.spatial_hash.proofs.cells.place_in_row.Reads as place-in-row-reads
+use Rattle.spatial_hash.proofs.cells.row_of.Reads as row-of-reads
 
-residue-requires : tie.Need-residue-requires
-residue-requires c κs = search needs
-
-residue-requires-2 : tie.Need-residue-requires-2
-residue-requires-2 c κs = search needs
-
-residue-requires-3 : tie.Need-residue-requires-3
-residue-requires-3 c κs = search needs
-
--- what is joined is few
-few : (c : tie.After-residue3) → Few (c .before .before .before .args .hash .side) (c .before .before .residue .result) (c .before .residue2 .result) (c .residue3 .result)
-few c = joined-few _ _ _ _ (c .before .before .before .pre .1) (c .before .before .residue .ensures .1) (c .before .residue2 .ensures .1) (c .residue3 .ensures .1)
-
-mul-result : tie.Need-mul-result
-mul-result c = let f = few c in omega arith
+row-of-requires : tie.Need-row-of-requires
+row-of-requires c κs = search needs
 
 add-result : tie.Need-add-result
-add-result c = let f = few c in omega arith
+add-result c = search needs
 
-mul-result-2 : tie.Need-mul-result-2
-mul-result-2 c = let f = few c in omega arith
+mul-result : tie.Need-mul-result
+mul-result c = let s = c .before .before in let q = square-few _ (s .pre .1) in let l : c .before .row-of .result ≤ 576 = omega (arith, c .before .row-of .ensures .1) in let m : s .args .hash .side + 1 ≤ 25 = omega arith in omega (arith, mul-le-mul l m)
+
+place-in-row-requires : tie.Need-place-in-row-requires
+place-in-row-requires c κs = search needs
 
 add-result-2 : tie.Need-add-result-2
-add-result-2 c = let f = few c in omega arith
+add-result-2 c = let s = c .before .before .before in let q = square-few _ (s .pre .1) in let l : c .before .before .row-of .result ≤ 576 = omega (arith, c .before .before .row-of .ensures .1) in let m : s .args .hash .side + 1 ≤ 25 = omega arith in omega (arith, mul-le-mul l m, c .place-in-row .ensures .1)
 
 returns : tie.Need-returns
 unfolding bucketOf
@@ -38,12 +34,4 @@ returns c = cc
 pub bucket-of-spec : {M : Type 1} → statement M
 bucket-of-spec =
     tie.close
-    (tie.spec
-    residue-requires
-    residue-requires-2
-    residue-requires-3
-    mul-result
-    add-result
-    mul-result-2
-    add-result-2
-    returns)
+    (tie.spec row-of-requires add-result mul-result place-in-row-requires add-result-2 returns)

@@ -1,12 +1,14 @@
 -- `spatial_hash::links::clear_heads` meets its contract. Assumes nothing.
-use native.Mathlib.Omega.{arith}
-use borrow.Author.Needs.{needs}
 use mathlib.Core.Path.{refl}
 use Prim.Native.Nat.{_-_}
 use Rattle.spatial_hash.proofs.Heads.{Cleared, cleared-step}
 use Rattle.spatial_hash.proofs.Sizes.{square-few}
+use native.Mathlib.Omega.{arith}
+use borrow.Author.Needs.{needs}
 use Rattle.spatial_hash.proofs.links.clear_heads.Statement.{statement}
 use Rattle.spatial_hash.proofs.links.clear_heads.Tie as tie
+use Rattle.spatial_hash.proofs.links.clear_heads.Reads as reads
+use Rattle.spatial_hash.proofs.links.clear_heads.Lts as lts
 
 abbrev Inv-loop : tie.InvT-loop
 Inv-loop w₀ n side buckets b₀ w b = Cleared w₀ n w b
@@ -16,6 +18,9 @@ abbrev μ-loop : tie.MeasureT-loop
 
 mul-buckets : tie.Need-mul-buckets Inv-loop μ-loop
 mul-buckets c = omega (arith, square-few (c .args .side) (c .pre .1))
+
+add-buckets : tie.Need-add-buckets Inv-loop μ-loop
+add-buckets c = search needs
 
 mul-buckets-2 : tie.Need-mul-buckets-2 Inv-loop μ-loop
 mul-buckets-2 c = search needs
@@ -57,6 +62,7 @@ clear-heads-spec =
     Inv-loop
     μ-loop
     mul-buckets
+    add-buckets
     mul-buckets-2
     loop-holds
     mul-w

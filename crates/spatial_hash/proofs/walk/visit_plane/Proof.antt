@@ -14,16 +14,16 @@ abbrev μ-loop : tie.MeasureT-loop
 μ-loop points w₀ n hash x zs count total₀ y₀ left₀ w total y left = left
 
 loop-holds : tie.Need-loop-holds Inv-loop μ-loop
-loop-holds c = let s = c .before .before in visiting-start (s .pre .1) (s .pre .3)
+loop-holds c = let s = c .before .before in visiting-start (s .pre .1) (s .pre .4)
 
 mul-visit-row : tie.Need-mul-visit-row Inv-loop μ-loop
-mul-visit-row c = let s = c .before .before .before .before .before .before in let m = s .args .hash .side in let l = c .before .before .before .loop in let j = joined-below m m (s .args .x) (l .y) (s .pre .0) (l .inv .below) in let q = square-few m (s .pre .3 .linked .sound .few) in omega arith
+mul-visit-row c = let s = c .before .before .before .before .before .before in let m = s .args .hash .side in let l = c .before .before .before .loop in let j = joined-below m m (s .args .x) (l .y) (s .pre .0) (l .inv .below) in let q = square-few m (s .pre .4 .linked .sound .few) in omega arith
 
 add-visit-row : tie.Need-add-visit-row Inv-loop μ-loop
-add-visit-row c = let s = c .before .before .before .before .before .before in let m = s .args .hash .side in let l = c .before .before .before .loop in let j = joined-below m m (s .args .x) (l .y) (s .pre .0) (l .inv .below) in let q = square-few m (s .pre .3 .linked .sound .few) in omega arith
+add-visit-row c = let s = c .before .before .before .before .before .before in let m = s .args .hash .side in let l = c .before .before .before .loop in let j = joined-below m m (s .args .x) (l .y) (s .pre .0) (l .inv .below) in let q = square-few m (s .pre .4 .linked .sound .few) in omega arith
 
 visit-row-requires : tie.Need-visit-row-requires Inv-loop μ-loop
-visit-row-requires c κs = let s = c .before .before .before .before .before .before in let m = s .args .hash .side in let l = c .before .before .before .loop in let j = joined-below m m (s .args .x) (l .y) (s .pre .0) (l .inv .below) in let q = square-few m (s .pre .3 .linked .sound .few) in (j, s .pre .2, visiting-room (plane-splits (s .args .hash) (s .args .points .now) (s .args .n) (s .args .x) (spanned (s .args .hash .side) (s .args .zs))) (c .before .before .loop-test .taken) (l .inv))
+visit-row-requires c κs = let s = c .before .before .before .before .before .before in let m = s .args .hash .side in let l = c .before .before .before .loop in let j = joined-below m m (s .args .x) (l .y) (s .pre .0) (l .inv .below) in let q = square-few m (s .pre .4 .linked .sound .few) in (j, s .pre .2, s .pre .3, visiting-room (plane-splits (s .args .hash) (s .args .points .now) (s .args .n) (s .args .x) (spanned (s .args .hash .side) (s .args .zs))) (c .before .before .loop-test .taken) (l .inv))
 
 next-requires : tie.Need-next-requires Inv-loop μ-loop
 next-requires c κs = c .before .before .before .before .before .before .loop .inv .below

@@ -12,10 +12,10 @@ abbrev μ-loop : tie.MeasureT-loop
 μ-loop points w₀ n hash ys zs total₀ x₀ left₀ w total x left = left
 
 loop-holds : tie.Need-loop-holds Inv-loop μ-loop
-loop-holds c = let s = c .before .before in visiting-start (s .pre .0) (s .pre .3)
+loop-holds c = let s = c .before .before in visiting-start (s .pre .0) (s .pre .4)
 
 visit-plane-requires : tie.Need-visit-plane-requires Inv-loop μ-loop
-visit-plane-requires c κs = let s = c .before .before .before .before .before in let l = c .before .before .loop in (l .inv .below, s .pre .1, s .pre .2, visiting-room (box-splits (s .args .hash) (s .args .points .now) (s .args .n) (spanned (s .args .hash .side) (s .args .ys)) (spanned (s .args .hash .side) (s .args .zs))) (c .before .loop-test .taken) (l .inv))
+visit-plane-requires c κs = let s = c .before .before .before .before .before in let l = c .before .before .loop in (l .inv .below, s .pre .1, s .pre .2, s .pre .3, visiting-room (box-splits (s .args .hash) (s .args .points .now) (s .args .n) (spanned (s .args .hash .side) (s .args .ys)) (spanned (s .args .hash .side) (s .args .zs))) (c .before .loop-test .taken) (l .inv))
 
 next-requires : tie.Need-next-requires Inv-loop μ-loop
 next-requires c κs = c .before .before .before .before .before .loop .inv .below

@@ -1,53 +1,60 @@
 -- `spatial_hash::walk::visit_row` meets its contract. Assumes nothing.
+use native.Mathlib.Omega.{arith}
+use Rattle.spatial_hash.proofs.Runs.{one-room, one-appended, first-room, second-room, two-appended}
 use borrow.Author.Needs.{needs}
-use Rattle.spatial_hash.proofs.Visiting.{Visiting, rowLeft, row-splits, visiting-start, visiting-room, visiting-step, visiting-end}
 use Rattle.spatial_hash.proofs.walk.visit_row.Statement.{statement}
 use Rattle.spatial_hash.proofs.walk.visit_row.Tie as tie
+use Rattle.spatial_hash.proofs.walk.visit_row.Reads as reads
+use Rattle.spatial_hash.proofs.walk.visit_row.Lts as lts
+use Rattle.spatial_hash.proofs.walk.visit_run.Reads as visit-run-reads
 
-abbrev Inv-loop : tie.InvT-loop
-Inv-loop points w₀ n hash at count total₀ z₀ left₀ w total z left = Visiting hash points n (rowLeft (hash .side) at) w₀ count z₀ left₀ w total z left
+add-end : tie.Need-add-end
+add-end c = search needs
 
-abbrev μ-loop : tie.MeasureT-loop
-μ-loop points w₀ n hash at count total₀ z₀ left₀ w total z left = left
+visit-run-requires : tie.Need-visit-run-requires
+visit-run-requires c κs = let s = c .before .before .before .before in (s .pre .0, omega arith, c .before .if1 .taken, one-room _ _ _ _ _ _ (s .pre .3))
 
-loop-holds : tie.Need-loop-holds Inv-loop μ-loop
-loop-holds c = let s = c .before .before in visiting-start (s .pre .1) (s .pre .2)
+same-length : tie.Need-same-length
+same-length c = search needs
 
-visit-chain-requires : tie.Need-visit-chain-requires Inv-loop μ-loop
-visit-chain-requires c κs = let s = c .before .before .before .before .before in let l = c .before .before .loop in (s .pre .0, l .inv .below, visiting-room (row-splits (s .args .hash) (s .args .points .now) (s .args .n) (s .args .at)) (c .before .loop-test .taken) (l .inv))
+returns : tie.Need-returns
+returns c = let s = c .before .before .before .before .before .before .before in one-appended _ _ _ _ _ _ (s .pre .3) _ _ (c .before .before .visit-run .ensures)
 
-next-requires : tie.Need-next-requires Inv-loop μ-loop
-next-requires c κs = c .before .before .before .before .before .loop .inv .below
+visit-run-requires-2 : tie.Need-visit-run-requires-2
+visit-run-requires-2 c κs = let s = c .before .before .before .before in let l = s .pre .1 in (s .pre .0, omega arith, omega arith, first-room _ _ _ _ _ _ (s .pre .3) l (c .before .if1 .left))
 
-sub-left : tie.Need-sub-left Inv-loop μ-loop
-sub-left c = search needs
+sub-visit-run : tie.Need-sub-visit-run
+sub-visit-run c = search needs
 
-loop-less : tie.Need-loop-less Inv-loop μ-loop
-loop-less c = search needs
+visit-run-requires-3 : tie.Need-visit-run-requires-3
+visit-run-requires-3 c κs =
+    let v = c .before .before .before in
+    let s = v .before .before .before .before .before in
+    let e = v .before .before .if1 .left in
+    let l = s .pre .1 in
+    let w = s .pre .2 in
+    (s .pre .0, omega arith, omega arith, second-room _ _ _ _ _ _ (s .pre .3) l e _ _ (v .visit-run2 .ensures))
 
-loop-again : tie.Need-loop-again Inv-loop μ-loop
-loop-again c =
-    let s = c .before .before .before .before .before .before .before .before .before in
-    let l = c .before .before .before .before .before .before .loop in
-    visiting-step (row-splits (s .args .hash) (s .args .points .now) (s .args .n) (s .args .at)) (c .before .before .before .before .before .loop-test .taken) (l .inv) (c .before .before .before .visit-chain .ensures) (c .next .ensures)
+same-length-2 : tie.Need-same-length-2
+same-length-2 c = search needs
 
-same-length : tie.Need-same-length Inv-loop μ-loop
-same-length c = c .before .loop .inv .walking .length-same
-
-returns : tie.Need-returns Inv-loop μ-loop
-returns c = let s = c .before .before .before .before in visiting-end (row-splits (s .args .hash) (s .args .points .now) (s .args .n) (s .args .at)) (c .loop-test .left) (c .before .loop .inv)
+returns-2 : tie.Need-returns-2
+returns-2 c =
+    let t = c .before .before in
+    let v = t .before .before .before .before in
+    let s = v .before .before .before .before .before in
+    two-appended _ _ _ _ _ _ (s .pre .3) (s .pre .1) (v .before .before .if1 .left) _ _ (v .visit-run2 .ensures) _ _ (t .visit-run3 .ensures)
 
 pub visit-row-spec : {M : Type 1} → statement M
 visit-row-spec =
     tie.close
     (tie.spec
-    Inv-loop
-    μ-loop
-    loop-holds
-    visit-chain-requires
-    next-requires
-    sub-left
-    loop-less
-    loop-again
+    add-end
+    visit-run-requires
     same-length
-    returns)
+    returns
+    visit-run-requires-2
+    sub-visit-run
+    visit-run-requires-3
+    same-length-2
+    returns-2)
