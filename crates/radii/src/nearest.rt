@@ -246,7 +246,7 @@ pub fn find_nearest(
 pub fn guess_after(f: &[f32], n: usize, guess: f32) -> f32
     requires { ⌜ (n ≤ 4096) × (n + 10 ≤ length (now f)) ⌝ }
 {
-    let next = f[n + 9] * 1.25;
+    let next = f[n + 9] * 1.15;
     let most = guess * 1.2;
     if next > most {
         return most;

@@ -1,18 +1,18 @@
--- Where nothing is found: around a point whose near points lie in too small a spread (`small-nothing`) or no two of which make a seed with it (`all-fruitless-nothing`), with a second point that is too near (`near-nothing`),
+-- Where nothing is found: around a point whose near points lie in too small a spread (`small-nothing`), with a second point that is too near (`near-nothing`),
 -- at a radius that is hopeless (`hopeless-nothing`), and in a cloud that is flat (`flat-nothing`). Assumes nothing.
 use Prim.Native.Nat.{ℕ, zero, suc, _+_, _≤_, _<_}
 use mathlib.Core.Path.{_≡_, refl, sym, ap, _∙_, subst}
-use mathlib.Core.Logic.{_⊎_, inl, inr, ⊎-elim}
+use mathlib.Core.Logic.{_⊎_, ⊎-elim}
 use mathlib.Core.Bool.{Bool, true, false, cond, not, _&&_}
 use mathlib.Core.List.{List, [], _∷_}
-use mathlib.Core.Option.{Option, none, some}
+use mathlib.Core.Option.{Option, none}
 use native.Mathlib.Nat.{min-le-left}
 use native.Mathlib.Omega.{arith}
-use lib.Dec.{eqb, ltb}
+use lib.Dec.{eqb}
 use lib.ListN.{length, take, drop, getD, length-take}
 use lib.Seq.{getD-take, getD-drop}
 use lib.Ieee.{Float, lt}
-use borrow.Author.Tests.{ltb-true, ltb-false, eq-eqb, eqb-true}
+use borrow.Author.Tests.{eq-eqb, eqb-true}
 use Rattle.vector.specs.Vector.{squared}
 use Rattle.vector.specs.declared.Point3f.{Point3f}
 use Rattle.points.specs.Points.{pointAt}
@@ -38,7 +38,7 @@ use Rattle.nearby.proofs.Laws.{chosen, passed}
 use Rattle.nearby.proofs.Narrowing.{out-of-reach, in-reach, in-unused}
 use Rattle.seed.specs.Found.{withSecond, withFirst}
 use Rattle.seed.specs.Flat.{Flat}
-use Rattle.seed.specs.Spread.{spread, tooSmall, Fruitless, AllFruitless, Spans, Judged, Listing}
+use Rattle.seed.specs.Spread.{spread, tooSmall, Fruitless, Spans, Judged, Listing}
 use Rattle.seed.proofs.Laws.{orElse, third-miss, third-end, second-step, second-end, first-tried, first-used, first-spent, first-end}
 use Rattle.seed.proofs.LeftOut.{finite-point, second-out, third-out}
 use Rattle.seed.proofs.Spread.{in-either, spread-accepts}
@@ -203,32 +203,6 @@ listed-place s w c k h =
     let r = place-of k (listed s w c) h in
     let z : r .0 < c = omega (arith, r .1 .0, length-take c (drop (neighborsAt (s .n)) w), min-le-left c (length (drop (neighborsAt (s .n)) w))) in
     (r .0, (z, sym (getD-take c (drop (neighborsAt (s .n)) w) (r .0) 0 z ∙ getD-drop (neighborsAt (s .n)) w (r .0) 0) ∙ r .1 .1))
-
-same-third : (s : Scene) (pts : List Float) (r : Float) (used : List ℕ) (i j k : ℕ) → j ≡ k → isThird (floatsOf s pts) r used i j k ≡ false
-unfolding isThird
-same-third s pts r used i j k e = rw (eq-eqb j k e) (and-false (not (eqb i k)))
-
-pub all-fruitless-nothing : {s : Scene} {pts : List Float} {r : Float} {c i : ℕ} (used w : List ℕ) → AllFruitless s pts r w (neighborsAt (s .n)) c i
-    → secondOf (floatsOf s pts) r used i (listed s w c) (listed s w c) ≡ none
-all-fruitless-nothing {s} {pts} {r} {c} {i} used w h = second-nothing (floatsOf s pts) r used i (listed s w c) (listed s w c) (λ j hj second k hk. two j k second (listed-place s w c j hj) (listed-place s w c k hk))
-  where
-    pair : (a d : ℕ) → a < c → d < c → isSecond (floatsOf s pts) r used i (getD w (neighborsAt (s .n) + a) 0) ≡ true → isThird (floatsOf s pts) r used i (getD w (neighborsAt (s .n) + a) 0) (getD w (neighborsAt (s .n) + d) 0) ≡ false
-    pair a d ha hd second =
-        let close = close-second s pts r used i (getD w (neighborsAt (s .n) + a) 0) second in
-        ⊎-elim (λ (t : ltb a d ≡ true). completes-third s pts r used i (getD w (neighborsAt (s .n) + a) 0) (getD w (neighborsAt (s .n) + d) 0) (h a ha d (let z = ltb-true a d t in omega arith) hd .forward close))
-        (λ (t : ltb a d ≡ false). ⊎-elim (λ (u : ltb d a ≡ true). completes-third s pts r used i (getD w (neighborsAt (s .n) + a) 0) (getD w (neighborsAt (s .n) + d) 0) (h d hd a (let z = ltb-true d a u in omega arith) ha .backward close))
-        (λ (u : ltb d a ≡ false).
-        let z : a ≡ d = omega (arith, ltb-false a d t, ltb-false d a u) in
-        same-third s pts r used i (getD w (neighborsAt (s .n) + a) 0) (getD w (neighborsAt (s .n) + d) 0) (ap (λ (m : ℕ). getD w (neighborsAt (s .n) + m) 0) z))
-        (either (ltb d a)))
-        (either (ltb a d))
-
-    two : (j k : ℕ) → isSecond (floatsOf s pts) r used i j ≡ true → (m : ℕ) × ((m < c) × (getD w (neighborsAt (s .n) + m) 0 ≡ j)) → (m : ℕ) × ((m < c) × (getD w (neighborsAt (s .n) + m) 0 ≡ k)) → isThird (floatsOf s pts) r used i j k ≡ false
-    two j k second x y =
-        let e = x .1 .1 in
-        subst (λ (z : ℕ). isThird (floatsOf s pts) r used i j z ≡ false) (y .1 .1)
-        (subst (λ (z : ℕ). isThird (floatsOf s pts) r used i z (getD w (neighborsAt (s .n) + y .0) 0) ≡ false) e
-        (pair (x .0) (y .0) (x .1 .0) (y .1 .0) (subst (λ (z : ℕ). isSecond (floatsOf s pts) r used i z ≡ true) (sym e) second)))
 
 -- ---- what is left of the listed points is among them
 

@@ -1,10 +1,9 @@
 -- How far points spread around a point, and what the search for a seed knows of areas and limits. Definitions only.
-use Prim.Native.Nat.{ℕ, _+_, _≤_, _<_}
+use Prim.Native.Nat.{ℕ, _≤_, _<_}
 use mathlib.Core.Path.{_≡_}
 use mathlib.Core.Bool.{Bool, true, false}
 use mathlib.Core.List.{List, [], _∷_}
 use lib.Dec.{eqb}
-use lib.ListN.{getD}
 use lib.Ieee.{Float, lt}
 use Rattle.numbers.specs.Rounded.{f32}
 use Rattle.vector.specs.Vector.{point, difference}
@@ -38,14 +37,6 @@ tooSmall s v w = lt (areaBound v w) (s .«min_triangle_area»)
 pub record Fruitless (s : Scene) (pts : List Float) (r : Float) (i j k : ℕ) : Type 0 where
   pub forward : isClose pts r i j ≡ true → completes s pts r i j k ≡ false
   pub backward : isClose pts r i k ≡ true → completes s pts r i k j ≡ false
-
--- point j makes none with point i and those that stand in w from `at` on, the first `from` left out
-abbrev pub FruitlessAfter : Scene → List Float → Float → List ℕ → ℕ → ℕ → ℕ → ℕ → ℕ → Type 0
-FruitlessAfter s pts r w at count i j from = (m : ℕ) → from ≤ m → m < count → Fruitless s pts r i j (getD w (at + m) 0)
-
--- no two that stand there make one with point i
-abbrev pub AllFruitless : Scene → List Float → Float → List ℕ → ℕ → ℕ → ℕ → Type 0
-AllFruitless s pts r w at count i = (m : ℕ) → m < count → FruitlessAfter s pts r w at count i (getD w (at + m) 0) (m + 1)
 
 -- v is the spread, around point i, of points of the cloud that ks are among
 pub record Spans (s : Scene) (pts : List Float) (i : ℕ) (ks : List ℕ) (v : Point3f) : Type 0 where

@@ -140,26 +140,6 @@ fn find_second(
     Seed::Nothing
 }
 
-// The same, but without a look at each triangle in turn where each pair of points is known to make none.
-fn find_unless_fruitless(
-    s: Scene,
-    points: &[f32],
-    w: &[u32],
-    count: usize,
-    radius: f32,
-    limits: Limits,
-    wide: Point3f,
-    i: usize,
-) -> Seed
-    requires { ⌜ Held s (now points) (now w) × Listed s (now w) count × (i < s .n) × Judged s (now points) radius limits × Spans s (now points) i (listed s (now w) count) wide ⌝ }
-    ensures { λ r. ⌜ r ≡ seedFound (secondOf (floatsOf s (now (points .entry))) radius (usedIn s (now (w .entry))) i (listed s (now (w .entry)) count) (listed s (now (w .entry)) count)) ⌝ }
-{
-    if crate::areas::are_all_fruitless(s, points, w, count, radius, limits, i) {
-        return Seed::Nothing;
-    }
-    find_second(s, points, w, count, radius, limits, wide, i)
-}
-
 // What the unused point i gives as the first one, the points near it being listed.
 fn try_listed(
     s: Scene,
@@ -179,7 +159,7 @@ fn try_listed(
         return Seed::Nothing;
     }
     let count = nearby::narrow(s, points, w, f, found);
-    find_unless_fruitless(s, points, w, count, radius, limits, wide, i)
+    find_second(s, points, w, count, radius, limits, wide, i)
 }
 
 // What the unused point i gives as the first one.

@@ -16,7 +16,7 @@ use Rattle.patch.proofs.Counts.{either}
 use Rattle.spatial_hash.specs.declared.Hash.{Hash}
 use Rattle.spatial_hash.specs.Buckets.{rowFor, placeFor, bucketOf, bucketAt, buckets, linksOf, isOut, bucketIn, Chained}
 use Rattle.spatial_hash.specs.Order.{Laid}
-use Rattle.spatial_hash.specs.Near.{Empty, Ready, Sound, Heading, HashedAll}
+use Rattle.spatial_hash.specs.Near.{Empty, Heading, HashedAll}
 use Rattle.spatial_hash.proofs.Sizes.{joined-below}
 use Rattle.spatial_hash.proofs.Chains.{last-le, chained-start, chained-step}
 use Rattle.spatial_hash.proofs.Inside.{link-in, bucket-in}

@@ -15,7 +15,7 @@ use Rattle.points.specs.Points.{pointAt}
 use Rattle.patch.specs.Count.{bit, count}
 use Rattle.patch.proofs.Counts.{either}
 use Rattle.spatial_hash.specs.declared.Hash.{Hash}
-use Rattle.spatial_hash.specs.Buckets.{rowFor, placeFor, bucketOf, bucketAt, buckets, bucketIn, linksOf, isOut, chain}
+use Rattle.spatial_hash.specs.Buckets.{rowFor, placeFor, bucketOf, bucketIn, linksOf, isOut, chain}
 use Rattle.spatial_hash.specs.Order.{reads, startOf, partOf, Laid}
 use Rattle.spatial_hash.specs.Leave.{Leaving, Left}
 use Rattle.spatial_hash.specs.Near.{Linked, Removed}
@@ -23,7 +23,7 @@ use Rattle.spatial_hash.proofs.Inside.{link-out, link-same, bucket-in, 
 use Rattle.spatial_hash.proofs.Chains.{chain-has, chain-same, chain-without, without, without-hit, without-miss}
 use Rattle.spatial_hash.proofs.Words.{reads-same, reads-cons}
 use Rattle.spatial_hash.proofs.Ordering.{in-front, row-goes}
-use Rattle.spatial_hash.proofs.Heads.{row-below, place-below, bucket-below}
+use Rattle.spatial_hash.proofs.Heads.{row-below, place-below}
 use Rattle.spatial_hash.proofs.Residues.{joined-apart}
 use Rattle.spatial_hash.proofs.Sizes.{joined-below}
 use Rattle.spatial_hash.proofs.Kept.{ready-same, part-same, laid-same}

@@ -9,7 +9,7 @@ mod order;
 mod walk;
 
 use vector::Point3f;
-ghost use Prim.Native.Nat.{_*_, _≤_, _<_};
+ghost use Prim.Native.Nat.{_*_, _<_};
 ghost use Rattle.spatial_hash.specs.Leave.{Leaving, Left};
 ghost use Rattle.spatial_hash.specs.Near.{Finite, Limit, Covers, Ready, Linked, Gathered, Built, Removed};
 

@@ -10,13 +10,6 @@ use Rattle.spatial_hash.proofs.Removing.{removed-before, leaving, remov
 use borrow.Author.Needs.{needs}
 use Rattle.spatial_hash.proofs.remove.Statement.{statement}
 use Rattle.spatial_hash.proofs.remove.Tie as tie
-use Rattle.spatial_hash.proofs.remove.Reads as reads
-use Rattle.spatial_hash.proofs.remove.Lts as lts
-use Rattle.points.proofs.point_at.Reads as point-at-reads
-use Rattle.spatial_hash.proofs.cells.place_in_row.Reads as place-in-row-reads
-use Rattle.spatial_hash.proofs.cells.row_of.Reads as row-of-reads
-use Rattle.spatial_hash.proofs.leave.is_out.Reads as is-out-reads
-use Rattle.spatial_hash.proofs.leave_row.Reads as leave-row-reads
 
 is-out-requires : tie.Need-is-out-requires
 is-out-requires c κs = search needs

@@ -28,8 +28,8 @@ returns c =
 narrow-requires : tie.Need-narrow-requires
 narrow-requires c κs = let a = c .before .before .before .before .before .before .before in (a .pre .0, a .pre .1, collected-listed (a .pre .0 .work-long) (a .pre .2 .collected))
 
-find-unless-fruitless-requires : tie.Need-find-unless-fruitless-requires
-find-unless-fruitless-requires c κs =
+find-second-requires : tie.Need-find-second-requires
+find-second-requires c κs =
     let a = c .before .before .before .before .before .before .before .before .before .before .before in
     let n = c .before .before .before .narrow in
     let h = held-kept (n .last .1 .1 .0) (a .pre .0) (n .kept .1 .1 .0) in
@@ -42,7 +42,7 @@ returns-2 : tie.Need-returns-2
 returns-2 c =
     let a = c .before .before .before .before .before .before .before .before .before .before .before .before in
     let n = c .before .before .before .before .narrow in (
-      c .find-unless-fruitless .ensures
+      c .find-second .ensures
           ∙ ap seedFound (with-first (a .args .s) (a .args .points .now) (a .args .radius) (a .args .w .now) (n .last .1 .1 .0) (n .result) (a .args .i) (pointAt (a .args .points .now) (a .args .i)) refl (a .pre .3) (a .pre .4 .numbers) (sought refl (a .pre .2 .filters) (a .pre .2 .collected) (n .ensures))),
       n .ensures .kept,
     )
@@ -56,6 +56,6 @@ try-listed-spec =
     same-length
     returns
     narrow-requires
-    find-unless-fruitless-requires
+    find-second-requires
     same-length-2
     returns-2)

@@ -7,10 +7,6 @@ use native.Mathlib.Omega.{arith}
 use borrow.Author.Needs.{needs}
 use Rattle.spatial_hash.proofs.cells.bucket_of.Statement.{statement}
 use Rattle.spatial_hash.proofs.cells.bucket_of.Tie as tie
-use Rattle.spatial_hash.proofs.cells.bucket_of.Reads as reads
-use Rattle.spatial_hash.proofs.cells.bucket_of.Lts as lts
-use Rattle.spatial_hash.proofs.cells.place_in_row.Reads as place-in-row-reads
-use Rattle.spatial_hash.proofs.cells.row_of.Reads as row-of-reads
 
 row-of-requires : tie.Need-row-of-requires
 row-of-requires c κs = search needs

@@ -1,12 +1,8 @@
 -- `spatial_hash::cells::place_in_row` meets its contract. Assumes nothing.
 use Rattle.spatial_hash.specs.Buckets.{placeFor}
-use native.Mathlib.Omega.{arith}
 use borrow.Author.Needs.{needs}
 use Rattle.spatial_hash.proofs.cells.place_in_row.Statement.{statement}
 use Rattle.spatial_hash.proofs.cells.place_in_row.Tie as tie
-use Rattle.spatial_hash.proofs.cells.place_in_row.Reads as reads
-use Rattle.spatial_hash.proofs.cells.place_in_row.Lts as lts
-use Rattle.spatial_hash.proofs.cells.residue.Reads as residue-reads
 
 residue-requires : tie.Need-residue-requires
 residue-requires c κs = search needs

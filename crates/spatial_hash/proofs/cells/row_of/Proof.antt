@@ -5,9 +5,6 @@ use native.Mathlib.Omega.{arith}
 use borrow.Author.Needs.{needs}
 use Rattle.spatial_hash.proofs.cells.row_of.Statement.{statement}
 use Rattle.spatial_hash.proofs.cells.row_of.Tie as tie
-use Rattle.spatial_hash.proofs.cells.row_of.Reads as reads
-use Rattle.spatial_hash.proofs.cells.row_of.Lts as lts
-use Rattle.spatial_hash.proofs.cells.residue.Reads as residue-reads
 
 residue-requires : tie.Need-residue-requires
 residue-requires c κs = search needs

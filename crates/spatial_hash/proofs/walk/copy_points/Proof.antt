@@ -1,12 +1,9 @@
 -- `spatial_hash::walk::copy_points` meets its contract. Assumes nothing.
 use Prim.Native.Nat.{_-_}
 use Rattle.spatial_hash.proofs.Runs.{Copying, copying-start, copying-step, copying-end}
-use native.Mathlib.Omega.{arith}
 use borrow.Author.Needs.{needs}
 use Rattle.spatial_hash.proofs.walk.copy_points.Statement.{statement}
 use Rattle.spatial_hash.proofs.walk.copy_points.Tie as tie
-use Rattle.spatial_hash.proofs.walk.copy_points.Reads as reads
-use Rattle.spatial_hash.proofs.walk.copy_points.Lts as lts
 
 abbrev Inv-loop : tie.InvT-loop
 Inv-loop w₀ n from to count total₀ i₀ w total i = Copying n w₀ from to count w total i

@@ -4,9 +4,6 @@ use Rattle.spatial_hash.proofs.Runs.{one-room, one-appended, first-room
 use borrow.Author.Needs.{needs}
 use Rattle.spatial_hash.proofs.walk.visit_row.Statement.{statement}
 use Rattle.spatial_hash.proofs.walk.visit_row.Tie as tie
-use Rattle.spatial_hash.proofs.walk.visit_row.Reads as reads
-use Rattle.spatial_hash.proofs.walk.visit_row.Lts as lts
-use Rattle.spatial_hash.proofs.walk.visit_run.Reads as visit-run-reads
 
 add-end : tie.Need-add-end
 add-end c = search needs

@@ -1,16 +1,13 @@
 -- `spatial_hash::walk::visit_run` meets its contract. Assumes nothing.
-use Prim.Native.Nat.{_+_, _*_, _≤_, _<_}
+use Prim.Native.Nat.{_+_, _*_, _<_}
 use mathlib.Core.Path.{subst}
 use Rattle.spatial_hash.specs.Buckets.{Appended}
-use Rattle.spatial_hash.proofs.Sizes.{square-few, rows-few, joined-below}
+use Rattle.spatial_hash.proofs.Sizes.{joined-below}
 use Rattle.spatial_hash.proofs.Runs.{start-most, run-goes, run-is, run-room}
 use native.Mathlib.Omega.{arith}
 use borrow.Author.Needs.{needs}
 use Rattle.spatial_hash.proofs.walk.visit_run.Statement.{statement}
 use Rattle.spatial_hash.proofs.walk.visit_run.Tie as tie
-use Rattle.spatial_hash.proofs.walk.visit_run.Reads as reads
-use Rattle.spatial_hash.proofs.walk.visit_run.Lts as lts
-use Rattle.spatial_hash.proofs.walk.copy_points.Reads as copy-points-reads
 
 -- the run's last word is one of the hash's
 last-word : (s : tie.Start) → s .args .at * (s .args .hash .side + 1) + s .args .end < 6 * s .args .n + 64
