@@ -15,12 +15,12 @@ use Rattle.numbers.proofs.SumOrder.{add-unsigned, sub-number}
 use Rattle.numbers.proofs.ProductOrder.{mul-number, mul-monotone, mul-commutative, square-turned}
 use Rattle.numbers.proofs.Bounded.{Bounded, bounded-above, neg-neg, add-bounded, sub-bounded, mul-bounded, mul-unsigned, add-finite, mul-finite}
 use Rattle.numbers.proofs.Maximum.{maximum-left, maximum-right, maximum-unsigned}
-use Rattle.vector.specs.Vector.{point, difference, magnitudeSquared, magnitude, cross}
+use Rattle.vector.specs.Vector.{Finite, point, difference, magnitudeSquared, magnitude, cross}
 use Rattle.quality.specs.Measures.{half}
 use Rattle.triangle.specs.Quality.{area}
 use Rattle.area_bounds.specs.AreaBound.{wider, widen, crossBound, areaBound, crossSquared, AreaLimit, TooLong, LargeLimit}
 use Rattle.vector.specs.declared.Point3f.{Point3f}
-use Rattle.vector.proofs.Distances.{FinitePoint, magnitude-nonnegative}
+use Rattle.vector.proofs.Distances.{magnitude-nonnegative}
 
 -- v bounds d on each axis
 pub record Bounds (d v : Point3f) : Type 0 where
@@ -75,10 +75,10 @@ squares-finite v f =
     let k = add-finite (v .x ⊗ v .x) (v .y ⊗ v .y) (g .0) in
     (k .0, k .1, g .1)
 
-parts-finite : (v : Point3f) → T (finite (magnitudeSquared v)) → FinitePoint v
+parts-finite : (v : Point3f) → T (finite (magnitudeSquared v)) → Finite v
 parts-finite v f =
     let g = squares-finite v f in
-    record { finite-x = mul-finite (v .x) (v .x) (g .0) .0; finite-y = mul-finite (v .y) (v .y) (g .1) .0; finite-z = mul-finite (v .z) (v .z) (g .2) .0 }
+    record { x-finite = mul-finite (v .x) (v .x) (g .0) .0; y-finite = mul-finite (v .y) (v .y) (g .1) .0; z-finite = mul-finite (v .z) (v .z) (g .2) .0 }
 
 magnitude-bounded : (d v : Point3f) → Unsigned v → Bounds d v → T (finite (magnitudeSquared v)) → T (le (magnitudeSquared d) (magnitudeSquared v))
 unfolding magnitudeSquared
@@ -109,21 +109,21 @@ module _ (a b c d i j k l : Float) (f : T (finite (i ⊗ j ⊕ k ⊗ l))) (I : T
       let t = mul-finite k l (g .1) in
       add-unsigned (i ⊗ j) (k ⊗ l) (mul-unsigned i j (s .0) (s .1) I J) (mul-unsigned k l (t .0) (t .1) K L)
 
-module _ (d e v w : Point3f) (k : Unsigned v) (l : Unsigned w) (f : FinitePoint (crossBound v w)) where
+module _ (d e v w : Point3f) (k : Unsigned v) (l : Unsigned w) (f : Finite (crossBound v w)) where
   cross-unsigned : Unsigned (crossBound v w)
   unfolding crossBound
   cross-unsigned = record {
-    unsigned-x = axis-unsigned (d .y) (e .z) (d .z) (e .y) (v .y) (w .z) (v .z) (w .y) (f .finite-x) (k .unsigned-y) (l .unsigned-z) (k .unsigned-z) (l .unsigned-y);
-    unsigned-y = axis-unsigned (d .z) (e .x) (d .x) (e .z) (v .z) (w .x) (v .x) (w .z) (f .finite-y) (k .unsigned-z) (l .unsigned-x) (k .unsigned-x) (l .unsigned-z);
-    unsigned-z = axis-unsigned (d .x) (e .y) (d .y) (e .x) (v .x) (w .y) (v .y) (w .x) (f .finite-z) (k .unsigned-x) (l .unsigned-y) (k .unsigned-y) (l .unsigned-x);
+    unsigned-x = axis-unsigned (d .y) (e .z) (d .z) (e .y) (v .y) (w .z) (v .z) (w .y) (f .x-finite) (k .unsigned-y) (l .unsigned-z) (k .unsigned-z) (l .unsigned-y);
+    unsigned-y = axis-unsigned (d .z) (e .x) (d .x) (e .z) (v .z) (w .x) (v .x) (w .z) (f .y-finite) (k .unsigned-z) (l .unsigned-x) (k .unsigned-x) (l .unsigned-z);
+    unsigned-z = axis-unsigned (d .x) (e .y) (d .y) (e .x) (v .x) (w .y) (v .y) (w .x) (f .z-finite) (k .unsigned-x) (l .unsigned-y) (k .unsigned-y) (l .unsigned-x);
   }
 
   cross-bounds : Bounds d v → Bounds e w → Bounds (cross d e) (crossBound v w)
   unfolding cross crossBound
   cross-bounds b c = record {
-    bounded-x = axis-bounded (d .y) (e .z) (d .z) (e .y) (v .y) (w .z) (v .z) (w .y) (f .finite-x) (k .unsigned-y) (l .unsigned-z) (k .unsigned-z) (l .unsigned-y) (b .bounded-y) (c .bounded-z) (b .bounded-z) (c .bounded-y);
-    bounded-y = axis-bounded (d .z) (e .x) (d .x) (e .z) (v .z) (w .x) (v .x) (w .z) (f .finite-y) (k .unsigned-z) (l .unsigned-x) (k .unsigned-x) (l .unsigned-z) (b .bounded-z) (c .bounded-x) (b .bounded-x) (c .bounded-z);
-    bounded-z = axis-bounded (d .x) (e .y) (d .y) (e .x) (v .x) (w .y) (v .y) (w .x) (f .finite-z) (k .unsigned-x) (l .unsigned-y) (k .unsigned-y) (l .unsigned-x) (b .bounded-x) (c .bounded-y) (b .bounded-y) (c .bounded-x);
+    bounded-x = axis-bounded (d .y) (e .z) (d .z) (e .y) (v .y) (w .z) (v .z) (w .y) (f .x-finite) (k .unsigned-y) (l .unsigned-z) (k .unsigned-z) (l .unsigned-y) (b .bounded-y) (c .bounded-z) (b .bounded-z) (c .bounded-y);
+    bounded-y = axis-bounded (d .z) (e .x) (d .x) (e .z) (v .z) (w .x) (v .x) (w .z) (f .y-finite) (k .unsigned-z) (l .unsigned-x) (k .unsigned-x) (l .unsigned-z) (b .bounded-z) (c .bounded-x) (b .bounded-x) (c .bounded-z);
+    bounded-z = axis-bounded (d .x) (e .y) (d .y) (e .x) (v .x) (w .y) (v .y) (w .x) (f .z-finite) (k .unsigned-x) (l .unsigned-y) (k .unsigned-y) (l .unsigned-x) (b .bounded-x) (c .bounded-y) (b .bounded-y) (c .bounded-x);
   }
 
 -- ---- the area
@@ -222,12 +222,12 @@ module _ (w d : Point3f) (u : Unsigned w) where
   }
 
 -- and a difference of finite points is bounded
-pub widen-bounds : (w p q : Point3f) → Unsigned w → FinitePoint p → FinitePoint q → Bounds (difference p q) (widen w (difference p q))
+pub widen-bounds : (w p q : Point3f) → Unsigned w → Finite p → Finite q → Bounds (difference p q) (widen w (difference p q))
 unfolding widen difference
 widen-bounds w p q u f g = record {
-  bounded-x = wider-bounds (w .x) (p .x ⊖ q .x) (u .unsigned-x) (sub-number (p .x) (q .x) (f .finite-x) (g .finite-x));
-  bounded-y = wider-bounds (w .y) (p .y ⊖ q .y) (u .unsigned-y) (sub-number (p .y) (q .y) (f .finite-y) (g .finite-y));
-  bounded-z = wider-bounds (w .z) (p .z ⊖ q .z) (u .unsigned-z) (sub-number (p .z) (q .z) (f .finite-z) (g .finite-z));
+  bounded-x = wider-bounds (w .x) (p .x ⊖ q .x) (u .unsigned-x) (sub-number (p .x) (q .x) (f .x-finite) (g .x-finite));
+  bounded-y = wider-bounds (w .y) (p .y ⊖ q .y) (u .unsigned-y) (sub-number (p .y) (q .y) (f .y-finite) (g .y-finite));
+  bounded-z = wider-bounds (w .z) (p .z ⊖ q .z) (u .unsigned-z) (sub-number (p .z) (q .z) (f .z-finite) (g .z-finite));
 }
 
 pub zero-unsigned : Unsigned (point (f32 0) (f32 0) (f32 0))

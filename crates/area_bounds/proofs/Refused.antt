@@ -1,7 +1,7 @@
 -- Triangles that are not acceptable: one whose area is below the least (`small-refused`), one with finite edges that are `TooLong` for its area (`large-refused`), and any with finite edges where those of the least area are (`long-refused`).
 -- What is too long for an area is for a larger one, so that one test gives a limit (`large-limit-is`).
 -- That the edges are finite follows from their being near each other (`near-finite`, `area-number`). Assumes nothing.
-use mathlib.Core.Path.{_≡_, refl, sym, subst}
+use mathlib.Core.Path.{_≡_, refl, subst}
 use mathlib.Core.Bool.{Bool, true, false, not, cond}
 use lib.Dec.{T, not-T}
 use lib.Ieee.{Float, nan, inf, fin, binary32, lt, le, fits, isNan, ofBits}
@@ -11,19 +11,19 @@ use lib.Ieee.Scale.{finite}
 use Rattle.numbers.specs.Rounded.{f32, _⊖_, _⊗_, _⊘_}
 use Rattle.numbers.specs.Root.{root}
 use Rattle.numbers.specs.Order.{minimum, maximum}
-use Rattle.numbers.proofs.OrderLaws.{le-left, le-right, le-refl, lt-le, le-not-lt, not-lt-le, le-top, le-trans, lt-le-trans, le-lt-trans, finite-number, unsigned, unsigned-number, unsigned-le}
+use Rattle.numbers.proofs.OrderLaws.{le-left, le-right, le-refl, lt-le, le-not-lt, not-lt-le, le-trans, lt-le-trans, le-lt-trans, finite-number, unsigned-le}
 use Rattle.numbers.proofs.RootMonotone.{root-monotone, root-above}
 use Rattle.numbers.proofs.SumOrder.{sub-number}
 use Rattle.numbers.proofs.Bounded.{root-finite, product-finite}
 use Rattle.numbers.proofs.Minimum.{minimum-le}
 use Rattle.numbers.proofs.Maximum.{maximum-right, minimum-finite, maximum-finite}
 use Rattle.numbers.proofs.AtLeastOne.{ratio-above, mul-above}
-use Rattle.vector.specs.Vector.{difference, magnitudeSquared, magnitude, cross, squared, distance}
+use Rattle.vector.specs.Vector.{Finite, difference, magnitudeSquared, magnitude, cross, squared, distance}
 use Rattle.quality.specs.Measures.{half, one, tiny, least, largest, edgeRatio, measures, degenerate}
 use Rattle.triangle.specs.Quality.{area, circumradius, quality, acceptable}
 use Rattle.area_bounds.specs.AreaBound.{TooLong, LargeLimit}
 use Rattle.vector.specs.declared.Point3f.{Point3f}
-use Rattle.vector.proofs.Distances.{FinitePoint, squared-fits, squared-unsigned, magnitude-unsigned}
+use Rattle.vector.proofs.Distances.{squared-fits, squared-unsigned, magnitude-unsigned}
 use Rattle.area_bounds.proofs.AreaBound.{half-root-monotone, squares-finite, halved-number, magnitude-fits}
 
 -- ---- too small
@@ -141,7 +141,7 @@ between-finite (inf true) z h = z
 between-finite (inf false) z h = h
 between-finite (fin s m e) z h = tt
 
-pub near-finite : (p q : Point3f) (r : Float) → FinitePoint p → FinitePoint q → T (lt r (inf false)) → T (not (lt r (distance p q))) → T (finite (distance p q))
+pub near-finite : (p q : Point3f) (r : Float) → Finite p → Finite q → T (lt r (inf false)) → T (not (lt r (distance p q))) → T (finite (distance p q))
 unfolding distance
 near-finite p q r f g h k =
     let z = root-nonnegative (squared p q) (squared-fits p q) (unsigned-le (squared p q) (squared-unsigned p q f g)) in

@@ -14,7 +14,7 @@ use Rattle.settings.specs.declared.BallPivotingConfig.{BallPivotingConfig}
 use Rattle.domain.specs.declared.Refusal.{Refusal}
 use Rattle.domain.proofs.Accepted.{cloud-finite, accepted-reconstruct}
 use Rattle.points.specs.Points.{pointAt}
-use Rattle.spatial_hash.specs.Near.{Finite}
+use Rattle.vector.specs.Vector.{Finite}
 use Rattle.patch.specs.Shape.{Shape}
 use Rattle.ball_pivoting.specs.Reconstruct.{radiiOf, laidOf, found, refused, delivered, reconstructed, swept, facesAfter}
 use Rattle.ball_pivoting.specs.Outcome.{Reconstructs}

@@ -5,7 +5,7 @@ use mathlib.Core.List.{List}
 use lib.ListN.{length}
 use lib.Ieee.{Float}
 use Rattle.points.specs.Points.{pointAt}
-use Rattle.spatial_hash.specs.Near.{Finite}
+use Rattle.vector.specs.Vector.{Finite}
 use Rattle.settings.specs.declared.BallPivotingConfig.{BallPivotingConfig}
 use Rattle.patch.specs.View.{written}
 use Rattle.radii.specs.Steps.{Listed}

@@ -12,14 +12,15 @@ use lib.Ieee.{Float, inf, lt, le}
 use Rattle.numbers.specs.Root.{root}
 use Rattle.numbers.proofs.OrderLaws.{unsigned-number, le-top}
 use Rattle.vector.specs.declared.Point3f.{Point3f}
-use Rattle.vector.specs.Vector.{squared, distance}
+use Rattle.vector.specs.Vector.{squared, distance, Finite}
 use Rattle.points.specs.Points.{pointAt, upFrom}
 use Rattle.sorting.proofs.Insertion.{part-length, part-at}
 use Rattle.patch.specs.Count.{count}
 use Rattle.patch.specs.Search.{Below}
-use Rattle.spatial_hash.specs.declared.Bounds.{Bounds}
+use Rattle.bounds.specs.declared.Bounds.{Bounds}
 use Rattle.spatial_hash.specs.declared.Hash.{Hash}
-use Rattle.spatial_hash.specs.Near.{Finite, Covers, Gathered, HashedAll}
+use Rattle.bounds.specs.Within.{Covers}
+use Rattle.spatial_hash.specs.Near.{Gathered, HashedAll}
 use Rattle.spatial_hash.proofs.Kept.{hashed-all-behind}
 use Rattle.spatial_hash.proofs.Nearby.{gathered-all, near-gathered, up-in}
 use Rattle.estimate.specs.Estimate.{nearer, nearestFrom, leastDistance}

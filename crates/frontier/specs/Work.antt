@@ -121,9 +121,13 @@ pub record Pushed (n count : ℕ) (words w u : List ℕ) : Type 0 where
   pub entries : entriesIn n (count + length words) u ≡ entriesIn n count w ++ words
   pub only : OnlyIn (frontierAt n) (frontierEnd n) w u
 
--- the words of a face's edges, in the order in which they are pushed, `mark` being above the first
+-- the word of an edge with a mark above it
+abbrev pub wordOf : ℕ → Edge → ℕ
+wordOf mark e = encode e + mark
+
+-- the words of a face's edges, in the order in which they are pushed, the first with a mark above it and the others with none
 abbrev pub wordsOf : ℕ → Face → List ℕ
-wordsOf mark f = (encode (edge (f .a) (f .b)) + mark) ∷ (encode (edge (f .b) (f .c)) + 0) ∷ (encode (edge (f .c) (f .a)) + 0) ∷ []
+wordsOf mark f = wordOf mark (edge (f .a) (f .b)) ∷ wordOf 0 (edge (f .b) (f .c)) ∷ wordOf 0 (edge (f .c) (f .a)) ∷ []
 
 pub record Marked (n : ℕ) (ks w u : List ℕ) : Type 0 where
   pub flags : usedIn n u ≡ marked (usedIn n w) ks

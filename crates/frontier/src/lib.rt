@@ -9,7 +9,7 @@ ghost use Prim.Native.Nat.{_+_, _*_, _≤_, _<_};
 ghost use Rattle.regions.specs.Regions.{usedAt, frontierAt, frontierEnd};
 ghost use Rattle.patch.specs.Lay.{edge, face, met, seeded, pivoted};
 ghost use Rattle.patch.specs.View.{encode};
-ghost use Rattle.frontier.specs.Work.{usedIn, flag, wordsOf, Takes, Begins, Clears, Pops, Tells, Open, NoneProcessed, Misses, Sized, Ready, Room, OnlyIn, Taken, Pushed, Marked, Wrote};
+ghost use Rattle.frontier.specs.Work.{usedIn, flag, wordOf, wordsOf, Takes, Begins, Clears, Pops, Tells, Open, NoneProcessed, Misses, Sized, Ready, Room, OnlyIn, Taken, Pushed, Marked, Wrote};
 
 // What an entry has above its edge if the edge is processed.
 const FLAG: u32 = 16777216;
@@ -103,7 +103,7 @@ pub fn is_processed(entry: u32) -> bool
 // The edge a, b goes to the end of the `count` entries that wait, with `mark` above it.
 fn push_edge(w: &mut [u32], n: usize, count: usize, mark: u32, a: u32, b: u32)
     requires { ⌜ Sized n (now w) × (count + 1 ≤ 3 * n) × (mark ≤ flag) × (a < 4096) × (b < 4096) ⌝ }
-    ensures { λ _. ⌜ Pushed n count ((encode (edge a b) + mark) ∷ []) (now (w .entry)) (now (w .exit)) ⌝ }
+    ensures { λ _. ⌜ Pushed n count (wordOf mark (edge a b) ∷ []) (now (w .entry)) (now (w .exit)) ⌝ }
 {
     let i = 6 * n + count;
     w[i] = a * 4096 + b + mark;

@@ -11,7 +11,7 @@ use lib.Dec.{T, eqb}
 use lib.Ieee.{Float, lt, le}
 use lib.Ieee.Bits.{is-true}
 use borrow.Author.Tests.{not-true}
-use Rattle.vector.specs.Vector.{squared, distance}
+use Rattle.vector.specs.Vector.{squared, distance, Finite}
 use Rattle.vector.specs.declared.Point3f.{Point3f}
 use Rattle.vector.proofs.Distances.{squared-fits, distance-is}
 use Rattle.points.specs.Points.{pointAt}
@@ -23,9 +23,11 @@ use Rattle.grid.specs.declared.Cell.{Cell}
 use Rattle.grid.specs.Grid.{rangeOf, orderOf}
 use Rattle.grid.specs.Index.{cellIn, Cells, Below, earlier}
 use Rattle.grid.proofs.Sequence.{insert-below, insert-alike}
-use Rattle.spatial_hash.specs.declared.Bounds.{Bounds}
+use Rattle.bounds.specs.declared.Bounds.{Bounds}
 use Rattle.spatial_hash.specs.declared.Hash.{Hash}
-use Rattle.spatial_hash.specs.Near.{Finite, Limit, between, within, Covers, Hashed, Gathered}
+use Rattle.bounds.specs.Within.{Limit, within, Covers}
+use Rattle.bounds.specs.Cover.{between}
+use Rattle.spatial_hash.specs.Near.{Hashed, Gathered}
 use Rattle.patch.specs.Count.{count}
 use Rattle.patch.specs.Search.{unused, Below as Points}
 use Rattle.patch.proofs.Counts.{either, and-both, true-not-false}

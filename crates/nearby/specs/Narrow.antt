@@ -13,8 +13,8 @@ use Rattle.grid.specs.declared.SpatialGrid.{SpatialGrid}
 use Rattle.grid.specs.declared.Cell.{Cell}
 use Rattle.grid.specs.Grid.{cellOf, inRange, rangeOf, neighbors}
 use Rattle.grid.specs.Index.{earlier}
-use Rattle.spatial_hash.specs.declared.Bounds.{Bounds}
-use Rattle.spatial_hash.specs.Near.{Limit}
+use Rattle.bounds.specs.declared.Bounds.{Bounds}
+use Rattle.bounds.specs.Within.{Limit}
 use Rattle.patch.specs.Count.{count}
 use Rattle.patch.specs.Search.{unused, Below}
 use Rattle.decisions.specs.declared.Scene.{Scene}

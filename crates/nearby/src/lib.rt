@@ -1,14 +1,15 @@
 // The points that a search has to look at: of the neighbours of a place those that are unused and near a point, or near two.
+use bounds::Bounds;
 use decisions::Scene;
 use grid::Cell;
-use spatial_hash::Bounds;
 use spatial_hash::Hash;
 use vector::Point3f;
 ghost use mathlib.Core.Path.{_≡_};
 ghost use Prim.Native.Nat.{_*_, _<_, _≤_, _+_};
 ghost use lib.ListN.{length};
 ghost use Rattle.grid.specs.Index.{Cells};
-ghost use Rattle.spatial_hash.specs.Near.{Finite, Hashed};
+ghost use Rattle.vector.specs.Vector.{Finite};
+ghost use Rattle.spatial_hash.specs.Near.{Hashed};
 ghost use Rattle.patch.specs.Search.{unused};
 ghost use Rattle.nearby.specs.Ready.{Held, Listed, usedIn};
 ghost use Rattle.nearby.specs.Narrow.{passes, larger, lesser, overlap, Filters, Collected, Narrowed};
@@ -66,7 +67,7 @@ pub fn narrow(s: Scene, points: &[f32], w: &mut [u32], f: Filter, found: usize) 
 pub fn filter_of(s: Scene, center: Point3f, place: Point3f, radius: f32) -> Filter
     ensures { λ f. ⌜ Filters s center place radius f ⌝ }
 {
-    let limit = spatial_hash::square_limit(radius);
+    let limit = bounds::square_limit(radius);
     let cell = grid::cell_of(s.grid, place);
     let range = numbers::ceil_cut(radius / s.grid.cell_size);
     Filter {
@@ -89,7 +90,7 @@ pub fn gather_near(
     requires { ⌜ Hashed hash (now points) (s .n) (now w) × Finite (f .center) ⌝ }
     ensures { λ r. ⌜ Collected s (now (points .entry)) f (f .center) (now (w .entry)) (now (w .exit)) r ⌝ }
 {
-    let bounds = spatial_hash::covering(f.center, reach, f.limit);
+    let bounds = bounds::covering(f.center, reach, f.limit);
     spatial_hash::gather(points, w, s.n, hash, bounds)
 }
 
@@ -137,7 +138,7 @@ pub fn gather_both(
     requires { ⌜ Hashed hash (now points) (s .n) (now w) × Finite (f .center) × Finite q ⌝ }
     ensures { λ r. ⌜ Collected s (now (points .entry)) f q (now (w .entry)) (now (w .exit)) r ⌝ }
 {
-    let first = spatial_hash::covering(f.center, reach, f.limit);
-    let second = spatial_hash::covering(q, reach, f.limit);
+    let first = bounds::covering(f.center, reach, f.limit);
+    let second = bounds::covering(q, reach, f.limit);
     spatial_hash::gather(points, w, s.n, hash, overlap(first, second))
 }

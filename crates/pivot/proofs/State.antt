@@ -16,7 +16,7 @@ use Rattle.points.specs.Points.{pointAt}
 use Rattle.grid.specs.declared.Cell.{Cell}
 use Rattle.grid.specs.Grid.{inRange, rangeOf, orderOf, neighbors}
 use Rattle.grid.specs.Index.{cellIn, Cells, earlier}
-use Rattle.spatial_hash.specs.Near.{Limit}
+use Rattle.bounds.specs.Within.{Limit}
 use Rattle.patch.specs.Count.{bit}
 use Rattle.patch.specs.Lay.{edge}
 use Rattle.patch.specs.Search.{scoreOf, bestOf}

@@ -1,7 +1,7 @@
 -- Faces laid one after the other into a lent slice that may be too short for them. Definitions only.
 use Prim.Native.Nat.{ℕ, _+_, _*_, _≤_, _<_}
 use mathlib.Core.Path.{_≡_}
-use mathlib.Core.List.{List, [], _∷_, _++_}
+use mathlib.Core.List.{List, _++_}
 use lib.ListN.{length, take}
 use lib.Ieee.{Float}
 use Rattle.patch.specs.Lay.{Face}

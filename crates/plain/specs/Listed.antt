@@ -9,7 +9,7 @@ use lib.Ieee.{Float, nan, binary32, fits}
 use Rattle.numbers.specs.Rounded.{f32, _⊗_}
 use Rattle.vector.specs.Vector.{distance}
 use Rattle.points.specs.Points.{pointAt, upFrom}
-use Rattle.spatial_hash.specs.Near.{Limit}
+use Rattle.bounds.specs.Within.{Limit}
 use Rattle.plain.specs.Plain.{candidate, candidates}
 use Rattle.plain.specs.Laid.{Ready}
 use Rattle.plain.specs.declared.Limits.{Limits}

@@ -36,7 +36,7 @@ fn limits_of(radius: f32) -> Limits
     let widest = radius * 1.5;
     Limits {
         reach: reach,
-        square: spatial_hash::square_limit(reach),
+        square: bounds::square_limit(reach),
         widest: widest,
         beyond: widest * 1.00001,
         low: 0.49999 / widest,

@@ -15,7 +15,7 @@ use Rattle.numbers.specs.Rounded.{f32, _⊗_}
 use Rattle.numbers.specs.Root.{root}
 use Rattle.numbers.proofs.OrderLaws.{le-refl, le-trans, le-right, lt-le, not-le-lt}
 use Rattle.vector.specs.declared.Point3f.{Point3f}
-use Rattle.vector.specs.Vector.{squared}
+use Rattle.vector.specs.Vector.{squared, Finite}
 use Rattle.points.specs.Points.{pointAt, upFrom}
 use Rattle.sorting.specs.Sorted.{sorted, All}
 use Rattle.sorting.proofs.Rising.{all-take}
@@ -28,9 +28,10 @@ use Rattle.grid.proofs.Sequence.{order-of-below}
 use Rattle.patch.specs.Count.{count, bit}
 use Rattle.patch.specs.Search as search
 use Rattle.patch.proofs.Counts.{not-true, and-both, count-mono, count-zero, count-all}
-use Rattle.spatial_hash.specs.declared.Bounds.{Bounds}
+use Rattle.bounds.specs.declared.Bounds.{Bounds}
 use Rattle.spatial_hash.specs.declared.Hash.{Hash}
-use Rattle.spatial_hash.specs.Near.{Finite, Covers, nobody, Gathers, Gathered}
+use Rattle.bounds.specs.Within.{Covers}
+use Rattle.spatial_hash.specs.Near.{nobody, Gathers, Gathered}
 use Rattle.spatial_hash.proofs.Kept.{hashed-all-behind}
 use Rattle.spatial_hash.proofs.Squares.{Good, squared-good, distance-back}
 use Rattle.spatial_hash.proofs.Nearby.{count-same, gathered-all, gathered-count, up-whole}

@@ -2,8 +2,8 @@
 use mathlib.Core.Path.{_≡_, refl, sym, ap, _∙_, subst}
 use mathlib.Core.Bool.{Bool, true, false, cond, true≢false}
 use mathlib.Core.List.{List, [], _∷_}
-use Prim.Native.Nat.{ℕ, zero, suc, _+_, _-_, _*_, _/_, _≤_, _<_, min}
-use native.Mathlib.Nat.{div-self, div-le-self, mul-pos}
+use Prim.Native.Nat.{ℕ, zero, suc, _+_, _/_, _≤_, _<_, min}
+use native.Mathlib.Nat.{div-self, mul-pos}
 use native.Mathlib.Omega.{arith}
 use borrow.Author.Tests.{eq-eqb, ne-eqb, eqb-false}
 use lib.Dec.{T, eqb, lt→ltb}
@@ -25,7 +25,7 @@ use Rattle.sorting.specs.Sorted.{insert, insertAll, sorted, All, whole}
 use Rattle.settings.specs.declared.BallPivotingConfig.{BallPivotingConfig}
 use Rattle.grid.specs.declared.SpatialGrid.{SpatialGrid}
 use Rattle.grid.specs.Index.{Indexed}
-use Rattle.spatial_hash.specs.Near.{Finite}
+use Rattle.vector.specs.Vector.{Finite}
 use Rattle.spatial_hash.proofs.Squares.{Good}
 use Rattle.radii.specs.Radii.{total, average, nearest, densitiesFrom, stepOf, sampleCount}
 use Rattle.radii.specs.Steps.{withSample}

@@ -13,13 +13,12 @@ use Rattle.numbers.specs.Rounded.{_⊕_}
 use Rattle.numbers.specs.Root.{root}
 use Rattle.numbers.proofs.OrderLaws.{lt-le, not-le-lt, le-top, unsigned-number}
 use Rattle.vector.specs.declared.Point3f.{Point3f}
-use Rattle.vector.specs.Vector.{squared}
+use Rattle.vector.specs.Vector.{squared, Finite}
 use Rattle.points.specs.Points.{pointAt, upFrom}
 use Rattle.sorting.specs.Sorted.{insert, insertAll, Rising}
 use Rattle.sorting.proofs.Insertion.{part-length, part-at}
 use Rattle.sorting.proofs.Least.{least-step, least-end}
 use Rattle.sorting.proofs.Rising.{all-at}
-use Rattle.spatial_hash.specs.Near.{Finite}
 use Rattle.spatial_hash.proofs.Squares.{Good, squared-good}
 use Rattle.radii.specs.Radii.{total}
 use Rattle.radii.specs.Squares.{within, tenthOf, squaresTo, leastSquares, withSquare}

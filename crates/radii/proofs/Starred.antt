@@ -1,8 +1,7 @@
 -- The scope's starred cases about the radii, worked out from the definitions by one theorem. Assumes nothing.
 use mathlib.Core.Path.{_≡_, refl}
-use mathlib.Core.List.{List, [], _∷_}
-use Prim.Native.Nat.{ℕ}
-use lib.Ieee.{Float, sub, lt, ofBits}
+use mathlib.Core.List.{[], _∷_}
+use lib.Ieee.{sub, lt, ofBits}
 use Rattle.numbers.specs.Rounded.{f32}
 use Rattle.radii.specs.Radii.{sampleCount, spaced, dedup}
 

@@ -16,7 +16,8 @@ ghost use Rattle.patch.specs.Search.{Below};
 ghost use Rattle.grid.specs.Index.{Indexed};
 ghost use Rattle.sorting.specs.Sorted.{Rising};
 ghost use Rattle.points.specs.Points.{pointAt};
-ghost use Rattle.spatial_hash.specs.Near.{Finite, HashedAll};
+ghost use Rattle.vector.specs.Vector.{Finite};
+ghost use Rattle.spatial_hash.specs.Near.{HashedAll};
 ghost use Rattle.radii.specs.Radii.{nearest};
 ghost use Rattle.radii.specs.Squares.{isNear, within, aroundOf, tenthOf, withSquare, leastSquares, Decided, Prepared, Looked, Found};
 
@@ -126,7 +127,7 @@ fn look_within(
     ensures { λ r. ⌜ Looked around (now (points .entry)) n i (now (w .entry)) (now (w .exit)) (now (f .entry)) (now (f .exit)) r ⌝ }
 {
     let place = points::point_at(points, i);
-    let bounds = spatial_hash::covering(place, numbers::sqrt(limit) * 1.01, limit);
+    let bounds = bounds::covering(place, numbers::sqrt(limit) * 1.01, limit);
     let found = spatial_hash::gather(points, w, n, hash, bounds);
     least_squares(points, n, around, i, limit, w, found, f)
 }

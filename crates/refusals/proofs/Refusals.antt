@@ -10,14 +10,14 @@ use lib.Ieee.Bits.{is-true}
 use lib.Ieee.Scale.{finite}
 use Rattle.numbers.specs.Rounded.{f32, _⊗_}
 use Rattle.numbers.specs.Root.{root}
-use Rattle.vector.specs.Vector.{difference, magnitude, squared, distance}
+use Rattle.vector.specs.Vector.{Finite, difference, magnitude, squared, distance}
 use Rattle.quality.specs.Measures.{half, tiny, degenerate}
 use Rattle.triangle.specs.Quality.{area, quality}
 use Rattle.quality.specs.Shape.{shapeOf}
 use Rattle.score_bounds.specs.Bound.{AspectLimit}
 use Rattle.area_bounds.specs.AreaBound.{crossSquared, areaBound}
 use Rattle.vector.specs.declared.Point3f.{Point3f}
-use Rattle.vector.proofs.Distances.{FinitePoint, squared-fits, squared-turned, distance-is, distance-turned}
+use Rattle.vector.proofs.Distances.{squared-fits, squared-turned, distance-is, distance-turned}
 use Rattle.area_bounds.proofs.AreaBound.{Bounds, Unsigned, area-bounded, area-limited, area-too-long, cross-squared-turned}
 use Rattle.area_bounds.proofs.Refused.{small-refused, large-refused, long-refused, near-finite, area-number}
 use Rattle.triangle.proofs.Quality.{quality-is}
@@ -83,7 +83,7 @@ module _ (s : Scene) (pts : List Float) (r : Float) (i j k : ℕ) where
       (area-bounded (pointAt pts i) (pointAt pts j) (pointAt pts k) v w (s .«min_triangle_area») f g b c (subst T (sym h) tt))
 
   -- the points are close to each other
-  module _ (fi : FinitePoint (pointAt pts i)) (fj : FinitePoint (pointAt pts j)) (fk : FinitePoint (pointAt pts k)) (cij : isClose pts r i j ≡ true) (cik : isClose pts r i k ≡ true) (cjk : isClose pts r j k ≡ true) where
+  module _ (fi : Finite (pointAt pts i)) (fj : Finite (pointAt pts j)) (fk : Finite (pointAt pts k)) (cij : isClose pts r i j ≡ true) (cik : isClose pts r i k ≡ true) (cjk : isClose pts r j k ≡ true) where
     edges-finite : T (lt (reach r) (inf false)) → T (finite (distance (pointAt pts j) (pointAt pts i))) × T (finite (distance (pointAt pts k) (pointAt pts j))) × T (finite (distance (pointAt pts i) (pointAt pts k)))
     unfolding isClose apart
     edges-finite b =

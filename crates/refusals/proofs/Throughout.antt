@@ -14,7 +14,7 @@ use Rattle.area_bounds.specs.AreaBound.{crossSquared}
 use Rattle.area_bounds.proofs.AreaBound.{magnitude-fits}
 use Rattle.thin.specs.Thin.{ThinUpTo}
 use Rattle.refusals.specs.declared.Limits.{Limits}
-use Rattle.refusals.specs.Refused.{Refused, small, large, thin, RefusedThroughout, each}
+use Rattle.refusals.specs.Refused.{small, large, thin, RefusedThroughout, each}
 
 -- ---- the largest of three is below none of them, not-a-numbers among them
 

@@ -9,7 +9,7 @@ use Rattle.score_bounds.specs.Bound.{AspectLimit}
 use Rattle.vector.specs.declared.Point3f.{Point3f}
 use Rattle.area_bounds.specs.AreaBound.{crossSquared, AreaLimit, TooLong, LargeLimit}
 use Rattle.thin.specs.Thin.{ThinLimit, AllThin}
-use Rattle.spatial_hash.specs.Near.{Limit}
+use Rattle.bounds.specs.Within.{Limit}
 use Rattle.decisions.specs.declared.Scene.{Scene}
 use Rattle.decisions.specs.Decisions.{reach, accepts}
 use Rattle.refusals.specs.declared.Limits.{Limits}

@@ -32,7 +32,7 @@ pub fn limits_of(s: Scene, radius: f32) -> Limits
 {
     let small = area_bounds::area_limit(least_area(s));
     let large = area_bounds::large_limit(radius, s.max_edge_factor);
-    let far = spatial_hash::square_limit(radius * 2.0);
+    let far = bounds::square_limit(radius * 2.0);
     let thin = thin::thin_limit(score_bounds::aspect_limit(s.quality_threshold));
     Limits {
         small: small,

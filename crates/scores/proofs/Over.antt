@@ -15,7 +15,7 @@ use Rattle.vector.specs.declared.Point3f.{Point3f}
 use Rattle.vector.proofs.Distances.{squared-fits}
 use Rattle.area_bounds.specs.AreaBound.{crossSquared}
 use Rattle.thin.specs.Thin.{AllThin}
-use Rattle.spatial_hash.specs.Near.{Limit}
+use Rattle.bounds.specs.Within.{Limit}
 use Rattle.quality.specs.Measures.{half}
 use Rattle.triangle.specs.Quality.{area}
 use Rattle.quality.specs.Shape.{shapeOf, qualityOf}

@@ -6,7 +6,7 @@ ghost use mathlib.Core.Path.{_≡_};
 ghost use Rattle.numbers.specs.Rounded.{_⊗_};
 ghost use Rattle.numbers.specs.Root.{root};
 ghost use Rattle.quality.specs.Measures.{half};
-ghost use Rattle.spatial_hash.specs.Near.{Limit};
+ghost use Rattle.bounds.specs.Within.{Limit};
 ghost use Rattle.decisions.specs.Found.{scoreFound, atLeast};
 ghost use Rattle.scores.specs.Over.{sideOf, scoreNear, scoreOver, Thinned};
 

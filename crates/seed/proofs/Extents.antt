@@ -16,11 +16,10 @@ use Rattle.numbers.proofs.SumOrder.{sub-monotone, sub-antitone, sub-number}
 use Rattle.numbers.proofs.Bounded.{Bounded, neg-neg}
 use Rattle.numbers.proofs.Minimum.{minimum-le}
 use Rattle.numbers.proofs.Maximum.{maximum-left, maximum-right, maximum-unsigned, minimum-finite, maximum-finite}
-use Rattle.vector.specs.Vector.{point, difference}
+use Rattle.vector.specs.Vector.{point, difference, Finite}
 use Rattle.vector.specs.declared.Point3f.{Point3f}
 use Rattle.area_bounds.proofs.AreaBound.{Bounds, Unsigned}
 use Rattle.points.specs.Points.{pointAt}
-use Rattle.spatial_hash.specs.Near.{Finite}
 use Rattle.decisions.specs.declared.Scene.{Scene}
 use Rattle.refusals.proofs.Refusals.{bounded-accepts}
 use Rattle.seed.specs.Spread.{tooSmall}

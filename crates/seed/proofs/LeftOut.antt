@@ -7,11 +7,9 @@ use mathlib.Core.List.{List, [], _∷_}
 use mathlib.Core.Option.{Option, none}
 use lib.Dec.{eqb}
 use lib.Ieee.{Float, lt}
-use Rattle.vector.specs.Vector.{distance}
-use Rattle.vector.specs.declared.Point3f.{Point3f}
-use Rattle.vector.proofs.Distances.{FinitePoint, distance-swap}
+use Rattle.vector.specs.Vector.{Finite, distance}
+use Rattle.vector.proofs.Distances.{distance-swap}
 use Rattle.points.specs.Points.{pointAt}
-use Rattle.spatial_hash.specs.Near.{Finite}
 use Rattle.grid.specs.Index.{Below}
 use Rattle.patch.specs.Search.{Floats, unused, isSecond, isThird, thirdOf, secondOf}
 use Rattle.patch.proofs.Counts.{either}
@@ -79,15 +77,12 @@ and-nothing true false u c z h = refl
 and-nothing true true false c z h = refl
 and-nothing true true true c z h = rw h
 
-pub finite-point : {p : Point3f} → Finite p → FinitePoint p
-finite-point f = record { finite-x = f .x-finite; finite-y = f .y-finite; finite-z = f .z-finite }
-
 module _ (s : Scene) (pts : List Float) (r : Float) (used : List ℕ) where
   -- a seed's other points are within twice the radius of the first
   pub close-far : (i k : ℕ) → Finite (pointAt pts i) → Finite (pointAt pts k) → lt (reach r) (apart pts k i) ≡ true → isClose pts r i k ≡ false
   unfolding isClose apart
   close-far i k fi fk h =
-      let e : distance (pointAt pts i) (pointAt pts k) ≡ distance (pointAt pts k) (pointAt pts i) = distance-swap (pointAt pts i) (pointAt pts k) (finite-point fi) (finite-point fk) in
+      let e : distance (pointAt pts i) (pointAt pts k) ≡ distance (pointAt pts k) (pointAt pts i) = distance-swap (pointAt pts i) (pointAt pts k) fi fk in
       ap (λ (d : Float). not (lt (reach r) d)) e ∙ ap not h
 
   module _ (i k : ℕ) (fi : Finite (pointAt pts i)) (fk : Finite (pointAt pts k)) where

@@ -13,13 +13,12 @@ use lib.ListN.{length, take, drop, getD, length-take}
 use lib.Seq.{getD-take, getD-drop}
 use lib.Ieee.{Float, lt}
 use borrow.Author.Tests.{eq-eqb, eqb-true}
-use Rattle.vector.specs.Vector.{squared}
+use Rattle.vector.specs.Vector.{squared, Finite}
 use Rattle.vector.specs.declared.Point3f.{Point3f}
 use Rattle.points.specs.Points.{pointAt}
 use Rattle.sorting.specs.Insertion.{insertBefore}
 use Rattle.grid.specs.Index.{earlier}
 use Rattle.regions.specs.Regions.{neighborsAt}
-use Rattle.spatial_hash.specs.Near.{Finite}
 use Rattle.patch.specs.Count.{bit, count}
 use Rattle.patch.specs.Search.{Floats, unused, isSecond, isThird, thirdOf, secondOf, firstOf, numbers, Below}
 use Rattle.patch.proofs.Counts.{either, not-true, true-not-false, and-both}
@@ -40,7 +39,7 @@ use Rattle.seed.specs.Found.{withSecond, withFirst}
 use Rattle.seed.specs.Flat.{Flat}
 use Rattle.seed.specs.Spread.{spread, tooSmall, Fruitless, Spans, Judged, Listing}
 use Rattle.seed.proofs.Laws.{orElse, third-miss, third-end, second-step, second-end, first-tried, first-used, first-spent, first-end}
-use Rattle.seed.proofs.LeftOut.{finite-point, second-out, third-out}
+use Rattle.seed.proofs.LeftOut.{second-out, third-out}
 use Rattle.seed.proofs.Spread.{in-either, spread-accepts}
 
 -- ---- where no third point serves
@@ -119,7 +118,7 @@ small-nothing {s} {pts} {r} {i = i} {f = f} {w = w} {found = found} {v = v} g hi
     both : (j k : ℕ) → j < s .n → k < s .n → 1 ≤ count (eqb j) (listed s w found) → 1 ≤ count (eqb k) (listed s w found) → isThird (floatsOf s pts) r (usedIn s w) i j k ≡ false
     both j k hj hk cj ck =
         third-refused s pts r (usedIn s w) i j k
-        (spread-accepts s pts r i j k (finite-point (g .numbers i hi)) (finite-point (g .numbers j hj)) (finite-point (g .numbers k hk)) (listed s w found) (listed s w found) cj ck (ap (λ (x : Point3f). tooSmall s x x) (sym e) ∙ h))
+        (spread-accepts s pts r i j k (g .numbers i hi) (g .numbers j hj) (g .numbers k hk) (listed s w found) (listed s w found) cj ck (ap (λ (x : Point3f). tooSmall s x x) (sym e) ∙ h))
 
     go : (j : ℕ) → j < s .n → isSecond (floatsOf s pts) r (usedIn s w) i j ≡ true → (k : ℕ) → k < s .n → isThird (floatsOf s pts) r (usedIn s w) i j k ≡ false
     go j hj second k hk = ⊎-elim
@@ -150,7 +149,7 @@ hopeless-nothing s pts r used tries numbers h = first-nothing (floatsOf s pts) r
     none-of : (i : ℕ) → i < s .n → (j : ℕ) → j < s .n → isSecond (floatsOf s pts) r used i j ≡ true → (k : ℕ) → k < s .n → isThird (floatsOf s pts) r used i j k ≡ false
     none-of i hi j hj second k hk = not-true (λ third.
         let p = third-parts s pts r used i j k third in
-        true-not-false (p .1 .1) (hopeless-accepts s pts r i j k (finite-point (numbers i hi)) (finite-point (numbers j hj)) (finite-point (numbers k hk)) (close-second s pts r used i j second) (p .0) (p .1 .0) h))
+        true-not-false (p .1 .1) (hopeless-accepts s pts r i j k (numbers i hi) (numbers j hj) (numbers k hk) (close-second s pts r used i j second) (p .0) (p .1 .0) h))
 
 -- ---- a cloud that is flat
 
@@ -166,7 +165,7 @@ near-nothing {s} {pts} {r} {i = i} {j = j} {ks = ks} {u = u} {v = v} used g hi h
     let one : 1 ≤ count (eqb j) (j ∷ []) = rw self (omega arith) in
     third-nothing (floatsOf s pts) r used i j ks (λ k c.
     third-refused s pts r used i j k
-    (spread-accepts s pts r i j k (finite-point (g .numbers i hi)) (finite-point (g .numbers j hj)) (finite-point (g .numbers k (x .below k (x .among k c)))) (j ∷ []) (x .all) one (x .among k c)
+    (spread-accepts s pts r i j k (g .numbers i hi) (g .numbers j hj) (g .numbers k (x .below k (x .among k c))) (j ∷ []) (x .all) one (x .among k c)
     (ap (λ (z : Point3f). tooSmall s z (spread pts (pointAt pts i) (x .all))) (sym e) ∙ ap (tooSmall s u) (sym (x .is)) ∙ h)))
 
 -- ---- points no two of which make a seed
@@ -184,7 +183,7 @@ unfolding completes
 refused-completes {s} {pts} {r} {l} {i} {j} {k} g hi hj hk h close = not-true (λ done.
     let p = and-both {p = isClose pts r i k} done in
     let q = and-both {p = isClose pts r j k} (p .1) in
-    true-not-false (q .1) (refused-accepts s pts r i j k (finite-point (g .numbers i hi)) (finite-point (g .numbers j hj)) (finite-point (g .numbers k hk)) close (p .0) (q .0) (g .limits) h))
+    true-not-false (q .1) (refused-accepts s pts r i j k (g .numbers i hi) (g .numbers j hj) (g .numbers k hk) close (p .0) (q .0) (g .limits) h))
 
 pub limits-third : {s : Scene} {pts : List Float} {r : Float} {l : Limits} {i j k : ℕ} (used : List ℕ) → Judged s pts r l → i < s .n → j < s .n → k < s .n → isClose pts r i j ≡ true → Refused l (pointAt pts i) (pointAt pts j) (pointAt pts k)
     → isThird (floatsOf s pts) r used i j k ≡ false

@@ -10,10 +10,9 @@ use lib.ListN.{length, take, drop, getD}
 use lib.Ieee.{Float}
 use borrow.Author.Tests.{ltb-true, ltb-false, eqb-true, eqb-false}
 use Rattle.numbers.specs.Rounded.{f32}
-use Rattle.vector.specs.Vector.{point, difference}
+use Rattle.vector.specs.Vector.{Finite, point, difference}
 use Rattle.area_bounds.specs.AreaBound.{widen}
 use Rattle.vector.specs.declared.Point3f.{Point3f}
-use Rattle.vector.proofs.Distances.{FinitePoint}
 use Rattle.area_bounds.proofs.AreaBound.{Bounds, Unsigned, widen-unsigned, widen-keeps, widen-bounds, zero-unsigned}
 use Rattle.points.specs.Points.{pointAt}
 use Rattle.patch.specs.Count.{bit, count}
@@ -42,7 +41,7 @@ module _ (pts : List Float) (p : Point3f) where
   spread-keeps e v [] u b = b
   spread-keeps e v (k ∷ ks) u b = let d = difference (pointAt pts k) p in spread-keeps e (widen v d) ks (widen-unsigned v d u) (widen-keeps v d u e b)
 
-  spread-bounds : (k : ℕ) → FinitePoint (pointAt pts k) → FinitePoint p → (v : Point3f) (ks : List ℕ) → Unsigned v → 1 ≤ count (eqb k) ks → Bounds (difference (pointAt pts k) p) (spreadFrom pts p v ks)
+  spread-bounds : (k : ℕ) → Finite (pointAt pts k) → Finite p → (v : Point3f) (ks : List ℕ) → Unsigned v → 1 ≤ count (eqb k) ks → Bounds (difference (pointAt pts k) p) (spreadFrom pts p v ks)
   unfolding spreadFrom
   spread-bounds k f g v [] u h = absurd (omega arith)
   spread-bounds k f g v (j ∷ js) u h =
@@ -51,10 +50,10 @@ module _ (pts : List Float) (p : Point3f) where
       in-either (eqb k j)
       (λ e.
       let z = eqb-true k j e in
-      subst (λ (m : ℕ). Bounds (difference (pointAt pts m) p) (spreadFrom pts p (widen v d) js)) (sym z) (spread-keeps d (widen v d) js x (widen-bounds v (pointAt pts j) p u (subst (λ (m : ℕ). FinitePoint (pointAt pts m)) z f) g)))
+      subst (λ (m : ℕ). Bounds (difference (pointAt pts m) p) (spreadFrom pts p (widen v d) js)) (sym z) (spread-keeps d (widen v d) js x (widen-bounds v (pointAt pts j) p u (subst (λ (m : ℕ). Finite (pointAt pts m)) z f) g)))
       (spread-bounds k f g (widen v d) js x) h
 
-pub spread-accepts : (s : Scene) (pts : List Float) (r : Float) (i j k : ℕ) → FinitePoint (pointAt pts i) → FinitePoint (pointAt pts j) → FinitePoint (pointAt pts k)
+pub spread-accepts : (s : Scene) (pts : List Float) (r : Float) (i j k : ℕ) → Finite (pointAt pts i) → Finite (pointAt pts j) → Finite (pointAt pts k)
     → (js ks : List ℕ) → 1 ≤ count (eqb j) js → 1 ≤ count (eqb k) ks → tooSmall s (spread pts (pointAt pts i) js) (spread pts (pointAt pts i) ks) ≡ true → accepts s r (qualityAt pts i j k) ≡ false
 unfolding tooSmall
 spread-accepts s pts r i j k fi fj fk js ks hj hk h =

@@ -15,7 +15,8 @@ use Rattle.grid.specs.Index.{Indexed, Below}
 use Rattle.grid.proofs.Near.{neighbors-below, indexed-kept}
 use Rattle.grid.proofs.Sequence.{below-part}
 use Rattle.spatial_hash.specs.declared.Hash.{Hash}
-use Rattle.spatial_hash.specs.Near.{Finite, Hashed}
+use Rattle.vector.specs.Vector.{Finite}
+use Rattle.spatial_hash.specs.Near.{Hashed}
 use Rattle.patch.specs.Search.{unused, secondOf, firstOf, numbers}
 use Rattle.decisions.specs.declared.Scene.{Scene}
 use Rattle.decisions.specs.Decisions.{reach, apart, around, floatsOf}

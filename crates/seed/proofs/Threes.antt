@@ -11,12 +11,11 @@ use lib.ListN.{length, take, drop, getD, set, length-set}
 use lib.Seq.{getD-set-same, getD-set-other, take-set-le, drop-set-lt}
 use lib.Ieee.{Float, lt}
 use borrow.Author.Tests.{ltb-true, ltb-false, lt-ltb, eq-eqb}
-use Rattle.vector.specs.Vector.{squared}
+use Rattle.vector.specs.Vector.{squared, Finite}
 use Rattle.vector.proofs.Distances.{squared-turned}
 use Rattle.points.specs.Points.{pointAt}
 use Rattle.regions.specs.Regions.{neighborsAt}
 use Rattle.spatial_hash.specs.declared.Hash.{Hash}
-use Rattle.spatial_hash.specs.Near.{Finite}
 use Rattle.patch.specs.Count.{count}
 use Rattle.patch.specs.Search.{unused, isSecond, isThird}
 use Rattle.patch.proofs.Counts.{either, not-true, true-not-false, and-both}

@@ -6,11 +6,10 @@ use mathlib.Core.List.{List, [], _∷_}
 use lib.Dec.{eqb}
 use lib.Ieee.{Float, lt}
 use Rattle.numbers.specs.Rounded.{f32}
-use Rattle.vector.specs.Vector.{point, difference}
+use Rattle.vector.specs.Vector.{point, difference, Finite}
 use Rattle.area_bounds.specs.AreaBound.{widen, areaBound}
 use Rattle.vector.specs.declared.Point3f.{Point3f}
 use Rattle.points.specs.Points.{pointAt}
-use Rattle.spatial_hash.specs.Near.{Finite}
 use Rattle.patch.specs.Count.{count}
 use Rattle.patch.specs.Search.{Below}
 use Rattle.decisions.specs.declared.Scene.{Scene}

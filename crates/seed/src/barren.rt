@@ -144,7 +144,7 @@ fn is_barren_first(
     ensures { λ r. ⌜ (r ≡ true → BarrenFrom s (now (points .entry)) radius (usedIn s (now (w .entry))) i) × Kept s (now (w .entry)) (now (w .exit)) ⌝ }
 {
     let limit = limits.far;
-    let bounds = spatial_hash::covering(points::point_at(points, i), radius * 2.002, limit);
+    let bounds = bounds::covering(points::point_at(points, i), radius * 2.002, limit);
     let found = spatial_hash::gather(points, w, s.n, hash, bounds);
     let count = keep_later(s, points, w, limit, found, i);
     are_all_barren(s, points, w, count, radius, limits, i)

@@ -5,7 +5,7 @@ ghost use mathlib.Core.Bool.{true};
 ghost use Prim.Native.Nat.{ℕ, _*_, _<_, _≤_};
 ghost use lib.ListN.{length};
 ghost use Rattle.points.specs.Points.{pointAt};
-ghost use Rattle.spatial_hash.specs.Near.{Finite};
+ghost use Rattle.vector.specs.Vector.{Finite};
 ghost use Rattle.seed.specs.Flat.{FlatAmong, Flat, Numbers, Extent};
 
 // How far the n points reach on one axis, 0, 1 or 2. The difference is taken both ways, since a zero may have either sign.

@@ -16,12 +16,14 @@ use Rattle.points.specs.Points.{pointAt}
 use Rattle.patch.specs.Count.{count}
 use Rattle.patch.specs.Search.{Below}
 use Rattle.patch.proofs.Counts.{either, pigeons, and-both}
-use Rattle.spatial_hash.specs.declared.Bounds.{Bounds}
+use Rattle.bounds.specs.declared.Bounds.{Bounds}
 use Rattle.spatial_hash.specs.declared.Hash.{Hash}
 use Rattle.spatial_hash.specs.declared.Span.{Span}
 use Rattle.spatial_hash.specs.Buckets.{slot, rowFor, placeFor, bucketOf, buckets, linksOf, isOut, bucketIn, spanned, Spanning, rows, boxOf, pointsIn, Appended}
-use Rattle.spatial_hash.specs.Cover.{between}
-use Rattle.spatial_hash.specs.Near.{within, Gathers, Gathered, Linked, Room, Finite}
+use Rattle.bounds.specs.Cover.{between}
+use Rattle.bounds.specs.Within.{within}
+use Rattle.vector.specs.Vector.{Finite}
+use Rattle.spatial_hash.specs.Near.{Gathers, Gathered, Linked, Room}
 use Rattle.spatial_hash.proofs.Inside.{bucket-in, bucket-out}
 use Rattle.spatial_hash.proofs.Chains.{listed-has, listed-beyond}
 use Rattle.spatial_hash.proofs.Residues.{residues-once, residues-below, rows-count}

@@ -2,7 +2,6 @@
 pub mod Sizes
 pub mod Corners
 pub mod Slots
-pub mod Beyond
 pub mod Inside
 pub mod Chains
 pub mod Words

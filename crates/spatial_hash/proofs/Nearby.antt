@@ -1,7 +1,7 @@
 -- Of points that were gathered: each whose squared distance is not above a limit that the bounds cover is among them (`near-gathered`),
 -- and a test that only such points pass is passed as often by those gathered as by all (`gathered-count`). Assumes nothing.
 use mathlib.Core.Path.{_≡_, refl, sym, ap, subst, _∙_}
-use mathlib.Core.Bool.{Bool, true, false, cond}
+use mathlib.Core.Bool.{Bool, true, false}
 use mathlib.Core.List.{List, [], _∷_}
 use Prim.Native.Nat.{ℕ, zero, suc, _+_, _*_, _≤_, _<_}
 use native.Mathlib.Omega.{arith}
@@ -12,23 +12,20 @@ use lib.Seq.{getD-take, getD-drop, length-take-le}
 use lib.Ieee.{Float, le}
 use Rattle.numbers.proofs.OrderLaws.{le-not-lt}
 use Rattle.vector.specs.declared.Point3f.{Point3f}
-use Rattle.vector.specs.Vector.{squared}
+use Rattle.vector.specs.Vector.{squared, Finite}
 use Rattle.points.specs.Points.{pointAt, upFrom}
 use Rattle.patch.specs.Count.{count, bit}
 use Rattle.patch.specs.Search.{Below}
-use Rattle.spatial_hash.specs.declared.Bounds.{Bounds}
-use Rattle.spatial_hash.specs.Near.{Finite, within, Covers, nobody, Gathers, Gathered, HashedAll}
+use Rattle.bounds.specs.declared.Bounds.{Bounds}
+use Rattle.bounds.specs.Within.{within, Covers}
+use Rattle.spatial_hash.specs.Near.{nobody, Gathers, Gathered, HashedAll}
 use Rattle.spatial_hash.specs.declared.Hash.{Hash}
+use Rattle.spatial_hash.proofs.Chains.{without}
 
 -- ---- lists with the same members
 no-count : {k : ℕ} → (1 ≤ k → ⊥) → k ≡ 0
 no-count {k = zero} h = refl
 no-count {k = suc k} h = absurd (h (omega arith))
-
--- x, taken out once
-unfoldable without : ℕ → List ℕ → List ℕ
-without x [] = []
-without x (y ∷ ys) = let later = without x ys in cond (eqb x y) ys (y ∷ later)
 
 apart : (test : ℕ → Bool) (y x : ℕ) → test y ≡ true → test x ≡ false → eqb y x ≡ false
 apart test y x t e = go (eqb y x) refl
@@ -43,7 +40,7 @@ module _ (test : ℕ → Bool) where
   without-count x [] h = absurd (omega arith)
   without-count x (y ∷ ys) h = go (eqb x y) refl (without-count x ys)
     where
-      go : (b : Bool) → eqb x y ≡ b → (1 ≤ count (eqb x) ys → count test ys ≡ bit (test x) + count test (without x ys)) → count test (y ∷ ys) ≡ bit (test x) + count test (cond b ys (y ∷ without x ys))
+      go : (b : Bool) → eqb x y ≡ b → (1 ≤ count (eqb x) ys → count test ys ≡ bit (test x) + count test (without x ys)) → count test (y ∷ ys) ≡ bit (test x) + count test (elim b [ true ↦ ys | false ↦ y ∷ without x ys ])
       go true e r = ap (λ (z : ℕ). bit (test z) + count test ys) (sym (eqb-true x y e))
       go false e r =
           let z : bit (eqb x y) ≡ 0 = ap bit e in

@@ -42,13 +42,13 @@ closed-reads w u k q (suc len) a h l none there same moved =
           ∙ reads-cons u a len (omega arith)
           ∙ ap (λ (x : ℕ). x ∷ reads u (a + 1) (len - 1)) (same a (omega arith) p)
           ∙ ap (λ (t : List ℕ). getD w a 0 ∷ t) (closed-reads w u k q len (a + 1) (omega arith) (omega arith) (λ i x y. none i (omega arith) y) there (λ i x y. same i (omega arith) y) (λ i x y. moved i x (omega arith)))
-          ∙ sym (without-miss k (getD w a 0) (reads w (a + 1) len) (ne-eqb (getD w a 0) k (none a (omega arith) p)))
+          ∙ sym (without-miss k (getD w a 0) (reads w (a + 1) len) (λ (x : k ≡ getD w a 0). none a (omega arith) p (sym x)))
           ∙ ap (without k) (sym c)
       | no p ↦
           let z : q ≡ a = omega arith in
           ap (reads u a) e
           ∙ reads-same u w a (a + 1) len (λ i x. moved (a + i) (omega arith) (omega arith) ∙ ap (λ (t : ℕ). getD w t 0) (swap i))
-          ∙ sym (without-hit k (getD w a 0) (reads w (a + 1) len) (eq-eqb (getD w a 0) k (ap (λ (t : ℕ). getD w t 0) (sym z) ∙ there)))
+          ∙ sym (without-hit k (getD w a 0) (reads w (a + 1) len) (sym there ∙ ap (λ (t : ℕ). getD w t 0) z))
           ∙ ap (without k) (sym c)
     ]
   where

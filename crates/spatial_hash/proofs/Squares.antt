@@ -10,9 +10,8 @@ use Rattle.numbers.specs.Root.{root}
 use Rattle.numbers.proofs.OrderLaws.{unsigned}
 use Rattle.numbers.proofs.RootNearest.{root-nearest}
 use Rattle.vector.specs.declared.Point3f.{Point3f}
-use Rattle.vector.specs.Vector.{squared, distance}
-use Rattle.vector.proofs.Distances.{FinitePoint, squared-fits, squared-unsigned, squared-swap, distance-is}
-use Rattle.spatial_hash.specs.Near.{Finite}
+use Rattle.vector.specs.Vector.{Finite, squared, distance}
+use Rattle.vector.proofs.Distances.{squared-fits, squared-unsigned, squared-swap, distance-is}
 
 abbrev pub Good : Float → Type 0
 Good x = T (fits binary32 x) × T (unsigned x)
@@ -34,12 +33,8 @@ root-good (fin false (suc m) e) g =
     let r = root-nearest (fin false (suc m) e) (g .0) (lt→ltb 0 (suc m) (zero-lt-suc m)) in
     (r .held, valued (root (fin false (suc m) e)) (r .R) (2 ^ 149) (r .result))
 
--- ---- squared distances
-finite-point : {p : Point3f} → Finite p → FinitePoint p
-finite-point f = record { finite-x = f .x-finite; finite-y = f .y-finite; finite-z = f .z-finite }
-
 pub squared-good : (p q : Point3f) → Finite p → Finite q → Good (squared p q)
-squared-good p q f g = (squared-fits p q, squared-unsigned p q (finite-point f) (finite-point g))
+squared-good p q f g = (squared-fits p q, squared-unsigned p q f g)
 
 pub distance-back : (p q : Point3f) → Finite p → Finite q → distance p q ≡ root (squared q p)
-distance-back p q f g = distance-is p q ∙ ap root (squared-swap p q (finite-point f) (finite-point g))
+distance-back p q f g = distance-is p q ∙ ap root (squared-swap p q f g)

@@ -1,4 +1,3 @@
-pub mod Cover
 pub mod Buckets
 pub mod Order
 pub mod Leave

@@ -2,43 +2,23 @@
 use Prim.Native.Nat.{ℕ, _+_, _*_, _≤_, _<_}
 use mathlib.Core.Path.{_≡_}
 use mathlib.Core.Logic.{_≢_}
-use mathlib.Core.Bool.{Bool, false, true, _&&_}
+use mathlib.Core.Bool.{Bool, false, true}
 use mathlib.Core.List.{List}
 use lib.Dec.{T, eqb}
 use lib.ListN.{length, take, drop, getD}
-use lib.Ieee.{Float, binary32, lt, fits}
+use lib.Ieee.{Float, lt}
 use lib.Ieee.Scale.{finite}
 use Rattle.numbers.specs.Rounded.{f32}
-use Rattle.numbers.specs.Root.{root}
-unfoldable pub use Rattle.vector.specs.Vector.{squared}
-use Rattle.vector.specs.declared.Point3f.{Point3f}
+use Rattle.vector.specs.Vector.{Finite}
 use Rattle.points.specs.Points.{pointAt}
 use Rattle.regions.specs.Regions.{neighborsAt, usedAt, linksAt, startsAt}
 use Rattle.patch.specs.Count.{count}
 use Rattle.patch.specs.Search.{Below, unused}
-use Rattle.spatial_hash.specs.declared.Bounds.{Bounds}
+use Rattle.bounds.specs.declared.Bounds.{Bounds}
+use Rattle.bounds.specs.Within.{within}
 use Rattle.spatial_hash.specs.declared.Hash.{Hash}
-pub use Rattle.spatial_hash.specs.Cover.{between}
 use Rattle.spatial_hash.specs.Buckets.{Chained, bucketAt, bucketIn, buckets, linksOf, isOut}
 use Rattle.spatial_hash.specs.Order.{Laid}
-
--- a place whose coordinates are numbers
-pub record Finite (p : Point3f) : Type 0 where
-  pub x-finite : T (finite (p .x))
-  pub y-finite : T (finite (p .y))
-  pub z-finite : T (finite (p .z))
-
--- a place within bounds
-unfoldable pub within : Bounds → Point3f → Bool
-within b p = between (b .lo .x) (b .hi .x) (p .x) && (between (b .lo .y) (b .hi .y) (p .y) && between (b .lo .z) (b .hi .z) (p .z))
-
--- each square above t has a root above r
-abbrev pub Limit : Float → Float → Type 0
-Limit r t = (s : Float) → T (fits binary32 s) → T (lt t s) → T (lt r (root s))
-
--- every place outside the bounds has a squared distance above t from p
-abbrev pub Covers : Point3f → Float → Bounds → Type 0
-Covers p t b = (q : Point3f) → Finite q → within b q ≡ false → T (lt t (squared q p))
 
 -- js has every point within the bounds but some that are out, each at most once, and none but the n of the cloud
 pub record Gathers (pts : List Float) (n : ℕ) (out : ℕ → Bool) (b : Bounds) (js : List ℕ) : Type 0 where

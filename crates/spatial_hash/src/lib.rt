@@ -2,22 +2,16 @@
 // what is promised is that no point within the bounds asked for is left out, but those that were removed.
 // The points of a row of buckets, those with the same remainders on the first two axes, lie one after another, so that a walk goes from row to row and passes no empty bucket.
 mod cells;
-mod cover;
 mod leave;
 mod links;
 mod order;
 mod walk;
 
+use bounds::Bounds;
 use vector::Point3f;
 ghost use Prim.Native.Nat.{_*_, _<_};
 ghost use Rattle.spatial_hash.specs.Leave.{Leaving, Left};
-ghost use Rattle.spatial_hash.specs.Near.{Finite, Limit, Covers, Ready, Linked, Gathered, Built, Removed};
-
-// The places between two corners, both included.
-pub struct Bounds {
-    pub lo: Point3f,
-    pub hi: Point3f,
-}
+ghost use Rattle.spatial_hash.specs.Near.{Ready, Linked, Gathered, Built, Removed};
 
 // How a coordinate becomes the number of a cell, and how many of these numbers have buckets of their own on an axis.
 pub struct Hash {
@@ -26,51 +20,10 @@ pub struct Hash {
     pub side: usize,
 }
 
-// The coordinates between two, both included.
-pub struct Interval {
-    pub lo: f32,
-    pub hi: f32,
-}
-
 // Remainders that follow one another, the side's last by 0.
 pub struct Span {
     pub first: usize,
     pub count: usize,
-}
-
-// A number such that each square above it has a root above r.
-pub fn square_limit(r: f32) -> f32
-    ensures { λ t. ⌜ Limit r t ⌝ }
-{
-    let t = r * r * 1.000001;
-    if t >= 0.0 {
-        if numbers::sqrt(t) > r {
-            return t;
-        }
-    }
-    1.0 / 0.0
-}
-
-// Bounds outside of which every squared distance from the place is above the limit. The reach is a guess at how far they have to go.
-pub fn covering(place: Point3f, reach: f32, limit: f32) -> Bounds
-    requires { ⌜ Finite place ⌝ }
-    ensures { λ b. ⌜ Covers place limit b ⌝ }
-{
-    let x = cover::interval(place.x, reach, limit);
-    let y = cover::interval(place.y, reach, limit);
-    let z = cover::interval(place.z, reach, limit);
-    Bounds {
-        lo: Point3f {
-            x: x.lo,
-            y: y.lo,
-            z: z.lo,
-        },
-        hi: Point3f {
-            x: x.hi,
-            y: y.hi,
-            z: z.hi,
-        },
-    }
 }
 
 // Hashes n points. The size of the cells is a guess.

@@ -7,7 +7,8 @@ ghost use Prim.Native.Nat.{ℕ, _+_, _*_, _≤_, _<_};
 ghost use Rattle.points.specs.Points.{pointAt};
 ghost use lib.ListN.{length, take, getD, set};
 ghost use Rattle.spatial_hash.specs.Buckets.{Chained, bucketAt, buckets};
-ghost use Rattle.spatial_hash.specs.Near.{Finite, Empty};
+ghost use Rattle.vector.specs.Vector.{Finite};
+ghost use Rattle.spatial_hash.specs.Near.{Empty};
 
 // The lesser of two coordinates, on each axis.
 fn lower(a: Point3f, b: Point3f) -> Point3f

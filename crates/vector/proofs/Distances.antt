@@ -12,14 +12,8 @@ use Rattle.numbers.proofs.OrderLaws.{le-left, le-trans, lt-le-trans, unsigned, 
 use Rattle.numbers.proofs.RootMonotone.{root-monotone}
 use Rattle.numbers.proofs.SumOrder.{add-unsigned, add-above-left, add-above-right, add-number, sub-number}
 use Rattle.numbers.proofs.ProductOrder.{square-unsigned, square-turned}
-use Rattle.vector.specs.Vector.{difference, magnitudeSquared, squared, distance}
+use Rattle.vector.specs.Vector.{Finite, difference, magnitudeSquared, squared, distance}
 use Rattle.vector.specs.declared.Point3f.{Point3f}
-
--- a point with finite coordinates
-pub record FinitePoint (p : Point3f) : Type 0 where
-  pub finite-x : T (finite (p .x))
-  pub finite-y : T (finite (p .y))
-  pub finite-z : T (finite (p .z))
 
 -- the square of a difference
 abbrev pub square : Float → Float → Float
@@ -64,15 +58,15 @@ squared-fits p q = rw (squared-is p q) (add-fits binary32 (square (p .x) (q .x) 
 pub squared-turned : (p q : Point3f) → squared p q ≡ squared q p
 squared-turned p q = rw (squared-is p q, squared-is q p, square-turned (p .x) (q .x), square-turned (p .y) (q .y), square-turned (p .z) (q .z))
 
-module _ (p q : Point3f) (f : FinitePoint p) (g : FinitePoint q) where
+module _ (p q : Point3f) (f : Finite p) (g : Finite q) where
   on-x : T (unsigned (square (p .x) (q .x)))
-  on-x = finite-unsigned (p .x) (q .x) (f .finite-x) (g .finite-x)
+  on-x = finite-unsigned (p .x) (q .x) (f .x-finite) (g .x-finite)
 
   on-y : T (unsigned (square (p .y) (q .y)))
-  on-y = finite-unsigned (p .y) (q .y) (f .finite-y) (g .finite-y)
+  on-y = finite-unsigned (p .y) (q .y) (f .y-finite) (g .y-finite)
 
   on-z : T (unsigned (square (p .z) (q .z)))
-  on-z = finite-unsigned (p .z) (q .z) (f .finite-z) (g .finite-z)
+  on-z = finite-unsigned (p .z) (q .z) (f .z-finite) (g .z-finite)
 
   pub squared-unsigned : T (unsigned (squared p q))
   squared-unsigned = rw (squared-is p q) (three-unsigned _ _ _ on-x on-y on-z)
@@ -120,7 +114,7 @@ pub distance-turned : (p q : Point3f) → distance p q ≡ distance q p
 unfolding distance
 distance-turned p q = ap root (squared-turned p q)
 
-pub distance-swap : (p q : Point3f) → FinitePoint p → FinitePoint q → distance p q ≡ distance q p
+pub distance-swap : (p q : Point3f) → Finite p → Finite q → distance p q ≡ distance q p
 distance-swap p q f g = distance-turned p q
 
 pub distance-monotone : (p q p' q' : Point3f) → T (le (squared p q) (squared p' q')) → T (le (distance p q) (distance p' q'))

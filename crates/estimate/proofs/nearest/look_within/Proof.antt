@@ -1,7 +1,7 @@
 -- The points gathered within bounds that cover the limit decide. Assumes nothing.
 use mathlib.Core.Path.{sym, subst}
 use Rattle.vector.specs.declared.Point3f.{Point3f}
-use Rattle.spatial_hash.specs.Near.{Finite}
+use Rattle.vector.specs.Vector.{Finite}
 use Rattle.estimate.proofs.Looking.{looked}
 use borrow.Author.Needs.{needs}
 use Rattle.estimate.proofs.nearest.look_within.Statement.{statement}

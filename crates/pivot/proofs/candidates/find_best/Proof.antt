@@ -1,7 +1,7 @@
 -- `find_best` meets its contract: what is gathered has every neighbour that has a score, and the best of them is the definition's. Assumes nothing.
 use mathlib.Core.Path.{sym, ap, _∙_, subst}
 use borrow.Author.Needs.{needs}
-use Rattle.spatial_hash.specs.Near.{Finite}
+use Rattle.vector.specs.Vector.{Finite}
 use Rattle.nearby.proofs.Keeping.{held-kept, cells-kept}
 use Rattle.nearby.proofs.Narrowing.{collected-listed}
 use Rattle.pivot.specs.Found.{pivotFound}

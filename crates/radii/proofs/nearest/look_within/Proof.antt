@@ -3,7 +3,7 @@ use mathlib.Core.Path.{sym, subst}
 use native.Mathlib.Omega.{arith}
 use borrow.Author.Needs.{needs}
 use Rattle.vector.specs.declared.Point3f.{Point3f}
-use Rattle.spatial_hash.specs.Near.{Finite}
+use Rattle.vector.specs.Vector.{Finite}
 use Rattle.radii.proofs.Deciding.{looked}
 use Rattle.radii.proofs.nearest.look_within.Statement.{statement}
 use Rattle.radii.proofs.nearest.look_within.Tie as tie

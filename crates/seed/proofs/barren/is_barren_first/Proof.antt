@@ -3,7 +3,8 @@ use mathlib.Core.Path.{sym, _∙_, subst}
 use borrow.Author.Needs.{needs}
 use Rattle.vector.specs.declared.Point3f.{Point3f}
 use Rattle.points.specs.Points.{pointAt}
-use Rattle.spatial_hash.specs.Near.{Finite, Covers}
+use Rattle.vector.specs.Vector.{Finite}
+use Rattle.bounds.specs.Within.{Covers}
 use Rattle.nearby.proofs.Keeping.{kept-on, held-kept}
 use Rattle.nearby.proofs.Narrowing.{gathered-near, gathered-kept, below-listed}
 use Rattle.seed.proofs.Threes.{barren-from}

@@ -4,7 +4,7 @@ use mathlib.Core.Path.{sym, ap, _∙_, subst}
 use mathlib.Core.List.{List}
 use lib.ListN.{take}
 use borrow.Author.Needs.{needs}
-use Rattle.spatial_hash.specs.Near.{Finite}
+use Rattle.vector.specs.Vector.{Finite}
 use Rattle.decisions.specs.Decisions.{floatsOf}
 use Rattle.nearby.proofs.Keeping.{kept-on, held-kept, cells-kept}
 use Rattle.seed.specs.Found.{seedFound, withFirst}

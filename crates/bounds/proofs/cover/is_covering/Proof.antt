@@ -1,7 +1,7 @@
--- `spatial_hash::cover::is_covering` meets its contract. Assumes nothing.
-use Rattle.spatial_hash.specs.Cover.{isCovering}
-use Rattle.spatial_hash.proofs.cover.is_covering.Statement.{statement}
-use Rattle.spatial_hash.proofs.cover.is_covering.Tie as tie
+-- `bounds::cover::is_covering` meets its contract. Assumes nothing.
+use Rattle.bounds.specs.Cover.{isCovering}
+use Rattle.bounds.proofs.cover.is_covering.Statement.{statement}
+use Rattle.bounds.proofs.cover.is_covering.Tie as tie
 
 returns : tie.Need-returns
 unfolding isCovering

@@ -1,9 +1,9 @@
--- `spatial_hash::cover::interval` meets its contract. Assumes nothing.
+-- `bounds::cover::interval` meets its contract. Assumes nothing.
 use mathlib.Core.Path.{sym, _∙_}
-use Rattle.spatial_hash.proofs.Beyond.{covers-tested, covers-all}
+use Rattle.bounds.proofs.Beyond.{covers-tested, covers-all}
 use borrow.Author.Needs.{needs}
-use Rattle.spatial_hash.proofs.cover.interval.Statement.{statement}
-use Rattle.spatial_hash.proofs.cover.interval.Tie as tie
+use Rattle.bounds.proofs.cover.interval.Statement.{statement}
+use Rattle.bounds.proofs.cover.interval.Tie as tie
 
 is-covering-requires : tie.Need-is-covering-requires
 is-covering-requires c κs = search needs

@@ -11,12 +11,12 @@ use Rattle.numbers.specs.Root.{root}
 use Rattle.numbers.proofs.OrderLaws.{lt-le, lt-le-trans, not-le-lt, bottom-le, le-top, top-le, finite-number}
 use Rattle.numbers.proofs.ProductOrder.{square-beyond}
 use Rattle.numbers.proofs.RootMonotone.{root-monotone}
-use Rattle.vector.specs.Vector.{squared}
+use Rattle.vector.specs.Vector.{Finite, squared}
 use Rattle.vector.specs.declared.Point3f.{Point3f}
-use Rattle.vector.proofs.Distances.{FinitePoint, squared-x, squared-y, squared-z}
-use Rattle.spatial_hash.specs.declared.Interval.{Interval}
-use Rattle.spatial_hash.specs.Cover.{between, isCovering, CoversOn}
-use Rattle.spatial_hash.specs.Near.{Finite, within, Limit, Covers}
+use Rattle.vector.proofs.Distances.{squared-x, squared-y, squared-z}
+use Rattle.bounds.specs.declared.Interval.{Interval}
+use Rattle.bounds.specs.Cover.{between, isCovering, CoversOn}
+use Rattle.bounds.specs.Within.{within, Limit, Covers}
 
 -- ---- the limit
 
@@ -102,16 +102,13 @@ covers-all v t q g h = clash (between low high q) (subst T (sym (anywhere q g)) 
 
 -- ---- all three
 
-point : (p : Point3f) → Finite p → FinitePoint p
-point p f = record { finite-x = f .x-finite; finite-y = f .y-finite; finite-z = f .z-finite }
-
 pub covers : (p : Point3f) (t : Float) (x y z : Interval) → Finite p → CoversOn (p .x) t x → CoversOn (p .y) t y → CoversOn (p .z) t z
     → Covers p t (record { lo = record { x = x .lo; y = y .lo; z = z .lo }; hi = record { x = x .hi; y = y .hi; z = z .hi } })
 unfolding within
 covers p t x y z f a b c q g h = ⊎-elim
-    (λ k. lt-le-trans t _ (squared q p) (a (q .x) (g .x-finite) k) (squared-x q p (point q g) (point p f)))
+    (λ k. lt-le-trans t _ (squared q p) (a (q .x) (g .x-finite) k) (squared-x q p g f))
     (λ r. ⊎-elim
-    (λ k. lt-le-trans t _ (squared q p) (b (q .y) (g .y-finite) k) (squared-y q p (point q g) (point p f)))
-    (λ k. lt-le-trans t _ (squared q p) (c (q .z) (g .z-finite) k) (squared-z q p (point q g) (point p f)))
+    (λ k. lt-le-trans t _ (squared q p) (b (q .y) (g .y-finite) k) (squared-y q p g f))
+    (λ k. lt-le-trans t _ (squared q p) (c (q .z) (g .z-finite) k) (squared-z q p g f))
     (either-false (between (y .lo) (y .hi) (q .y)) (between (z .lo) (z .hi) (q .z)) r))
     (either-false (between (x .lo) (x .hi) (q .x)) (between (y .lo) (y .hi) (q .y) && between (z .lo) (z .hi) (q .z)) h)

@@ -1,12 +1,12 @@
--- `spatial_hash::square_limit` meets its contract. Assumes nothing.
+-- `bounds::square_limit` meets its contract. Assumes nothing.
 use mathlib.Core.Path.{sym, subst}
 use lib.Dec.{T}
 use lib.Ieee.{Float, binary32, lt}
 use lib.Ieee.Fits.{mul-fits}
-use Rattle.spatial_hash.proofs.Beyond.{limit-tested, limit-none}
+use Rattle.bounds.proofs.Beyond.{limit-tested, limit-none}
 use borrow.Author.Needs.{needs}
-use Rattle.spatial_hash.proofs.square_limit.Statement.{statement}
-use Rattle.spatial_hash.proofs.square_limit.Tie as tie
+use Rattle.bounds.proofs.square_limit.Statement.{statement}
+use Rattle.bounds.proofs.square_limit.Tie as tie
 
 sqrt-requires : tie.Need-sqrt-requires
 sqrt-requires c κs = search needs

@@ -5,7 +5,7 @@ use lib.Dec.{T}
 use lib.Ieee.{Float, lt, le}
 use lib.Ieee.Scale.{finite}
 use Rattle.numbers.specs.Rounded.{_⊖_, _⊗_}
-use Rattle.spatial_hash.specs.declared.Interval.{Interval}
+use Rattle.bounds.specs.declared.Interval.{Interval}
 
 -- v is neither below lo nor above hi
 abbrev pub between : Float → Float → Float → Bool

@@ -1,8 +1,8 @@
--- `spatial_hash::covering` meets its contract. Assumes nothing.
-use Rattle.spatial_hash.proofs.Beyond.{covers}
+-- `bounds::covering` meets its contract. Assumes nothing.
+use Rattle.bounds.proofs.Beyond.{covers}
 use borrow.Author.Needs.{needs}
-use Rattle.spatial_hash.proofs.covering.Statement.{statement}
-use Rattle.spatial_hash.proofs.covering.Tie as tie
+use Rattle.bounds.proofs.covering.Statement.{statement}
+use Rattle.bounds.proofs.covering.Tie as tie
 
 interval-requires : tie.Need-interval-requires
 interval-requires c κs = search needs
