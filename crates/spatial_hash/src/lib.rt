@@ -10,7 +10,6 @@ mod walk;
 use bounds::Bounds;
 use vector::Point3f;
 ghost use Prim.Native.Nat.{_*_, _<_};
-ghost use Rattle.spatial_hash.specs.Leave.{Leaving, Left};
 ghost use Rattle.spatial_hash.specs.Near.{Ready, Linked, Gathered, Built, Removed};
 
 // How a coordinate becomes the number of a cell, and how many of these numbers have buckets of their own on an axis.
@@ -56,19 +55,6 @@ pub fn gather(points: &[f32], w: &mut [u32], n: usize, hash: Hash, bounds: Bound
     walk::visit_planes(points, w, n, hash, xs, ys, zs)
 }
 
-// Takes point k out of the bucket whose word is `own`, in the row whose last word is `last`.
-fn leave_row(w: &mut [u32], n: usize, k: usize, own: usize, last: usize)
-    requires { ⌜ Leaving n k own last (now w) ⌝ }
-    ensures { λ _. ⌜ Left n k own last (now (w .entry)) (now (w .exit)) ⌝ }
-{
-    let from = 16 * n + 64 + w[own] as usize;
-    let to = 16 * n + 64 + w[own + 1] as usize;
-    let end = 16 * n + 64 + w[last] as usize;
-    let at = leave::find_word(w, k, from, to);
-    leave::close_gap(w, at, end);
-    leave::lower_words(w, own + 1, last + 1);
-}
-
 // Takes point k out of its bucket, if it is still there.
 pub fn remove(points: &[f32], w: &mut [u32], n: usize, hash: Hash, k: usize)
     requires { ⌜ Linked hash (now points) n (now w) × (k < n) ⌝ }
@@ -81,6 +67,6 @@ pub fn remove(points: &[f32], w: &mut [u32], n: usize, hash: Hash, k: usize)
     let place = points::point_at(points, k);
     let row = 10 * n + cells::row_of(hash, place) * (side + 1);
     let own = row + cells::place_in_row(hash, place);
-    leave_row(w, n, k, own, row + side);
+    leave::leave_row(w, n, k, own, row + side);
     w[9 * n + k] = (n + 1) as u32;
 }
