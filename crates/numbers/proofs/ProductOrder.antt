@@ -7,14 +7,14 @@ use native.Mathlib.Nat.{add-mul, mul-comm, mul-pos, mul-le-mul, mul-le-mul-right
 use native.Mathlib.Omega.{arith}
 use mathlib.Core.Bool.{Bool, true, false, not, cond}
 use lib.Dec.{T, eqb}
-use lib.Ieee.{Float, nan, inf, fin, binary32, unlike, up, down, round, neg, add, sub, mul, le, ofBits, isNan}
+use lib.Ieee.{Float, nan, inf, fin, binary32, unlike, up, down, round, neg, add, sub, mul, lt, le, ofBits, isNan}
 use lib.Ieee.Fits.{eq→eqb, up-pos, down-pos}
 use lib.Ieee.Order.{round-mono}
 use lib.Ieee.Scale.{finite}
 use lib.Ieee.Positive.{num, den, den-pos}
 use Rattle.numbers.specs.Rounded.{f32, _⊖_, _⊗_}
-use Rattle.numbers.proofs.OrderLaws.{plus, minus, side, le→side, of-finite, le-refl, le-trans, le-top, bottom-le, top-le, unsigned}
-use Rattle.numbers.proofs.RoundedOrder.{Rounds, above, under, round-unsigned, neg-le, rounds-le, round-number, rounds-turned, minus-zero-le, nonnegative-minus, nonnegative-plus}
+use Rattle.numbers.proofs.OrderLaws.{plus, minus, side, le→side, of-finite, finite-number, le-refl, le-right, le-or-lt, le-not-lt, lt-le, le-trans, le-top, bottom-le, top-le, unsigned}
+use Rattle.numbers.proofs.RoundedOrder.{Rounds, above, under, round-unsigned, neg-le, rounds-le, rounds-nonpositive, round-number, rounds-turned, minus-zero-le, nonnegative-minus, nonnegative-plus}
 use Rattle.numbers.proofs.SumOrder.{rounds-sub, sub-monotone, sub-nonnegative, sub-nonpositive}
 
 -- ---- the product with a number that is not below 0
@@ -44,6 +44,13 @@ mul-monotone-finite x y c f g k h z =
     go : (p n d q o e k c : ℕ) → p * e + o * d ≤ q * d + n * e → p * k * (e * c) + o * k * (d * c) ≤ q * k * (d * c) + n * k * (e * c)
     go p n d q o e k c h =
         rw (mul-mul-mul-comm p k e c, mul-mul-mul-comm o k d c, mul-mul-mul-comm q k d c, mul-mul-mul-comm n k e c, ← add-mul (p * e), ← add-mul (q * d)) (mul-le-mul-right (k * c) h)
+
+-- a number that is not above 0, times one that is not below it
+pub mul-nonpositive : (x c : Float) → T (finite x) → T (finite c) → T (le x (f32 0)) → T (le (f32 0) c) → T (le (x ⊗ c) (f32 0))
+unfolding ofBits
+mul-nonpositive x c f g h z =
+    let k : plus x ≤ minus x = omega (arith, le→side x (f32 0) f tt h) in
+    rounds-nonpositive (mul-pos (den-pos x) (den-pos c)) (rounds-scaled x c f g z) (mul-le-mul-right (plus c) k)
 
 -- an infinity stays, where the product is not a NaN
 inf-scaled : (s : Bool) (c : Float) → T (finite c) → T (le (f32 0) c) → T (not (isNan (inf s ⊗ c))) → inf s ⊗ c ≡ inf s
@@ -83,6 +90,28 @@ unlike-swap true true = refl
 unlike-swap true false = refl
 unlike-swap false true = refl
 unlike-swap false false = refl
+
+nan-product : (c : Float) → T (lt (f32 0) (nan ⊗ c)) → ⊥
+unfolding mul lt ofBits
+nan-product nan h = h
+nan-product (inf s) h = h
+nan-product (fin s m e) h = h
+
+-- a factor is above 0 if the product is, and the other is not below 0
+pub factor-above : (y c : Float) → T (finite c) → T (le (f32 0) c) → T (lt (f32 0) (y ⊗ c)) → T (lt (f32 0) y)
+factor-above y c f z h = go y (number y h) (le-or-lt y (f32 0) (number y h) (finite-number (f32 0) (unfold ofBits in tt))) h
+  where
+    number : (y : Float) → T (lt (f32 0) (y ⊗ c)) → T (not (isNan y))
+    number nan h = absurd (nan-product c h)
+    number (inf s) h = unfold isNan in tt
+    number (fin s m e) h = unfold isNan in tt
+
+    go : (y : Float) → T (not (isNan y)) → T (le y (f32 0)) ⊎ T (lt (f32 0) y) → T (lt (f32 0) (y ⊗ c)) → T (lt (f32 0) y)
+    go y n (inr k) h = k
+    go y n (inl k) h =
+        let m = mul-monotone y (f32 0) c f k z (le-right (f32 0) (y ⊗ c) (lt-le (f32 0) (y ⊗ c) h)) (mul-number (f32 0) c (unfold ofBits in tt) f) in
+        let o = mul-nonpositive (f32 0) c (unfold ofBits in tt) f (le-refl (f32 0) (finite-number (f32 0) (unfold ofBits in tt))) z in
+        absurd (le-not-lt (y ⊗ c) (f32 0) (le-trans (y ⊗ c) (f32 0 ⊗ c) (f32 0) m o) h)
 
 pub mul-commutative : (x y : Float) → x ⊗ y ≡ y ⊗ x
 unfolding mul

@@ -15,7 +15,7 @@ use Rattle.numbers.specs.Root.{root}
 use Rattle.numbers.proofs.OrderLaws.{le-left, le-right, lt-le, le-or-lt, le-not-lt, le-top, top-le, le-trans, lt-le-trans, le-lt-trans, finite-number, unsigned, unsigned-number, unsigned-le, positive-unsigned, nothing-below}
 use Rattle.numbers.proofs.RootMonotone.{root-monotone}
 use Rattle.numbers.proofs.RootNearest.{root-nearest}
-use Rattle.numbers.proofs.ProductOrder.{mul-monotone-finite, mul-monotone, mul-number, mul-commutative, square-unsigned}
+use Rattle.numbers.proofs.ProductOrder.{mul-monotone-finite, mul-monotone, mul-number, factor-above, mul-commutative, square-unsigned}
 use Rattle.numbers.proofs.QuotientOrder.{div-number, div-monotone}
 use Rattle.numbers.proofs.Bounded.{mul-unsigned, mul-finite, root-finite}
 use Rattle.vector.specs.Vector.{difference, magnitudeSquared, magnitude, cross, squared, distance}
@@ -160,6 +160,16 @@ fourfold-finite : (z : Float) → T (finite (fourfold z)) → T (finite z) × T 
 unfolding fourfold
 fourfold-finite z f = let g = mul-finite four (z ⊗ half) f .1 in (mul-finite z half g .0, g)
 
+fourfold-above : (z : Float) → T (lt (f32 0) (fourfold z)) → T (lt (f32 0) z)
+unfolding fourfold
+fourfold-above z h = factor-above z half half-finite half-le (factor-above (z ⊗ half) four four-finite four-le (subst (λ (v : Float). T (lt (f32 0) v)) (mul-commutative four (z ⊗ half)) h))
+
+-- the product of a guess b with two lengths is above 0, and so is b, and its product with the first length
+guess-above : (A b C : Float) → T (finite A) → T (finite C) → T (unsigned A) → T (unsigned C) → T (lt (f32 0) (A ⊗ b ⊗ C)) → T (lt (f32 0) b) × T (lt (f32 0) (A ⊗ b))
+guess-above A b C fA fC uA uC h =
+    let k = factor-above (A ⊗ b) C fC (unsigned-le C uC) h in
+    (factor-above b A fA (unsigned-le A uA) (subst (λ (v : Float). T (lt (f32 0) v)) (mul-commutative A b) k), k)
+
 -- ---- the length of a cross product that is long enough
 
 module _ (s : Float) (f : T (fits binary32 s)) (l : T (le least s)) (h : T (le s largest)) where
@@ -220,24 +230,27 @@ module _ (p1 p2 p3 : Point3f) (b z s : Float) (f : T (fits binary32 b)) (g : T (
       let fAb = mul-finite A b (fAC .0) in
       let uA = length-plain p2 p1 (fAb .0) in
       let uC = length-plain p1 p3 (fAC .1) in
-      let pb = positive-is b (n .b-above) (fAb .1) in
+      let ab = guess-above A b C (fAb .0) (fAC .1) uA uC (n .x-above) .0 in
+      let pb = positive-is b ab (fAb .1) in
       let zE = squared-nonnegative p3 p2 (le-left E (b ⊗ b) (lt-le E (b ⊗ b) (n .long))) in
-      let mE = edge-most E b (squared-fits p3 p2) f pb zE (n .b-above) (n .long) in
+      let mE = edge-most E b (squared-fits p3 p2) f pb zE ab (n .long) in
       let uE = root-unsigned E (squared-fits p3 p2) (squared-plain p3 p2 (finite-between E (b ⊗ b) zE (n .long))) in
       let fr = finite-under (root E) b uE mE (fAb .1) in
       let m1 : T (le (A ⊗ root E) (A ⊗ b)) = rw (mul-commutative A (root E), mul-commutative A b) (mul-monotone-finite (root E) b A fr (fAb .1) (fAb .0) mE (unsigned-le A uA)) in
       let fAr = finite-under (A ⊗ root E) (A ⊗ b) (mul-unsigned A (root E) (fAb .0) fr uA uE) m1 (fAC .0) in
       let m2 : T (le (A ⊗ root E ⊗ C) x) = mul-monotone-finite (A ⊗ root E) (A ⊗ b) C fAr (fAC .0) (fAC .1) m1 (unsigned-le C uC) in
       let px = positive-is x (n .x-above) fx in
-      let pz = positive-is z (n .z-above) (square-finite z s (n .z-above) (n .short)) in
+      let az = fourfold-above z (n .area-above) in
+      let pz = positive-is z az (square-finite z s az (n .short)) in
       let mz = root-least z s g k pz (long-positive s k l h) (n .short) in
       let md = fourfold-monotone z (root s) (plain z pz) (length-finite s k l h) mz (length-halved s k l h) in
       let pD = fourfold-positive s k l h in
       let pd = positive-is d (n .area-above) (finite-under d D (positive-unsigned d (n .area-above)) md (positive-finite D pD)) in
+      let aw = factor-above w d (positive-finite d pd) (zero-le d (n .area-above)) (lt-le-trans (f32 0) x (w ⊗ d) (n .x-above) (lt-le x (w ⊗ d) (n .within))) in
       le-trans (A ⊗ root E ⊗ C ⊘ D) (x ⊘ D) w (div-monotone (A ⊗ root E ⊗ C) x D pD m2)
-      (le-trans (x ⊘ D) (x ⊘ d) w (quotient-antitone x d D px pd pD md) (most x w d (mul-fits binary32 (A ⊗ b) C) i px (n .widest-above) pd (n .within)))
+      (le-trans (x ⊘ D) (x ⊘ d) w (quotient-antitone x d D px pd pD md) (most x w d (mul-fits binary32 (A ⊗ b) C) i px aw pd (n .within)))
 
-  wide-radius : (w e : Float) → T (fits binary32 e) → Wide (distance p2 p1 ⊗ b ⊗ distance p1 p3) z b (distance p1 p3) (squared p3 p2) s w e → T (lt w (edges p1 p2 p3 ⊘ fourfold (root s)))
+  wide-radius : (w e : Float) → T (fits binary32 e) → Wide (distance p2 p1 ⊗ b ⊗ distance p1 p3) z b (squared p3 p2) s w e → T (lt w (edges p1 p2 p3 ⊘ fourfold (root s)))
   unfolding edges distance
   wide-radius w e i n =
       let A = distance p2 p1 in
@@ -250,18 +263,20 @@ module _ (p1 p2 p3 : Point3f) (b z s : Float) (f : T (fits binary32 b)) (g : T (
       let fAC = mul-finite (A ⊗ b) C fx in
       let fAb = mul-finite A b (fAC .0) in
       let uA = length-plain p2 p1 (fAb .0) in
-      let pb = positive-is b (n .b-above) (fAb .1) in
-      let pC = positive-is C (n .c-above) (fAC .1) in
+      let above = guess-above A b C (fAb .0) (fAC .1) uA (length-plain p1 p3 (fAC .1)) (n .x-above) in
+      let pb = positive-is b (above .0) (fAb .1) in
+      let aC = factor-above C (A ⊗ b) (fAC .0) (zero-le (A ⊗ b) (above .1)) (subst (λ (v : Float). T (lt (f32 0) v)) (mul-commutative (A ⊗ b) C) (n .x-above)) in
+      let pC = positive-is C aC (fAC .1) in
       let aE = le-lt-trans (f32 0) (b ⊗ b) E (unsigned-le (b ⊗ b) (square-unsigned b (finite-number b (fAb .1)))) (n .short) in
       let pE = positive-is E aE (finite-under E largest (positive-unsigned E aE) (n .edge-fits) largest-finite) in
       let mE = root-least b E f (squared-fits p3 p2) pb pE (n .short) in
       let fr = positive-finite (root E) (root-positive E (squared-fits p3 p2) pE) in
       let m1 : T (le (A ⊗ b) (A ⊗ root E)) = rw (mul-commutative A b, mul-commutative A (root E)) (mul-monotone-finite b (root E) A (fAb .1) fr (fAb .0) mE (unsigned-le A uA)) in
-      let m2 : T (le x (A ⊗ root E ⊗ C)) = mul-monotone (A ⊗ b) (A ⊗ root E) C (fAC .1) m1 (zero-le C (n .c-above)) (finite-number x fx) (number-scaled (A ⊗ root E) C (mul-number A (root E) (fAb .0) fr) pC) in
+      let m2 : T (le x (A ⊗ root E ⊗ C)) = mul-monotone (A ⊗ b) (A ⊗ root E) C (fAC .1) m1 (zero-le C aC) (finite-number x fx) (number-scaled (A ⊗ root E) C (mul-number A (root E) (fAb .0) fr) pC) in
       let px = positive-is x (n .x-above) fx in
       let fd = finite-under d largest (positive-unsigned d (n .area-above)) (n .area-fits) largest-finite in
       let fz = fourfold-finite z fd in
-      let pz = positive-is z (n .z-above) (fz .0) in
+      let pz = positive-is z (fourfold-above z (n .area-above)) (fz .0) in
       let pd = positive-is d (n .area-above) fd in
       let pe = positive-is e (n .beyond-above) (finite-under e largest (positive-unsigned e (n .beyond-above)) (n .beyond-fits) largest-finite) in
       let mz = root-most z s g k pz (long-positive s k l h) (n .long) in
@@ -298,7 +313,7 @@ module _ (p1 p2 p3 : Point3f) (b z radius : Float) (f : T (fits binary32 b)) (g 
       let r : T (le (circumradius p1 p2 p3) w) = rw (radius-is p1 p2 p3 (area-some S k l h)) (narrow-radius p1 p2 p3 b z S f g k l h w (mul-fits binary32 radius (f32 0x3fc00000)) n) in
       rw (long, is-true (le (circumradius p1 p2 p3) w) r)
 
-  pub wide-unsound : (e : Float) → T (fits binary32 e) → Wide (distance p2 p1 ⊗ b ⊗ distance p1 p3) z b (distance p1 p3) (squared p3 p2) (crossSquared p1 p2 p3) (radius ⊗ f32 0x3fc00000) e → sound p1 p2 p3 radius ≡ false
+  pub wide-unsound : (e : Float) → T (fits binary32 e) → Wide (distance p2 p1 ⊗ b ⊗ distance p1 p3) z b (squared p3 p2) (crossSquared p1 p2 p3) (radius ⊗ f32 0x3fc00000) e → sound p1 p2 p3 radius ≡ false
   unfolding sound
   wide-unsound e i n =
       let S = crossSquared p1 p2 p3 in
@@ -338,13 +353,13 @@ module _ (p1 p2 p3 : Point3f) (b z radius : Float) {a c edge s w : Float} (ea : 
       let n4 = subst (λ (v : Float). Narrow (distance p2 p1 ⊗ b ⊗ distance p1 p3) z b (squared p3 p2) v w) es n3 in
       narrow-sound p1 p2 p3 b z radius f g least-is largest-is (subst (λ (v : Float). Narrow (distance p2 p1 ⊗ b ⊗ distance p1 p3) z b (squared p3 p2) (crossSquared p1 p2 p3) v) ew n4)
 
-  pub wide-given : (e : Float) → T (fits binary32 e) → Wide (a ⊗ b ⊗ c) z b c edge s w e → sound p1 p2 p3 radius ≡ false
+  pub wide-given : (e : Float) → T (fits binary32 e) → Wide (a ⊗ b ⊗ c) z b edge s w e → sound p1 p2 p3 radius ≡ false
   wide-given e i n =
-      let n1 = subst (λ (v : Float). Wide (v ⊗ b ⊗ c) z b c edge s w e) (ea ∙ distance-turned p1 p2) n in
-      let n2 = subst (λ (v : Float). Wide (distance p2 p1 ⊗ b ⊗ v) z b v edge s w e) ec n1 in
-      let n3 = subst (λ (v : Float). Wide (distance p2 p1 ⊗ b ⊗ distance p1 p3) z b (distance p1 p3) v s w e) ee n2 in
-      let n4 = subst (λ (v : Float). Wide (distance p2 p1 ⊗ b ⊗ distance p1 p3) z b (distance p1 p3) (squared p3 p2) v w e) es n3 in
-      wide-unsound p1 p2 p3 b z radius f g least-is largest-is e i (subst (λ (v : Float). Wide (distance p2 p1 ⊗ b ⊗ distance p1 p3) z b (distance p1 p3) (squared p3 p2) (crossSquared p1 p2 p3) v e) ew n4)
+      let n1 = subst (λ (v : Float). Wide (v ⊗ b ⊗ c) z b edge s w e) (ea ∙ distance-turned p1 p2) n in
+      let n2 = subst (λ (v : Float). Wide (distance p2 p1 ⊗ b ⊗ v) z b edge s w e) ec n1 in
+      let n3 = subst (λ (v : Float). Wide (distance p2 p1 ⊗ b ⊗ distance p1 p3) z b v s w e) ee n2 in
+      let n4 = subst (λ (v : Float). Wide (distance p2 p1 ⊗ b ⊗ distance p1 p3) z b (squared p3 p2) v w e) es n3 in
+      wide-unsound p1 p2 p3 b z radius f g least-is largest-is e i (subst (λ (v : Float). Wide (distance p2 p1 ⊗ b ⊗ distance p1 p3) z b (squared p3 p2) (crossSquared p1 p2 p3) v e) ew n4)
 
 -- ---- answers
 

@@ -25,20 +25,14 @@ pub record Narrow (x z b edge s widest : Float) : Type 0 where
   pub within : T (lt x (widest ⊗ fourfold z))
   pub long : T (lt edge (b ⊗ b))
   pub x-above : T (lt (f32 0) x)
-  pub z-above : T (lt (f32 0) z)
-  pub b-above : T (lt (f32 0) b)
   pub area-above : T (lt (f32 0) (fourfold z))
-  pub widest-above : T (lt (f32 0) widest)
 
--- b is below the edge, z above the length, and x over four times the area not below what is beyond the widest; c is one of the two edges
-pub record Wide (x z b c edge s widest beyond : Float) : Type 0 where
+-- b is below the edge, z above the length, and x over four times the area not below what is beyond the widest
+pub record Wide (x z b edge s widest beyond : Float) : Type 0 where
   pub long : T (lt s (z ⊗ z))
   pub out : T (lt (beyond ⊗ fourfold z) x)
   pub short : T (lt (b ⊗ b) edge)
   pub x-above : T (lt (f32 0) x)
-  pub z-above : T (lt (f32 0) z)
-  pub b-above : T (lt (f32 0) b)
-  pub c-above : T (lt (f32 0) c)
   pub area-above : T (lt (f32 0) (fourfold z))
   pub beyond-above : T (lt (f32 0) beyond)
   pub x-fits : T (le x largest)

@@ -60,14 +60,12 @@ fn is_narrow(a: f32, b: f32, c: f32, edge: f32, s: f32, limits: Limits) -> bool
     let z = x * limits.high;
     let d = 4.0 * (z * 0.5);
     let w = limits.widest;
-    z * z < s
-        && (x < w * d
-            && (edge < b * b && (0.0 < x && (0.0 < z && (0.0 < b && (0.0 < d && 0.0 < w))))))
+    z * z < s && (x < w * d && (edge < b * b && (0.0 < x && 0.0 < d)))
 }
 
 // Whether it is known to be above the widest, by a guess b below the edge and a guess z above the length. What is above 0 and not infinite needs no more care.
 fn is_wide(a: f32, b: f32, c: f32, edge: f32, s: f32, limits: Limits) -> bool
-    ensures { λ r. ⌜ (r ≡ true → Wide (a ⊗ b ⊗ c) (a ⊗ b ⊗ c ⊗ limits .low) b c edge s (limits .widest) (limits .beyond)) ⌝ }
+    ensures { λ r. ⌜ (r ≡ true → Wide (a ⊗ b ⊗ c) (a ⊗ b ⊗ c ⊗ limits .low) b edge s (limits .widest) (limits .beyond)) ⌝ }
 {
     let x = a * b * c;
     let z = x * limits.low;
@@ -77,16 +75,12 @@ fn is_wide(a: f32, b: f32, c: f32, edge: f32, s: f32, limits: Limits) -> bool
         && (e * d < x
             && (b * b < edge
                 && (0.0 < x
-                    && (0.0 < z
-                        && (0.0 < b
-                            && (0.0 < c
-                                && (0.0 < d
-                                    && (0.0 < e
-                                        && (x <= LARGEST
-                                            && (d <= LARGEST
-                                                && (edge <= LARGEST
-                                                    && (e <= LARGEST
-                                                        && limits.widest < e))))))))))))
+                    && (0.0 < d
+                        && (0.0 < e
+                            && (x <= LARGEST
+                                && (d <= LARGEST
+                                    && (edge <= LARGEST
+                                        && (e <= LARGEST && limits.widest < e)))))))))
 }
 
 // The same as `is_sound`, by a better guess at the edge than b, and by the roots where that is too rough.

@@ -53,10 +53,15 @@ fn lend(points: usize) -> Lent {
     Lent { faces: vec![0; 30_000], words: vec![0; words], floats: vec![0.0; floats] }
 }
 
-/// Times one reconstruction on both sides and tells how many faces there were.
+/// Times one reconstruction on both sides, which have to come to the same, and tells how many faces there were.
 fn reconstruct(points: &[f32], normals: &[f32], settings: &Settings) -> (u32, Times) {
     let mut lent = lend(points.len() / 3);
+    let mut expected = lent.clone();
+    let work = [lent.words.len(), lent.floats.len()];
+    let rust = expect::find(points, normals, settings, work, UNLIMITED).expect("a run without a limit");
     let found = port::reconstruct(points, normals, settings, &mut lent);
+    assert_eq!(found, rust.deliver(&mut expected), "the answers differ");
+    assert!(lent == expected, "the lent slices differ");
     let times = race(
         || _ = std::hint::black_box(oracle::reconstruct(points, normals, settings, UNLIMITED)),
         || _ = std::hint::black_box(port::reconstruct(points, normals, settings, &mut lent)),
@@ -138,6 +143,9 @@ fn estimates() -> bool {
     for (size, reach) in [(WALLS[0], 2.0), (WALLS[2], 5.0), (WALLS[3], 10.0)] {
         let cloud = wall(size);
         let mut lent = lend(cloud.points.len() / 3);
+        let rust = expect::estimate(&cloud.points, 0.5, &mut lent.clone(), UNLIMITED).expect("a run without a limit");
+        let found = port::estimate(&cloud.points, 0.5, &mut lent.words, &mut lent.floats);
+        assert_eq!(found, rust, "the estimates differ");
         let times = race(
             || _ = std::hint::black_box(oracle::estimate(&cloud.points, 0.5, UNLIMITED)),
             || _ = std::hint::black_box(port::estimate(&cloud.points, 0.5, &mut lent.words, &mut lent.floats)),

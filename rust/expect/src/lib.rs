@@ -8,7 +8,7 @@ use oracle::{Error, Laid, Settings, Skip};
 pub const BUDGET: u64 = 16_000_000;
 
 /// The answer of the radius estimate.
-#[derive(Clone, Copy, Debug, Default)]
+#[derive(Clone, Copy, Debug, Default, PartialEq)]
 pub struct Estimate {
     pub answer: u32,
     pub detail: u32,
@@ -16,7 +16,7 @@ pub struct Estimate {
 }
 
 /// The answer of a reconstruction; radii past the count are zeros.
-#[derive(Clone, Copy, Debug, Default)]
+#[derive(Clone, Copy, Debug, Default, PartialEq)]
 pub struct Patch {
     pub answer: u32,
     pub detail: u32,
@@ -29,7 +29,7 @@ pub struct Patch {
 }
 
 /// The slices that a call is lent.
-#[derive(Clone, Debug, Default)]
+#[derive(Clone, Debug, Default, PartialEq)]
 pub struct Lent {
     pub faces: Vec<u32>,
     pub words: Vec<u32>,

@@ -8,37 +8,24 @@ use Rattle.plain.proofs.soundness.is_narrow.Tie as tie
 returns : tie.Need-returns
 unfolding fourfold
 returns c = λ e. record {
-  short = holds (c .before .before .before .before .before .before .if1 .taken);
-  within = holds (c .before .before .before .before .before .if2 .taken);
-  long = holds (c .before .before .before .before .if3 .taken);
-  x-above = holds (c .before .before .before .if4 .taken);
-  z-above = holds (c .before .before .if5 .taken);
-  b-above = holds (c .before .if6 .taken);
-  area-above = holds (c .if7 .taken);
-  widest-above = holds e;
+  short = holds (c .before .before .before .if1 .taken);
+  within = holds (c .before .before .if2 .taken);
+  long = holds (c .before .if3 .taken);
+  x-above = holds (c .if4 .taken);
+  area-above = holds e;
 }
 
 returns-2 : tie.Need-returns-2
-returns-2 c = λ e. never (sym (c .if7 .left) ∙ e)
+returns-2 c = λ e. never (sym (c .if4 .left) ∙ e)
 
 returns-3 : tie.Need-returns-3
-returns-3 c = λ e. never (sym (c .if6 .left) ∙ e)
+returns-3 c = λ e. never (sym (c .if3 .left) ∙ e)
 
 returns-4 : tie.Need-returns-4
-returns-4 c = λ e. never (sym (c .if5 .left) ∙ e)
+returns-4 c = λ e. never (sym (c .if2 .left) ∙ e)
 
 returns-5 : tie.Need-returns-5
-returns-5 c = λ e. never (sym (c .if4 .left) ∙ e)
-
-returns-6 : tie.Need-returns-6
-returns-6 c = λ e. never (sym (c .if3 .left) ∙ e)
-
-returns-7 : tie.Need-returns-7
-returns-7 c = λ e. never (sym (c .if2 .left) ∙ e)
-
-returns-8 : tie.Need-returns-8
-returns-8 c = λ e. never (sym (c .if1 .left) ∙ e)
+returns-5 c = λ e. never (sym (c .if1 .left) ∙ e)
 
 pub is-narrow-spec : {M : Type 1} → statement M
-is-narrow-spec =
-    tie.close (tie.spec returns returns-2 returns-3 returns-4 returns-5 returns-6 returns-7 returns-8)
+is-narrow-spec = tie.close (tie.spec returns returns-2 returns-3 returns-4 returns-5)
