@@ -17,12 +17,10 @@ use Rattle.points.specs.Points.{pointAt, upFrom}
 use Rattle.sorting.proofs.Insertion.{part-length, part-at}
 use Rattle.patch.specs.Count.{count}
 use Rattle.patch.specs.Search.{Below}
-use Rattle.bounds.specs.declared.Bounds.{Bounds}
 use Rattle.spatial_hash.specs.declared.Hash.{Hash}
-use Rattle.bounds.specs.Within.{Covers}
-use Rattle.spatial_hash.specs.Near.{Gathered, HashedAll}
+use Rattle.spatial_hash.specs.Near.{nobody, Surrounds, Near, HashedAll}
 use Rattle.spatial_hash.proofs.Kept.{hashed-all-behind}
-use Rattle.spatial_hash.proofs.Nearby.{gathered-all, near-gathered, up-in}
+use Rattle.spatial_hash.proofs.Nearby.{near-all, surrounds-near, up-in}
 use Rattle.estimate.specs.Estimate.{nearer, nearestFrom, leastDistance}
 use Rattle.estimate.specs.Squares.{lesser, leastSquare, Looked}
 use Rattle.spatial_hash.proofs.Squares.{Good, squared-good, distance-back}
@@ -82,9 +80,9 @@ module _ (pts : List Float) (i : ℕ) where
       (λ (j : ℕ) (c : 1 ≤ count (eqb j) (upFrom 0 n)). let h = up-in j 0 n c in distance-back (pointAt pts i) (pointAt pts j) (numbers i inside) (numbers j (omega arith)))
 
 -- ---- a look
-pub looked : (h : Hash) (pts : List Float) (n i : ℕ) (limit : Float) (w u : List ℕ) (p : Point3f) (b : Bounds) (found : ℕ) (s : Float) → i < n → HashedAll h pts n w → length u ≡ length w
-    → p ≡ pointAt pts i → Covers p limit b → Gathered pts n b w u found → s ≡ leastSquare pts i (inf false) (take found (drop (4 * n) u)) → Looked h pts n i limit s u
-looked h pts n i limit w u p b found s inside x same hp covers g hs = record {
+pub looked : (h : Hash) (pts : List Float) (n i : ℕ) (limit : Float) (w u : List ℕ) (p : Point3f) (found : ℕ) (s : Float) → i < n → HashedAll h pts n w → length u ≡ length w
+    → p ≡ pointAt pts i → Near pts n p limit w u found → s ≡ leastSquare pts i (inf false) (take found (drop (4 * n) u)) → Looked h pts n i limit s u
+looked h pts n i limit w u p found s inside x same hp g hs = record {
   decides = λ (l : T (le s limit)).
       ap root is
       ∙ root-least (key pts i) n i js limit good below near (subst (λ (z : Float). T (le z limit)) is l)
@@ -103,10 +101,10 @@ looked h pts n i limit w u p b found s inside x same hp covers g hs = record {
     good j k = squared-good (pointAt pts j) (pointAt pts i) (x .linked .ready .numbers j k) (x .linked .ready .numbers i inside)
 
     below : Below n js
-    below = g .gathers .below
+    below = g .surrounds .below
 
     near : (j : ℕ) → j < n → T (le (key pts i j) limit) → 1 ≤ count (eqb j) js
-    near = near-gathered pts n b js (pointAt pts i) limit (x .linked .ready .numbers) (subst (λ (q : Point3f). Covers q limit b) hp covers) (gathered-all x g)
+    near = surrounds-near (subst (λ (q : Point3f). Surrounds pts n nobody q limit js) hp (near-all x g))
 
     square-good : Good (leastOf (key pts i) i (inf false) js)
     square-good = least-is (key pts i) i Good (inf false) js top-good (λ (j : ℕ) (c : 1 ≤ count (eqb j) js) _. good j (below j c))

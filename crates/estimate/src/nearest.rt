@@ -49,8 +49,8 @@ fn look_within(points: &[f32], n: usize, hash: Hash, i: usize, limit: f32, w: &m
     ensures { λ r. ⌜ Looked hash (now (points .entry)) n i limit r (now (w .exit)) ⌝ }
 {
     let place = points::point_at(points, i);
-    let bounds = bounds::covering(place, numbers::sqrt(limit) * 1.01, limit);
-    let found = spatial_hash::gather(points, w, n, hash, bounds);
+    let reach = numbers::sqrt(limit) * 1.01;
+    let found = spatial_hash::gather_within(points, w, n, hash, place, reach, limit);
     least_square(points, n, i, w, found)
 }
 

@@ -18,8 +18,10 @@ use Rattle.grid.specs.Index.{earlier}
 use Rattle.grid.proofs.Sequence.{up-below, by-cell-below, snoc-up, insert-alike, earlier-last}
 use Rattle.patch.specs.Count.{bit, count}
 use Rattle.patch.proofs.Counts.{either, true-not-false, upto}
-use Rattle.nearby.specs.Narrow.{only, cellAt, inCells}
-use Rattle.nearby.proofs.Ordered.{Strict, Sorted, insert-count, sorted-insert, only-all}
+use Rattle.sifting.specs.Sift.{only}
+use Rattle.sifting.proofs.Only.{only-all}
+use Rattle.nearby.specs.Narrow.{cellAt, inCells}
+use Rattle.nearby.proofs.Ordered.{Strict, Sorted, insert-count, sorted-insert}
 
 -- ---- orders by keys
 

@@ -15,12 +15,6 @@ use Rattle.spatial_hash.proofs.Kept.{hashed-behind}
 use Rattle.decisions.specs.declared.Scene.{Scene}
 use Rattle.nearby.specs.Ready.{Held, Kept}
 
--- slices that are the same from a on are so from any later place on
-pub drop-more : (w u : List ℕ) (a b : ℕ) → a ≤ b → drop a u ≡ drop a w → drop b u ≡ drop b w
-drop-more w u a b h e =
-    let z : a + (b - a) ≡ b = omega arith in
-    ap (λ (k : ℕ). drop k u) (sym z) ∙ sym (drop-drop (b - a) a u) ∙ ap (drop (b - a)) e ∙ drop-drop (b - a) a w ∙ ap (λ (k : ℕ). drop k w) z
-
 pub kept-self : (s : Scene) (w : List ℕ) → Kept s w w
 kept-self s w = record { before = refl; after = refl }
 

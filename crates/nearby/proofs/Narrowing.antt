@@ -23,11 +23,12 @@ use Rattle.grid.specs.declared.Cell.{Cell}
 use Rattle.grid.specs.Grid.{rangeOf, orderOf}
 use Rattle.grid.specs.Index.{cellIn, Cells, Below, earlier}
 use Rattle.grid.proofs.Sequence.{insert-below, insert-alike}
-use Rattle.bounds.specs.declared.Bounds.{Bounds}
 use Rattle.spatial_hash.specs.declared.Hash.{Hash}
-use Rattle.bounds.specs.Within.{Limit, within, Covers}
-use Rattle.bounds.specs.Cover.{between}
-use Rattle.spatial_hash.specs.Near.{Hashed, Gathered}
+use Rattle.bounds.specs.Within.{Limit}
+use Rattle.sifting.specs.Sift.{only, isWithin, Sifted}
+use Rattle.sifting.proofs.Only.{In, in-at, only-both, only-count, only-fewer, only-at-most}
+use Rattle.sifting.proofs.Parts.{drop-more, word-same, part-step, part-end}
+use Rattle.spatial_hash.specs.Near.{Hashed, Near}
 use Rattle.patch.specs.Count.{count}
 use Rattle.patch.specs.Search.{unused, Below as Points}
 use Rattle.patch.proofs.Counts.{either, and-both, true-not-false}
@@ -35,17 +36,10 @@ use Rattle.decisions.specs.declared.Scene.{Scene}
 use Rattle.decisions.specs.Decisions.{apart}
 use Rattle.nearby.specs.declared.Filter.{Filter}
 use Rattle.nearby.specs.Ready.{Held, Listed, Kept, usedIn, listed}
-use Rattle.nearby.specs.Narrow.{only, insertAll, inReach, inCells, cellAt, passes, larger, lesser, overlap, Filters, Collected, Narrowed, Sought}
-use Rattle.nearby.proofs.Laws.{part-step, part-end}
-use Rattle.nearby.proofs.Ordered.{in-at, only-both, insert-all-is}
+use Rattle.nearby.specs.Narrow.{insertAll, inReach, inCells, cellAt, passes, Filters, Collected, Narrowed, Sought}
+use Rattle.nearby.proofs.Ordered.{insert-all-is}
 use Rattle.nearby.proofs.Earlier.{earlier-strict, order-of-sorted, order-of-count, neighbors-only}
-use Rattle.nearby.proofs.Keeping.{drop-more, kept-self, kept-on, cells-kept}
-
--- ---- the word that is read
-pub word-same : (w u : List ℕ) (a : ℕ) → drop a u ≡ drop a w → getD u a 0 ≡ getD w a 0
-word-same w u a e =
-    let z : a + 0 ≡ a = omega arith in
-    ap (λ (k : ℕ). getD u k 0) (sym z) ∙ sym (getD-drop a u 0 0) ∙ ap (λ (l : List ℕ). getD l 0 0) e ∙ getD-drop a w 0 0 ∙ ap (λ (k : ℕ). getD w k 0) z
+use Rattle.nearby.proofs.Keeping.{kept-self, kept-on, cells-kept}
 
 -- ---- one point
 module _ (less : ℕ → ℕ → Bool) (test : ℕ → Bool) (k : ℕ) (js xs : List ℕ) where
@@ -142,9 +136,9 @@ module _ {s : Scene} {pts : List Float} {f : Filter} {w₀ : List ℕ} {found : 
     }
 
 -- ---- what is left are the neighbours, without those that are used or beyond the limit
-pub in-reach : (pts : List Float) (used : List ℕ) (p : Point3f) (t : Float) (k : ℕ) → inReach pts used p t k ≡ true → lt t (squared (pointAt pts k) p) ≡ false
+pub in-reach : (pts : List Float) (used : List ℕ) (p : Point3f) (t : Float) (k : ℕ) → inReach pts used p t k ≡ true → isWithin pts p t k ≡ true
 unfolding inReach
-in-reach pts used p t k h = not-true (lt t (squared (pointAt pts k) p)) (and-both {p = unused used k} h .1)
+in-reach pts used p t k h = and-both {p = unused used k} h .1
 
 pub in-unused : (pts : List Float) (used : List ℕ) (p : Point3f) (t : Float) (k : ℕ) → inReach pts used p t k ≡ true → unused used k ≡ true
 unfolding inReach
@@ -168,7 +162,7 @@ out-of-reach pts used r a k t l h = go (unused used k) refl (lt t (squared (poin
     go true e false g h = absurd (let z : _≡_ {A = ℕ} 0 1 = cc in omega arith)
 
 narrowed-only : (s : Scene) (pts : List Float) (f : Filter) (used js : List ℕ) → Points (s .n) js → ((k : ℕ) → count (eqb k) js ≤ 1)
-    → ((k : ℕ) → k < s .n → unused used k ≡ true → lt (f .limit) (squared (pointAt pts k) (f .center)) ≡ false → 1 ≤ count (eqb k) js)
+    → ((k : ℕ) → k < s .n → unused used k ≡ true → isWithin pts (f .center) (f .limit) k ≡ true → 1 ≤ count (eqb k) js)
     → insertAll (earlier (s .indexed) (cellAt (s .grid) pts)) (passes s pts used f) [] js
     ≡ only (inReach pts used (f .center) (f .limit)) (only (inCells (s .indexed) (s .grid) pts (f .range) (f .cell)) (orderOf (s .indexed) (s .grid) pts (s .n)))
 unfolding passes
@@ -197,63 +191,34 @@ sought {s} {pts} {f} {w} {u} {v} {a} {found} {r} {p} {q} {radius} ep i c n = rec
   kept = kept-on (c .kept) (n .kept);
 }
 
--- ---- a place within two bounds is within their overlap
-of-cond : (P : Float → Type 0) (t : Bool) (x y : Float) → P x → P y → P (cond t x y)
-of-cond P true x y p q = p
-of-cond P false x y p q = q
+-- ---- what was gathered
+pub near-kept : {s : Scene} {pts : List Float} {p : Point3f} {t : Float} {w u : List ℕ} {r : ℕ} → Near pts (s .n) p t w u r → Kept s w u
+near-kept g = record { before = g .before; after = g .after }
 
-on-axis : (l h m i v : Float) → between l h v ≡ true → between m i v ≡ true → between (larger l m) (lesser h i) v ≡ true
-on-axis l h m i v s t =
-    let a = and-both {p = le l v} s in
-    let b = and-both {p = le m v} t in
-    rw (of-cond (λ (x : Float). le x v ≡ true) (lt l m) m l (b .0) (a .0), of-cond (λ (x : Float). le v x ≡ true) (lt i h) i h (b .1) (a .1))
-
-overlap-has : (a b : Bounds) (p : Point3f) → within a p ≡ true → within b p ≡ true → within (overlap a b) p ≡ true
-unfolding within overlap
-overlap-has a b p s t =
-    let x = and-both {p = between (a .lo .x) (a .hi .x) (p .x)} s in
-    let u = and-both {p = between (b .lo .x) (b .hi .x) (p .x)} t in
-    let y = and-both {p = between (a .lo .y) (a .hi .y) (p .y)} (x .1) in
-    let v = and-both {p = between (b .lo .y) (b .hi .y) (p .y)} (u .1) in
-    rw (
-      on-axis (a .lo .x) (a .hi .x) (b .lo .x) (b .hi .x) (p .x) (x .0) (u .0),
-      on-axis (a .lo .y) (a .hi .y) (b .lo .y) (b .hi .y) (p .y) (y .0) (v .0),
-      on-axis (a .lo .z) (a .hi .z) (b .lo .z) (b .hi .z) (p .z) (y .1) (v .1),
-    )
-
--- ---- whoever lies outside of bounds that cover the limit is beyond it
-inside : (p c : Point3f) (t : Float) (b : Bounds) → Covers c t b → Finite p → lt t (squared p c) ≡ false → within b p ≡ true
-inside p c t b covers f h = ⊎-elim
-    (λ (o : within b p ≡ true). o)
-    (λ (o : within b p ≡ false). absurd (true-not-false (is-true (lt t (squared p c)) (covers p f o)) h))
-    (either (within b p))
-
-pub gathered-near : {n : ℕ} {hash : Hash} {pts : List Float} (p : Point3f) (t : Float) {b : Bounds} {w u : List ℕ} {r : ℕ} → Hashed hash pts n w → Covers p t b → Gathered pts n b w u r
-    → (k : ℕ) → k < n → unused (take n (drop (usedAt n) w)) k ≡ true → lt t (squared (pointAt pts k) p) ≡ false → 1 ≤ count (eqb k) (take r (drop (neighborsAt n) u))
-gathered-near {pts = pts} p t {b} h c g k l free near = g .gathers .complete k l (h .unused-in k l free) (inside (pointAt pts k) p t b c (h .linked .ready .numbers k l) near)
-
-pub gathered-kept : {s : Scene} {pts : List Float} {b : Bounds} {w u : List ℕ} {r : ℕ} → Gathered pts (s .n) b w u r → Kept s w u
-gathered-kept g = record { before = g .before; after = g .after }
-
-module _ {s : Scene} {hash : Hash} {pts : List Float} {f : Filter} {w u : List ℕ} {r : ℕ} (h : Hashed hash pts (s .n) w) where
-  collects : {q : Point3f} {b : Bounds} → ((k : ℕ) → k < s .n → lt (f .limit) (squared (pointAt pts k) (f .center)) ≡ false → lt (f .limit) (squared (pointAt pts k) q) ≡ false → within b (pointAt pts k) ≡ true)
-      → Gathered pts (s .n) b w u r → Collected s pts f q w u r
-  collects near g = record {
+module _ {s : Scene} {pts : List Float} {f : Filter} {w u : List ℕ} {found : ℕ} where
+  pub collected : {hash : Hash} → Hashed hash pts (s .n) w → Near pts (s .n) (f .center) (f .limit) w u found → Collected s pts f (f .center) w u found
+  collected h g = record {
     most = g .most;
-    below = g .gathers .below;
-    once = g .gathers .once;
-    complete = λ k l free x y. g .gathers .complete k l (h .unused-in k l free) (near k l x y);
-    kept = gathered-kept {s = s} g;
+    below = g .surrounds .below;
+    once = g .surrounds .once;
+    complete = λ k l free x y. g .surrounds .complete k l (h .unused-in k l free) x;
+    kept = near-kept {s = s} g;
   }
 
-  pub collected : {b : Bounds} → Covers (f .center) (f .limit) b → Gathered pts (s .n) b w u r → Collected s pts f (f .center) w u r
-  collected {b} c g = collects (λ k l x y. inside (pointAt pts k) (f .center) (f .limit) b c (h .linked .ready .numbers k l) x) g
+  pub collected-both : {q : Point3f} {v : List ℕ} {r : ℕ} → Collected s pts f (f .center) w u found → Sifted pts (s .n) q (f .limit) u v found r → Collected s pts f q w v r
+  collected-both {q} {v} {r} c x = record {
+    most = omega (arith, c .most, x .most);
+    below = λ k h. c .below k (only-fewer near k (listed s u found) (fewer k h));
+    once = λ k. let few = c .once k in let same = ap (count (eqb k)) (x .same) in omega (arith, only-at-most near k (listed s u found));
+    complete = λ k l free i j. let same = ap (count (eqb k)) (x .same) in let all = only-count near k j (listed s u found) in omega (arith, c .complete k l free i i);
+    kept = kept-on (c .kept) (record { before = x .before; after = x .after });
+  }
+    where
+      near : ℕ → Bool
+      near = isWithin pts q (f .limit)
 
-  pub collected-both : {q : Point3f} (a b : Bounds) {o : Bounds} → Covers (f .center) (f .limit) a → Covers q (f .limit) b → o ≡ overlap a b → Gathered pts (s .n) o w u r → Collected s pts f q w u r
-  collected-both {q} a b c d e g = collects (λ k l x y.
-      let n = h .linked .ready .numbers k l in
-      ap (λ (o : Bounds). within o (pointAt pts k)) e
-      ∙ overlap-has a b (pointAt pts k) (inside (pointAt pts k) (f .center) (f .limit) a c n x) (inside (pointAt pts k) q (f .limit) b d n y)) g
+      fewer : (k : ℕ) → In k (listed s v r) → In k (only (isWithin pts q (f .limit)) (listed s u found))
+      fewer k h = subst (λ (l : List ℕ). In k l) (x .same) h
 
 -- listed numbers below n are points of the cloud
 pub below-listed : {s : Scene} {u : List ℕ} {r : ℕ} → 24 * s .n + 64 ≤ length u → r ≤ s .n → Points (s .n) (listed s u r) → Listed s u r

@@ -7,7 +7,7 @@ use lib.ListN.{length, drop, getD}
 use lib.Ieee.{Float}
 use Rattle.decisions.specs.declared.Scene.{Scene}
 use Rattle.nearby.specs.Ready.{Held, Listed, listed}
-use Rattle.nearby.proofs.Laws.{part-step, part-end}
+use Rattle.sifting.proofs.Parts.{part-step, part-end}
 
 -- the answer is what f finds among the neighbours from the m-th on
 pub record Rest {A : Type 0} (s : Scene) (w : List ℕ) (count : ℕ) (answer : A) (f : List ℕ → A) (m : ℕ) : Type 0 where

@@ -4,8 +4,7 @@ use mathlib.Core.Path.{_≡_}
 use mathlib.Core.Bool.{Bool, true, false, cond, not, _&&_, _||_}
 use mathlib.Core.List.{List, [], _∷_}
 use lib.Dec.{eqb}
-use lib.Ieee.{Float, lt}
-use Rattle.vector.specs.Vector.{squared}
+use lib.Ieee.{Float}
 use Rattle.vector.specs.declared.Point3f.{Point3f}
 use Rattle.points.specs.Points.{pointAt}
 use Rattle.sorting.specs.Insertion.{insertBefore}
@@ -13,18 +12,13 @@ use Rattle.grid.specs.declared.SpatialGrid.{SpatialGrid}
 use Rattle.grid.specs.declared.Cell.{Cell}
 use Rattle.grid.specs.Grid.{cellOf, inRange, rangeOf, neighbors}
 use Rattle.grid.specs.Index.{earlier}
-use Rattle.bounds.specs.declared.Bounds.{Bounds}
 use Rattle.bounds.specs.Within.{Limit}
+use Rattle.sifting.specs.Sift.{only, isWithin}
 use Rattle.patch.specs.Count.{count}
 use Rattle.patch.specs.Search.{unused, Below}
 use Rattle.decisions.specs.declared.Scene.{Scene}
 use Rattle.nearby.specs.declared.Filter.{Filter}
 use Rattle.nearby.specs.Ready.{usedIn, listed, Kept}
-
--- those of the points ks that pass a test
-unfoldable pub only : (ℕ → Bool) → List ℕ → List ℕ
-only test [] = []
-only test (k ∷ ks) = let later = only test ks in cond (test k) (k ∷ later) later
 
 -- each of the points ks that passes a test goes before the first one that it is less than
 unfoldable pub insertAll : (ℕ → ℕ → Bool) → (ℕ → Bool) → List ℕ → List ℕ → List ℕ
@@ -33,7 +27,7 @@ insertAll less test sorted (k ∷ ks) = insertAll less test (cond (test k) (inse
 
 -- point k is unused, and the square of its distance from a place is not above a limit
 unfoldable pub inReach : List Float → List ℕ → Point3f → Float → ℕ → Bool
-inReach pts used p t k = unused used k && not (lt t (squared (pointAt pts k) p))
+inReach pts used p t k = unused used k && isWithin pts p t k
 
 -- the cell of point i
 abbrev pub cellAt : SpatialGrid → List Float → ℕ → Cell
@@ -46,20 +40,6 @@ inCells indexed g pts range c k = not indexed || inRange range c (cellAt g pts k
 -- point k is as a filter asks
 unfoldable pub passes : Scene → List Float → List ℕ → Filter → ℕ → Bool
 passes s pts used f k = inReach pts used (f .center) (f .limit) k && inCells (s .indexed) (s .grid) pts (f .range) (f .cell) k
-
--- the larger of two numbers, the lesser of two
-abbrev pub larger : Float → Float → Float
-larger a b = cond (lt a b) b a
-
-abbrev pub lesser : Float → Float → Float
-lesser a b = cond (lt b a) b a
-
--- the bounds of the places that are within a and within b
-unfoldable pub overlap : Bounds → Bounds → Bounds
-overlap a b = record {
-  lo = record { x = larger (a .lo .x) (b .lo .x); y = larger (a .lo .y) (b .lo .y); z = larger (a .lo .z) (b .lo .z) };
-  hi = record { x = lesser (a .hi .x) (b .hi .x); y = lesser (a .hi .y) (b .hi .y); z = lesser (a .hi .z) (b .hi .z) };
-}
 
 -- js are those of the points ks that are unused and within some limit of point a, and whoever is beyond it is farther than r from a
 pub record Nearby (pts : List Float) (used : List ℕ) (a : ℕ) (r : Float) (ks js : List ℕ) : Type 0 where
@@ -81,8 +61,7 @@ pub record Collected (s : Scene) (pts : List Float) (f : Filter) (q : Point3f) (
   pub most : r ≤ s .n
   pub below : Below (s .n) (listed s u r)
   pub once : (k : ℕ) → count (eqb k) (listed s u r) ≤ 1
-  pub complete : (k : ℕ) → k < s .n → unused (usedIn s w) k ≡ true → lt (f .limit) (squared (pointAt pts k) (f .center)) ≡ false → lt (f .limit) (squared (pointAt pts k) q) ≡ false
-      → 1 ≤ count (eqb k) (listed s u r)
+  pub complete : (k : ℕ) → k < s .n → unused (usedIn s w) k ≡ true → isWithin pts (f .center) (f .limit) k ≡ true → isWithin pts q (f .limit) k ≡ true → 1 ≤ count (eqb k) (listed s u r)
   pub kept : Kept s w u
 
 -- of the `found` points r are left, those that pass, inserted in turn

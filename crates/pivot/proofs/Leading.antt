@@ -18,8 +18,9 @@ use Rattle.patch.proofs.Counts.{either, not-true, true-not-false, and-both}
 use Rattle.decisions.specs.declared.Score.{Score}
 use Rattle.decisions.specs.declared.Score.the-variants.{Of, None}
 use Rattle.decisions.specs.Found.{scoreFound, atLeast}
-use Rattle.nearby.specs.Narrow.{only}
-use Rattle.nearby.proofs.Ordered.{In, in-head, in-cases, and-false, Strict, Sorted}
+use Rattle.sifting.specs.Sift.{only}
+use Rattle.sifting.proofs.Only.{In, in-head, in-cases, and-false}
+use Rattle.nearby.proofs.Ordered.{Strict, Sorted}
 use Rattle.pivot.specs.Best.{isBefore, ahead, leader}
 use Rattle.pivot.proofs.Laws.{above, after, best-step, best-end}
 

@@ -13,7 +13,7 @@ use Rattle.patch.specs.Search.{unused, scoreOf}
 use Rattle.patch.proofs.Counts.{either, not-true}
 use Rattle.decisions.specs.declared.Scene.{Scene}
 use Rattle.decisions.specs.Decisions.{apart, scoreAt, floatsOf}
-use Rattle.nearby.proofs.Ordered.{and-false}
+use Rattle.sifting.proofs.Only.{and-false}
 use Rattle.pivot.proofs.Laws.{met, not-met}
 
 module _ (s : Scene) (pts : List Float) (r : Float) (used : List ℕ) where

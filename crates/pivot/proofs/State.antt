@@ -25,8 +25,10 @@ use Rattle.decisions.specs.declared.Scene.{Scene}
 use Rattle.decisions.specs.Decisions.{apart, middle, around, scoreAt, floatsOf}
 use Rattle.nearby.specs.declared.Filter.{Filter}
 use Rattle.nearby.specs.Ready.{usedIn, listed}
-use Rattle.nearby.specs.Narrow.{only, inReach, inCells, cellAt, Filters, Collected}
-use Rattle.nearby.proofs.Ordered.{In, Strict}
+use Rattle.sifting.specs.Sift.{only}
+use Rattle.nearby.specs.Narrow.{inReach, inCells, cellAt, Filters, Collected}
+use Rattle.sifting.proofs.Only.{In}
+use Rattle.nearby.proofs.Ordered.{Strict}
 use Rattle.nearby.proofs.Earlier.{earlier-strict, order-of-sorted, order-of-count, neighbors-only}
 use Rattle.nearby.proofs.Narrowing.{earlier-kept, in-reach, in-unused, out-of-reach}
 use Rattle.pivot.specs.Found.{Met, pointOf}

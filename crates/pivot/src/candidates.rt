@@ -15,7 +15,6 @@ ghost use Rattle.numbers.specs.Rounded.{f32};
 ghost use Rattle.points.specs.Points.{pointAt};
 ghost use Rattle.grid.specs.Grid.{inRange};
 ghost use Rattle.grid.specs.Index.{cellIn, Cells, Indexed, earlier};
-ghost use Rattle.bounds.specs.Within.{Limit};
 ghost use Rattle.spatial_hash.specs.Near.{Hashed};
 ghost use Rattle.patch.specs.Lay.{edge};
 ghost use Rattle.patch.specs.Search.{scoreOf, bestOf};
@@ -33,7 +32,6 @@ fn score_of(
     points: &[f32],
     w: &[u32],
     radius: f32,
-    limit: f32,
     a: usize,
     b: usize,
     k: usize,
@@ -41,7 +39,7 @@ fn score_of(
     top: f32,
     thin: f32,
 ) -> Score
-    requires { ⌜ Held s (now points) (now w) × (k < s .n) × (side ≡ sideOf (pointAt (now points) a) (pointAt (now points) b)) × Limit radius limit × Thinned top thin ⌝ }
+    requires { ⌜ Held s (now points) (now w) × (k < s .n) × (side ≡ sideOf (pointAt (now points) a) (pointAt (now points) b)) × Thinned top thin ⌝ }
     ensures { λ r. ⌜ r ≡ scoreFound (atLeast top (scoreOf (floatsOf s (now (points .entry))) radius (usedIn s (now (w .entry))) (edge a b) k)) ⌝ }
 {
     if k == a {
@@ -54,7 +52,7 @@ fn score_of(
         return Score::None;
     }
     let t = points::point_at(points, k);
-    scores::score_over(s, radius, limit, side, t, top, thin)
+    scores::score_over(s, radius, side, t, top, thin)
 }
 
 // Whether point k comes before the best one so far, if there is one.
@@ -98,10 +96,10 @@ fn score_ahead(
     thin: f32,
     best: Pivot,
 ) -> Score
-    requires { ⌜ Held s (now points) (now w) × Cells (s .grid) (now points) (s .n) (now w) × (k < s .n) × (side ≡ sideOf (pointAt (now points) a) (pointAt (now points) b)) × Limit radius (f .limit) × Thinned top thin × Met s best ⌝ }
+    requires { ⌜ Held s (now points) (now w) × Cells (s .grid) (now points) (s .n) (now w) × (k < s .n) × (side ≡ sideOf (pointAt (now points) a) (pointAt (now points) b)) × Thinned top thin × Met s best ⌝ }
     ensures { λ r. ⌜ r ≡ scoreFound (ahead (earlier (s .indexed) (cellAt (s .grid) (now (points .entry)))) top (pointOf best) k (scoreIn s (now (points .entry)) radius (usedIn s (now (w .entry))) f (edge a b) k)) ⌝ }
 {
-    if let Score::Of(x) = score_of(s, points, w, radius, f.limit, a, b, k, side, top, thin) {
+    if let Score::Of(x) = score_of(s, points, w, radius, a, b, k, side, top, thin) {
         if is_ahead(s, w, f, k, x, top, best) {
             return Score::Of(x);
         }
@@ -120,7 +118,7 @@ fn best_of(
     a: usize,
     b: usize,
 ) -> Pivot
-    requires { ⌜ Held s (now points) (now w) × Cells (s .grid) (now points) (s .n) (now w) × Listed s (now w) count × (a < s .n) × (b < s .n) × Limit radius (f .limit) ⌝ }
+    requires { ⌜ Held s (now points) (now w) × Cells (s .grid) (now points) (s .n) (now w) × Listed s (now w) count × (a < s .n) × (b < s .n) ⌝ }
     ensures { λ r. ⌜ r ≡ pivotFound (leader (earlier (s .indexed) (cellAt (s .grid) (now (points .entry)))) (scoreIn s (now (points .entry)) radius (usedIn s (now (w .entry))) f (edge a b)) (listed s (now (w .entry)) count) (f32 0) none) ⌝ }
 {
     let at = 4 * s.n;

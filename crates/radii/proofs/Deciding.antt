@@ -1,4 +1,4 @@
--- The least squares among the points that were gathered are those of all neighbours, if ten are not above the limit,
+-- The least squares among the points that were found are those of all neighbours, if ten are not above the limit,
 -- and their roots are the least distances of the definition. Assumes nothing.
 use mathlib.Core.Path.{_≡_, refl, sym, ap, _∙_, subst}
 use mathlib.Core.Bool.{Bool, true, false, cond, not, _&&_}
@@ -28,13 +28,11 @@ use Rattle.grid.proofs.Sequence.{order-of-below}
 use Rattle.patch.specs.Count.{count, bit}
 use Rattle.patch.specs.Search as search
 use Rattle.patch.proofs.Counts.{not-true, and-both, count-mono, count-zero, count-all}
-use Rattle.bounds.specs.declared.Bounds.{Bounds}
 use Rattle.spatial_hash.specs.declared.Hash.{Hash}
-use Rattle.bounds.specs.Within.{Covers}
-use Rattle.spatial_hash.specs.Near.{nobody, Gathers, Gathered}
+use Rattle.spatial_hash.specs.Near.{nobody, Surrounds, Near}
 use Rattle.spatial_hash.proofs.Kept.{hashed-all-behind}
 use Rattle.spatial_hash.proofs.Squares.{Good, squared-good, distance-back}
-use Rattle.spatial_hash.proofs.Nearby.{count-same, gathered-all, gathered-count, up-whole}
+use Rattle.spatial_hash.proofs.Nearby.{count-same, near-all, surrounds-count, up-whole}
 use Rattle.radii.specs.declared.Around.{Around}
 use Rattle.radii.specs.Radii.{distancesTo, nearOf, nearest}
 use Rattle.radii.specs.Squares.{aroundOf, isNear, within, squaresTo, leastSquares, Whole, Prepared, Kept, Looked}
@@ -102,16 +100,16 @@ whole-same near pts n i inside numbers xs ys a b =
     least-same 10 (squaresTo near pts i xs) (squaresTo near pts i ys) (squares-good near pts i n inside numbers xs (whole-below n xs a)) (squares-good near pts i n inside numbers ys (whole-below n ys b))
     (λ (v : Float). ap (min 10) (squares-count near pts i v xs ∙ count-same (close near pts i v) xs ys (λ (j : ℕ) _. a j ∙ sym (b j)) ∙ sym (squares-count near pts i v ys)))
 
--- ---- those gathered decide
-module _ (near : ℕ → Bool) (pts : List Float) (n i : ℕ) (b : Bounds) (js all : List ℕ) (limit : Float) (inside : i < n) (numbers : (j : ℕ) → j < n → Finite (pointAt pts j))
-    (covers : Covers (pointAt pts i) limit b) (g : Gathers pts n nobody b js) (whole : Whole n all) where
+-- ---- those found decide
+module _ (near : ℕ → Bool) (pts : List Float) (n i : ℕ) (js all : List ℕ) (limit : Float) (inside : i < n) (numbers : (j : ℕ) → j < n → Finite (pointAt pts j))
+    (g : Surrounds pts n nobody (pointAt pts i) limit js) (whole : Whole n all) where
   abbrev passing : Float → List ℕ → ℕ
   passing v xs = count (close near pts i v) xs
 
   -- up to the limit there are equally many
   upto : (v : Float) → T (le v limit) → passing v js ≡ passing v all
   upto v l =
-      gathered-count pts n b js all (pointAt pts i) limit numbers covers g whole (close near pts i v)
+      surrounds-count js all g whole (close near pts i v)
       (λ (j : ℕ) (h : j < n) (e : close near pts i v j ≡ true). le-trans (key pts i j) v limit (close-le near pts i v j e .1) l)
 
   more : (v : Float) → T (lt limit v) → (xs : List ℕ) → passing limit xs ≤ passing v xs
@@ -180,14 +178,14 @@ module _ (near : ℕ → Bool) (pts : List Float) (n i : ℕ) (b : Bounds) (js a
           omega (arith, length-take 10 (sorted ys), count-all (sorted ys), sorted-count all-true ys, count-all ys, squares-length kept pts i js, count-mono (λ (j : ℕ). not (eqb j i) && kept j) (close near pts i limit) kept-other js)
 
 -- ---- a look
-pub looked : (a : Around) (pts : List Float) (n i : ℕ) (limit : Float) (w u : List ℕ) (f g : List Float) (h : Hash) (p : Point3f) (b : Bounds) (found r : ℕ)
-    → Prepared h pts n i w f → length g ≡ length f → p ≡ pointAt pts i → Covers p limit b → Gathered pts n b w u found
+pub looked : (a : Around) (pts : List Float) (n i : ℕ) (limit : Float) (w u : List ℕ) (f g : List Float) (h : Hash) (p : Point3f) (found r : ℕ)
+    → Prepared h pts n i w f → length g ≡ length f → p ≡ pointAt pts i → Near pts n p limit w u found
     → take r (drop n g) ≡ leastSquares (within limit (isNear a u n) pts i) pts i (take found (drop (4 * n) u)) → r ≤ 10 → take n g ≡ take n f → Looked a pts n i w u f g r
-looked a pts n i limit w u f g h p b found r x size hp covers gathered squares few front = record {
+looked a pts n i limit w u f g h p found r x size hp found-near squares few front = record {
   few = few;
   full = λ (e : r ≡ 10).
-      squares ∙ decided-full near pts n i b js (upFrom 0 n) limit (x .inside) (x .hashed .linked .ready .numbers) covers' (gathered-all (x .hashed) gathered) (up-whole n) g (omega (arith, x .room)) (ap (λ (k : ℕ). take k (drop n g)) (sym e) ∙ squares);
-  kept = record { front = front; before = gathered .before; after = gathered .after };
+      squares ∙ decided-full near pts n i js (upFrom 0 n) limit (x .inside) (x .hashed .linked .ready .numbers) (subst (λ (q : Point3f). Surrounds pts n nobody q limit js) hp (near-all (x .hashed) found-near)) (up-whole n) g (omega (arith, x .room)) (ap (λ (k : ℕ). take k (drop n g)) (sym e) ∙ squares);
+  kept = record { front = front; before = found-near .before; after = found-near .after };
 }
   where
     near : ℕ → Bool
@@ -195,9 +193,6 @@ looked a pts n i limit w u f g h p b found r x size hp covers gathered squares f
 
     js : List ℕ
     js = take found (drop (4 * n) u)
-
-    covers' : Covers (pointAt pts i) limit b
-    covers' = subst (λ (q : Point3f). Covers q limit b) hp covers
 
 -- ---- one look after another
 pub kept-start : (n : ℕ) (w : List ℕ) (f : List Float) → Kept n w w f f

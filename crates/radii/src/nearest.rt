@@ -127,8 +127,8 @@ fn look_within(
     ensures { λ r. ⌜ Looked around (now (points .entry)) n i (now (w .entry)) (now (w .exit)) (now (f .entry)) (now (f .exit)) r ⌝ }
 {
     let place = points::point_at(points, i);
-    let bounds = bounds::covering(place, numbers::sqrt(limit) * 1.01, limit);
-    let found = spatial_hash::gather(points, w, n, hash, bounds);
+    let reach = numbers::sqrt(limit) * 1.01;
+    let found = spatial_hash::gather_within(points, w, n, hash, place, reach, limit);
     least_squares(points, n, around, i, limit, w, found, f)
 }
 

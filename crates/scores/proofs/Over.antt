@@ -5,17 +5,15 @@ use mathlib.Core.Bool.{Bool, true, false, cond, _&&_}
 use mathlib.Core.List.{List}
 use mathlib.Core.Option.{Option, none, some}
 use lib.Dec.{T, not-T}
-use lib.Ieee.{Float, lt, le}
+use lib.Ieee.{Float, le}
 use lib.Ieee.Bits.{is-false}
 use Rattle.numbers.proofs.OrderLaws.{le-not-lt}
 use Rattle.numbers.specs.Rounded.{_⊗_}
 use Rattle.numbers.specs.Root.{root}
 use Rattle.vector.specs.Vector.{squared, distance, magnitude}
 use Rattle.vector.specs.declared.Point3f.{Point3f}
-use Rattle.vector.proofs.Distances.{squared-fits}
 use Rattle.area_bounds.specs.AreaBound.{crossSquared}
 use Rattle.thin.specs.Thin.{AllThin}
-use Rattle.bounds.specs.Within.{Limit}
 use Rattle.quality.specs.Measures.{half}
 use Rattle.triangle.specs.Quality.{area}
 use Rattle.quality.specs.Shape.{shapeOf, qualityOf}
@@ -68,9 +66,6 @@ module _ (s : Scene) (r top a b c area : Float) where
 
 -- ---- of points
 
-beyond : (r far : Float) (p q : Point3f) → Limit r far → lt far (squared p q) ≡ true → le (root (squared p q)) r ≡ false
-beyond r far p q l h = is-false (le (root (squared p q)) r) (not-T (le (root (squared p q)) r) (λ k. le-not-lt (root (squared p q)) r k (l (squared p q) (squared-fits p q) (subst T (sym h) tt))))
-
 module _ (s : Scene) (r top : Float) (p q t : Point3f) where
   abbrev over : Score
   over = scoreFound (atLeast top (scoreOver s r p q t))
@@ -81,12 +76,6 @@ module _ (s : Scene) (r top : Float) (p q t : Point3f) where
 
   pub over-found : {o : Score} → o ≡ scoreFound (atLeast top (scoreNear s r (root (squared q p)) (root (squared t q)) (root (squared t p)) (root (crossSquared p q t) ⊗ half))) → o ≡ over
   over-found e = e ∙ ap (λ (x : Option Float). scoreFound (atLeast top x)) over-is
-
-  pub over-far : (far : Float) → Limit r far → lt far (squared t p) ≡ true → None ≡ over
-  over-far far l h = over-found (score-far s r top (root (squared q p)) (root (squared t q)) (root (squared t p)) (root (crossSquared p q t) ⊗ half) (beyond r far t p l h))
-
-  pub over-far-too : (far : Float) → Limit r far → lt far (squared t q) ≡ true → None ≡ over
-  over-far-too far l h = over-found (score-far-too s r top (root (squared q p)) (root (squared t q)) (root (squared t p)) (root (crossSquared p q t) ⊗ half) (beyond r far t q l h))
 
   pub over-thin : {limit : Float} → Thinned top limit → AllThin limit (squared q p) (squared t q) (squared t p) (crossSquared p q t) → None ≡ over
   over-thin l h = over-found (score-thin s r top (root (squared q p)) (root (squared t q)) (root (squared t p)) (root (crossSquared p q t) ⊗ half) l (h .abc .below (l .aspect) (l .thins)))

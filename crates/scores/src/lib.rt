@@ -6,7 +6,6 @@ ghost use mathlib.Core.Path.{_≡_};
 ghost use Rattle.numbers.specs.Rounded.{_⊗_};
 ghost use Rattle.numbers.specs.Root.{root};
 ghost use Rattle.quality.specs.Measures.{half};
-ghost use Rattle.bounds.specs.Within.{Limit};
 ghost use Rattle.decisions.specs.Found.{scoreFound, atLeast};
 ghost use Rattle.scores.specs.Over.{sideOf, scoreNear, scoreOver, Thinned};
 
@@ -54,27 +53,13 @@ fn score_near(s: Scene, radius: f32, a: f32, b: f32, c: f32, cross: f32, top: f3
 }
 
 // The score of an edge with a point, if the point is near enough to both ends, the triangle is acceptable and the score is not below `top`.
-// `far` is a limit for squares above the radius, `thin` one for triangles that don't reach `top`.
-pub fn score_over(
-    s: Scene,
-    radius: f32,
-    far: f32,
-    side: Side,
-    t: Point3f,
-    top: f32,
-    thin: f32,
-) -> Score
-    requires { ⌜ (side ≡ sideOf (side .p) (side .q)) × Limit radius far × Thinned top thin ⌝ }
+// `thin` is a limit for triangles that don't reach `top`.
+pub fn score_over(s: Scene, radius: f32, side: Side, t: Point3f, top: f32, thin: f32) -> Score
+    requires { ⌜ (side ≡ sideOf (side .p) (side .q)) × Thinned top thin ⌝ }
     ensures { λ r. ⌜ r ≡ scoreFound (atLeast top (scoreOver s radius (side .p) (side .q) t)) ⌝ }
 {
     let to_p = vector::distance_squared(t, side.p);
-    if to_p > far {
-        return Score::None;
-    }
     let to_q = vector::distance_squared(t, side.q);
-    if to_q > far {
-        return Score::None;
-    }
     let cross = area_bounds::cross_squared(side.p, side.q, t);
     if thin::is_thin(side.square, to_q, to_p, cross, thin) {
         return Score::None;

@@ -15,8 +15,8 @@ use Rattle.patch.specs.Search.{Floats, unused, isSecond, isThird, thirdOf, seco
 use Rattle.patch.proofs.Counts.{either}
 use Rattle.decisions.specs.declared.Scene.{Scene}
 use Rattle.decisions.specs.Decisions.{reach, apart, isClose, accepts, qualityAt, floatsOf}
-use Rattle.nearby.specs.Narrow.{only}
-use Rattle.nearby.proofs.Ordered.{and-false}
+use Rattle.sifting.specs.Sift.{only}
+use Rattle.sifting.proofs.Only.{and-false}
 use Rattle.seed.specs.Found.{withSecond}
 use Rattle.seed.proofs.Laws.{orElse, else-miss, third-hit, third-miss, second-not, second-step, second-end}
 

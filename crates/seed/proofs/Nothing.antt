@@ -32,7 +32,9 @@ use Rattle.nearby.specs.declared.Filter.{Filter}
 use Rattle.nearby.specs.Ready.{usedIn, listed}
 use Rattle.nearby.specs.Narrow.{insertAll, inReach, cellAt, passes, Filters, Collected, Narrowed}
 use Rattle.nearby.proofs.Keeping.{kept-self}
-use Rattle.nearby.proofs.Ordered.{and-false, insert-count}
+use Rattle.sifting.specs.Sift.{isWithin}
+use Rattle.sifting.proofs.Only.{and-false}
+use Rattle.nearby.proofs.Ordered.{insert-count}
 use Rattle.nearby.proofs.Laws.{chosen, passed}
 use Rattle.nearby.proofs.Narrowing.{out-of-reach, in-reach, in-unused}
 use Rattle.seed.specs.Found.{withSecond, withFirst}
@@ -105,7 +107,7 @@ listing {s} {pts} {r} {f = f} {u = u} e x c = record {
 listed-near : {s : Scene} {pts : List Float} {r : Float} {i : ℕ} {f : Filter} {w : List ℕ} {found : ℕ} → Listing s pts r i f w found → (k : ℕ) → k < s .n
     → inReach pts (usedIn s w) (pointAt pts i) (f .limit) k ≡ true → 1 ≤ count (eqb k) (listed s w found)
 listed-near {s} {pts} {i = i} {f = f} {w = w} l k h t =
-    let near : lt (f .limit) (squared (pointAt pts k) (f .center)) ≡ false = rw (l .filters .center-is) (in-reach pts (usedIn s w) (pointAt pts i) (f .limit) k t) in
+    let near : isWithin pts (f .center) (f .limit) k ≡ true = rw (l .filters .center-is) (in-reach pts (usedIn s w) (pointAt pts i) (f .limit) k t) in
     l .collected .complete k h (in-unused pts (usedIn s w) (pointAt pts i) (f .limit) k t) near near
 
 pub small-nothing : {s : Scene} {pts : List Float} {r : Float} {l : Limits} {i : ℕ} {f : Filter} {w : List ℕ} {found : ℕ} {v : Point3f} → Judged s pts r l → i < s .n → Listing s pts r i f w found

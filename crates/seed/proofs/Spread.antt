@@ -22,7 +22,7 @@ use Rattle.decisions.specs.Decisions.{accepts, qualityAt}
 use Rattle.refusals.specs.declared.Limits.{Limits}
 use Rattle.refusals.specs.Refused.{Refused, RefusedThroughout}
 use Rattle.refusals.proofs.Refusals.{bounded-accepts}
-use Rattle.nearby.proofs.Laws.{part-step, part-end}
+use Rattle.sifting.proofs.Parts.{part-step, part-end}
 use Rattle.seed.specs.Spread.{spreadFrom, spread, tooSmall}
 
 -- what is in a list is its head or in the rest

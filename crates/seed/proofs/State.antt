@@ -21,7 +21,8 @@ use Rattle.patch.specs.Search.{unused, secondOf, firstOf, numbers}
 use Rattle.decisions.specs.declared.Scene.{Scene}
 use Rattle.decisions.specs.Decisions.{reach, apart, around, floatsOf}
 use Rattle.nearby.specs.Ready.{Held, Listed, Kept, usedIn, listed}
-use Rattle.nearby.specs.Narrow.{only, inReach, Nearby, Sought}
+use Rattle.sifting.specs.Sift.{only}
+use Rattle.nearby.specs.Narrow.{inReach, Nearby, Sought}
 use Rattle.nearby.proofs.Keeping.{kept-self, kept-on, held-kept, hashed-search}
 use Rattle.nearby.proofs.Narrowing.{out-of-reach}
 use Rattle.seed.specs.declared.Seed.{Seed}

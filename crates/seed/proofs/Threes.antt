@@ -26,12 +26,14 @@ use Rattle.refusals.specs.Refused.{RefusedThroughout, distant, each}
 use Rattle.refusals.proofs.Refusals.{far-apart}
 use Rattle.nearby.specs.Ready.{Held, Listed, Kept, usedIn, listed}
 use Rattle.nearby.specs.Narrow.{inReach}
-use Rattle.nearby.proofs.Keeping.{drop-more, kept-self, kept-on}
-use Rattle.nearby.proofs.Ordered.{and-false}
-use Rattle.nearby.proofs.Narrowing.{word-same, out-of-reach, in-reach}
+use Rattle.sifting.specs.Sift.{isWithin}
+use Rattle.sifting.proofs.Parts.{drop-more, word-same}
+use Rattle.nearby.proofs.Keeping.{kept-self, kept-on}
+use Rattle.sifting.proofs.Only.{and-false}
+use Rattle.nearby.proofs.Narrowing.{out-of-reach, in-reach}
 use Rattle.seed.specs.Found.{withFirst}
 use Rattle.seed.specs.Spread.{Fruitless, Judged}
-use Rattle.seed.specs.Barren.{Barren, AllBarren, BarrenFrom, Stands, Sifted}
+use Rattle.seed.specs.Barren.{Barren, AllBarren, BarrenFrom, Stands, Later}
 use Rattle.seed.proofs.LeftOut.{close-far}
 use Rattle.seed.proofs.State.{Seeking}
 use Rattle.seed.proofs.Spread.{below-next}
@@ -39,42 +41,42 @@ use Rattle.seed.proofs.Nothing.{first-around, completes-third, refused-
 
 -- ---- the loop of `keep_later` at the m-th point
 
--- k comes after point i, is unused and within a limit of it
-abbrev later : Scene → List Float → Float → ℕ → List ℕ → ℕ → Bool
-later s pts limit i w k = ltb i k && inReach pts (usedIn s w) (pointAt pts i) limit k
+-- k comes after point i and is unused
+abbrev later : Scene → ℕ → List ℕ → ℕ → Bool
+later s i w k = ltb i k && unused (usedIn s w) k
 
-pub record Sifting (s : Scene) (pts : List Float) (limit : Float) (i : ℕ) (w₀ w : List ℕ) (found kept m : ℕ) : Type 0 where
+pub record Leaving (s : Scene) (i : ℕ) (w₀ w : List ℕ) (found kept m : ℕ) : Type 0 where
   pub same : length w ≡ length w₀
   pub most : kept ≤ m
   pub inside : m ≤ found
   pub below : (x : ℕ) → x < kept → getD w (4 * s .n + x) 0 < s .n
   pub unread : drop (4 * s .n + m) w ≡ drop (4 * s .n + m) w₀
-  pub complete : (x : ℕ) → x < m → later s pts limit i w₀ (getD w₀ (4 * s .n + x) 0) ≡ true → Stands s w kept (getD w₀ (4 * s .n + x) 0)
+  pub complete : (x : ℕ) → x < m → later s i w₀ (getD w₀ (4 * s .n + x) 0) ≡ true → Stands s w kept (getD w₀ (4 * s .n + x) 0)
   pub others : Kept s w₀ w
 
-module _ {s : Scene} {pts : List Float} {limit : Float} {i : ℕ} {w₀ : List ℕ} {found : ℕ} where
-  pub sift-start : Sifting s pts limit i w₀ w₀ found 0 0
-  sift-start = record { same = refl; most = omega arith; inside = omega arith; below = λ x h. absurd (omega arith); unread = refl; complete = λ x h. absurd (omega arith); others = kept-self s w₀ }
+module _ {s : Scene} {i : ℕ} {w₀ : List ℕ} {found : ℕ} where
+  pub later-start : Leaving s i w₀ w₀ found 0 0
+  later-start = record { same = refl; most = omega arith; inside = omega arith; below = λ x h. absurd (omega arith); unread = refl; complete = λ x h. absurd (omega arith); others = kept-self s w₀ }
 
-  module _ (held : Held s pts w₀) (points : Listed s w₀ found) {w : List ℕ} {kept m : ℕ} (k : Sifting s pts limit i w₀ w found kept m) where
-    pub sift-end : found ≤ m → Sifted s pts limit i w₀ w found kept
-    sift-end h = record {
+  module _ (long : 24 * s .n + 64 ≤ length w₀) (points : Listed s w₀ found) {w : List ℕ} {kept m : ℕ} (k : Leaving s i w₀ w found kept m) where
+    pub later-end : found ≤ m → Later s i w₀ w found kept
+    later-end h = record {
       listed = record { most = omega (arith, k .most, k .inside, points .most); below = k .below };
-      complete = λ j p t. subst (Stands s w kept) (p .1 .1) (k .complete (p .0) (omega (arith, p .1 .0)) (ap (later s pts limit i w₀) (p .1 .1) ∙ t));
+      complete = λ j p t. subst (Stands s w kept) (p .1 .1) (k .complete (p .0) (omega (arith, p .1 .0)) (ap (later s i w₀) (p .1 .1) ∙ t));
       kept = k .others;
     }
 
-    sift-word : getD w (4 * s .n + m) 0 ≡ getD w₀ (4 * s .n + m) 0
-    sift-word = word-same w₀ w (4 * s .n + m) (k .unread)
+    later-word : getD w (4 * s .n + m) 0 ≡ getD w₀ (4 * s .n + m) 0
+    later-word = word-same w₀ w (4 * s .n + m) (k .unread)
 
-    pub sift-below : m < found → getD w (4 * s .n + m) 0 < s .n
-    sift-below h = subst (λ (j : ℕ). j < s .n) (sym sift-word) (points .below m h)
+    pub later-below : m < found → getD w (4 * s .n + m) 0 < s .n
+    later-below h = subst (λ (j : ℕ). j < s .n) (sym later-word) (points .below m h)
 
-    test-is : {b : Bool} → b ≡ later s pts limit i w (getD w (4 * s .n + m) 0) → later s pts limit i w₀ (getD w₀ (4 * s .n + m) 0) ≡ b
-    test-is e = sym (e ∙ ap (λ (l : List ℕ). ltb i (getD w (4 * s .n + m) 0) && inReach pts (take (s .n) l) (pointAt pts i) limit (getD w (4 * s .n + m) 0)) (k .others .after) ∙ ap (later s pts limit i w₀) sift-word)
+    test-is : {b : Bool} → b ≡ later s i w (getD w (4 * s .n + m) 0) → later s i w₀ (getD w₀ (4 * s .n + m) 0) ≡ b
+    test-is e = sym (e ∙ ap (λ (l : List ℕ). ltb i (getD w (4 * s .n + m) 0) && unused (take (s .n) l) (getD w (4 * s .n + m) 0)) (k .others .after) ∙ ap (later s i w₀) later-word)
 
-    pub sift-skip : {b : Bool} → m < found → b ≡ later s pts limit i w (getD w (4 * s .n + m) 0) → b ≡ false → Sifting s pts limit i w₀ w found kept (m + 1)
-    sift-skip h e t = record {
+    pub later-skip : {b : Bool} → m < found → b ≡ later s i w (getD w (4 * s .n + m) 0) → b ≡ false → Leaving s i w₀ w found kept (m + 1)
+    later-skip h e t = record {
       same = k .same;
       most = omega (arith, k .most);
       inside = omega arith;
@@ -89,21 +91,21 @@ module _ {s : Scene} {pts : List Float} {limit : Float} {i : ℕ} {w₀ : List �
     stored = set w (4 * s .n + kept) (getD w (4 * s .n + m) 0)
 
     stored-new : m < found → getD stored (4 * s .n + kept) 0 ≡ getD w (4 * s .n + m) 0
-    stored-new h = getD-set-same w (4 * s .n + kept) (getD w (4 * s .n + m) 0) 0 (omega (arith, held .work-long, points .most, k .same, k .most))
+    stored-new h = getD-set-same w (4 * s .n + kept) (getD w (4 * s .n + m) 0) 0 (omega (arith, long, points .most, k .same, k .most))
 
     stored-old : (x : ℕ) → x < kept → getD stored (4 * s .n + x) 0 ≡ getD w (4 * s .n + x) 0
     stored-old x h = getD-set-other w (4 * s .n + kept) (4 * s .n + x) (getD w (4 * s .n + m) 0) 0 (λ e. omega arith)
 
-    pub sift-take : m < found → Sifting s pts limit i w₀ stored found (kept + 1) (m + 1)
-    sift-take h = record {
+    pub later-take : m < found → Leaving s i w₀ stored found (kept + 1) (m + 1)
+    later-take h = record {
       same = length-set w (4 * s .n + kept) (getD w (4 * s .n + m) 0) ∙ k .same;
       most = omega (arith, k .most);
       inside = omega arith;
-      below = below-next (λ x l. subst (λ (j : ℕ). j < s .n) (sym (stored-old x l)) (k .below x l)) (subst (λ (j : ℕ). j < s .n) (sym (stored-new h)) (sift-below h));
+      below = below-next (λ x l. subst (λ (j : ℕ). j < s .n) (sym (stored-old x l)) (k .below x l)) (subst (λ (j : ℕ). j < s .n) (sym (stored-new h)) (later-below h));
       unread = drop-set-lt (4 * s .n + (m + 1)) w (4 * s .n + kept) (getD w (4 * s .n + m) 0) (omega (arith, k .most)) ∙ drop-more w₀ w (4 * s .n + m) (4 * s .n + (m + 1)) (omega arith) (k .unread);
       complete = below-next
           (λ x l t. let p = k .complete x l t in (p .0, (omega (arith, p .1 .0), stored-old (p .0) (p .1 .0) ∙ p .1 .1)))
-          (λ t. (kept, (omega arith, stored-new h ∙ sift-word)));
+          (λ t. (kept, (omega arith, stored-new h ∙ later-word)));
       others = kept-on (k .others) (record {
         before = take-set-le (4 * s .n) w (4 * s .n + kept) (getD w (4 * s .n + m) 0) (omega arith);
         after = drop-set-lt (5 * s .n) w (4 * s .n + kept) (getD w (4 * s .n + m) 0) (omega (arith, k .most, points .most));
@@ -159,8 +161,8 @@ refused-barren g hi hj hk (each a b c) = record { first = refused-fruitless g hi
 -- ---- the points after i that were gathered are enough
 
 pub barren-from : {s : Scene} {pts : List Float} {r : Float} {l : Limits} {i : ℕ} {w u v : List ℕ} {found c : ℕ} → Judged s pts r l → i < s .n → Kept s w u
-    → ((k : ℕ) → k < s .n → unused (usedIn s w) k ≡ true → lt (l .far) (squared (pointAt pts k) (pointAt pts i)) ≡ false → 1 ≤ count (eqb k) (listed s u found))
-    → Sifted s pts (l .far) i u v found c → AllBarren s pts r v (neighborsAt (s .n)) c i → BarrenFrom s pts r (usedIn s w) i
+    → ((k : ℕ) → k < s .n → unused (usedIn s w) k ≡ true → isWithin pts (pointAt pts i) (l .far) k ≡ true → 1 ≤ count (eqb k) (listed s u found))
+    → Later s i u v found c → AllBarren s pts r v (neighborsAt (s .n)) c i → BarrenFrom s pts r (usedIn s w) i
 barren-from {s} {pts} {r} {l} {i} {w} {u} {v} {found} {c} g hi kept near x all j k hj hk ij ik ne uj uk = ⊎-elim
     (λ (tj : inReach pts (usedIn s w) (pointAt pts i) (l .far) j ≡ true). ⊎-elim
     (λ (tk : inReach pts (usedIn s w) (pointAt pts i) (l .far) k ≡ true). two (stands j hj ij uj tj) (stands k hk ik uk tk))
@@ -175,11 +177,11 @@ barren-from {s} {pts} {r} {l} {i} {w} {u} {v} {found} {c} g hi kept near x all j
         (λ (f : lt (reach r) (apart pts a i) ≡ true). apart-barren s pts r i a b (g .numbers i hi) (g .numbers a ha) f)
         (out-of-reach pts (usedIn s w) (reach r) i a (l .far) (g .limits .fars) t)
 
-    is-later : (a : ℕ) → i < a → inReach pts (usedIn s w) (pointAt pts i) (l .far) a ≡ true → later s pts (l .far) i u a ≡ true
-    is-later a h t = rw (lt-ltb i a h) (ap (λ (z : List ℕ). inReach pts (take (s .n) z) (pointAt pts i) (l .far) a) (kept .after) ∙ t)
+    is-later : (a : ℕ) → i < a → unused (usedIn s w) a ≡ true → later s i u a ≡ true
+    is-later a h t = rw (lt-ltb i a h) (ap (λ (z : List ℕ). unused (take (s .n) z) a) (kept .after) ∙ t)
 
     stands : (a : ℕ) → a < s .n → i < a → unused (usedIn s w) a ≡ true → inReach pts (usedIn s w) (pointAt pts i) (l .far) a ≡ true → Stands s v c a
-    stands a ha h ua t = x .complete a (listed-place s u found a (near a ha ua (in-reach pts (usedIn s w) (pointAt pts i) (l .far) a t))) (is-later a h t)
+    stands a ha h ua t = x .complete a (listed-place s u found a (near a ha ua (in-reach pts (usedIn s w) (pointAt pts i) (l .far) a t))) (is-later a h ua)
 
     word : ℕ → ℕ
     word m = getD v (neighborsAt (s .n) + m) 0

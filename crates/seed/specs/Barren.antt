@@ -7,12 +7,10 @@ use mathlib.Core.List.{List}
 use lib.Dec.{ltb}
 use lib.ListN.{getD}
 use lib.Ieee.{Float}
-use Rattle.points.specs.Points.{pointAt}
 use Rattle.regions.specs.Regions.{neighborsAt}
 use Rattle.patch.specs.Search.{unused}
 use Rattle.decisions.specs.declared.Scene.{Scene}
 use Rattle.nearby.specs.Ready.{Listed, Kept, usedIn}
-use Rattle.nearby.specs.Narrow.{inReach}
 use Rattle.seed.specs.Spread.{Fruitless}
 
 -- points i, j and k make no seed, whichever of them comes first
@@ -37,8 +35,8 @@ BarrenFrom s pts r used i = (j k : ℕ) → j < s .n → k < s .n → i < j → 
 abbrev pub Stands : Scene → List ℕ → ℕ → ℕ → Type 0
 Stands s w count k = (m : ℕ) × ((m < count) × (getD w (neighborsAt (s .n) + m) 0 ≡ k))
 
--- of the `found` points r are left, all that come after point i, are unused and within a limit of it among them: w before, u after
-pub record Sifted (s : Scene) (pts : List Float) (limit : Float) (i : ℕ) (w u : List ℕ) (found r : ℕ) : Type 0 where
+-- of the `found` points r are left, all that come after point i and are unused among them: w before, u after
+pub record Later (s : Scene) (i : ℕ) (w u : List ℕ) (found r : ℕ) : Type 0 where
   pub listed : Listed s u r
-  pub complete : (k : ℕ) → Stands s w found k → (ltb i k && inReach pts (usedIn s w) (pointAt pts i) limit k) ≡ true → Stands s u r k
+  pub complete : (k : ℕ) → Stands s w found k → (ltb i k && unused (usedIn s w) k) ≡ true → Stands s u r k
   pub kept : Kept s w u

@@ -4,17 +4,16 @@ use refusals::Limits;
 use spatial_hash::Hash;
 ghost use mathlib.Core.Path.{_≡_};
 ghost use mathlib.Core.Bool.{true, _&&_};
-ghost use Prim.Native.Nat.{_*_, _<_, _+_};
+ghost use Prim.Native.Nat.{_*_, _≤_, _<_, _+_};
 ghost use lib.Dec.{ltb};
 ghost use lib.ListN.{length};
 ghost use Rattle.regions.specs.Regions.{neighborsAt};
-ghost use Rattle.points.specs.Points.{pointAt};
 ghost use Rattle.spatial_hash.specs.Near.{Hashed};
+ghost use Rattle.patch.specs.Search.{unused};
 ghost use Rattle.refusals.specs.Refused.{Limiting};
 ghost use Rattle.nearby.specs.Ready.{Held, Listed, Kept, usedIn};
-ghost use Rattle.nearby.specs.Narrow.{inReach};
 ghost use Rattle.seed.specs.Spread.{Judged};
-ghost use Rattle.seed.specs.Barren.{Barren, BarrenAfter, AllBarren, BarrenFrom, Sifted};
+ghost use Rattle.seed.specs.Barren.{Barren, BarrenAfter, AllBarren, BarrenFrom, Later};
 
 // Whether points i, j and k make no seed, whichever of them comes first. Limits are asked first, since they need no root.
 fn is_barren(
@@ -96,25 +95,21 @@ fn are_all_barren(
     true
 }
 
-// Whether point k comes after point i, is unused and within a limit of it.
-fn is_later(s: Scene, points: &[f32], w: &[u32], limit: f32, i: usize, k: usize) -> bool
-    requires { ⌜ Held s (now points) (now w) × (i < s .n) × (k < s .n) ⌝ }
-    ensures { λ r. ⌜ r ≡ (ltb i k && inReach (now (points .entry)) (usedIn s (now (w .entry))) (pointAt (now (points .entry)) i) limit k) ⌝ }
+// Whether point k comes after point i and is unused.
+fn is_later(s: Scene, w: &[u32], i: usize, k: usize) -> bool
+    requires { ⌜ (s .n ≤ 4096) × (24 * s .n + 64 ≤ length (now w)) × (k < s .n) ⌝ }
+    ensures { λ r. ⌜ r ≡ (ltb i k && unused (usedIn s (now (w .entry))) k) ⌝ }
 {
     if k <= i {
         return false;
     }
-    if !nearby::is_unused(s, w, k) {
-        return false;
-    }
-    let p = points::point_at(points, k);
-    !(vector::distance_squared(p, points::point_at(points, i)) > limit)
+    nearby::is_unused(s, w, k)
 }
 
-// Leaves those of the listed points that come after point i, are unused and within a limit of it, in no order, and returns how many they are.
-fn keep_later(s: Scene, points: &[f32], w: &mut [u32], limit: f32, found: usize, i: usize) -> usize
-    requires { ⌜ Held s (now points) (now w) × Listed s (now w) found × (i < s .n) ⌝ }
-    ensures { λ r. ⌜ Sifted s (now (points .entry)) limit i (now (w .entry)) (now (w .exit)) found r ⌝ }
+// Leaves those of the listed points that come after point i and are unused, in no order, and returns how many they are.
+fn keep_later(s: Scene, w: &mut [u32], found: usize, i: usize) -> usize
+    requires { ⌜ (s .n ≤ 4096) × (24 * s .n + 64 ≤ length (now w)) × Listed s (now w) found ⌝ }
+    ensures { λ r. ⌜ Later s i (now (w .entry)) (now (w .exit)) found r ⌝ }
 {
     let at = 4 * s.n;
     let mut kept: usize = 0;
@@ -122,7 +117,7 @@ fn keep_later(s: Scene, points: &[f32], w: &mut [u32], limit: f32, found: usize,
     while m < found {
         let k = w[at + m];
         m += 1;
-        if is_later(s, points, w, limit, i, k as usize) {
+        if is_later(s, w, i, k as usize) {
             w[at + kept] = k;
             kept += 1;
         }
@@ -143,10 +138,10 @@ fn is_barren_first(
     requires { ⌜ Held s (now points) (now w) × Hashed hash (now points) (s .n) (now w) × (i < s .n) × Limiting s radius limits ⌝ }
     ensures { λ r. ⌜ (r ≡ true → BarrenFrom s (now (points .entry)) radius (usedIn s (now (w .entry))) i) × Kept s (now (w .entry)) (now (w .exit)) ⌝ }
 {
-    let limit = limits.far;
-    let bounds = bounds::covering(points::point_at(points, i), radius * 2.002, limit);
-    let found = spatial_hash::gather(points, w, s.n, hash, bounds);
-    let count = keep_later(s, points, w, limit, found, i);
+    let place = points::point_at(points, i);
+    let reach = radius * 2.002;
+    let found = spatial_hash::gather_within(points, w, s.n, hash, place, reach, limits.far);
+    let count = keep_later(s, w, found, i);
     are_all_barren(s, points, w, count, radius, limits, i)
 }
 

@@ -6,8 +6,9 @@ use Prim.Native.Nat.{ℕ, _+_, _-_, _*_, _≤_, _<_}
 use native.Mathlib.Omega.{arith}
 use lib.Dec.{eqb}
 use lib.ListN.{length, take, drop, getD}
-use lib.Seq.{getD-drop, drop-drop}
+use lib.Seq.{getD-drop}
 use lib.Ieee.{Float}
+use Rattle.sifting.proofs.Parts.{drop-more}
 use Rattle.spatial_hash.specs.declared.Hash.{Hash}
 use Rattle.patch.specs.Search.{unused}
 use Rattle.spatial_hash.specs.Buckets.{bucketIn, linksOf, isOut}
@@ -27,16 +28,6 @@ behind a k w u e h =
     ∙ ap (λ (l : List ℕ). getD l (k - a) 0) e
     ∙ getD-drop a w (k - a) 0
     ∙ ap (λ (i : ℕ). getD w i 0) s
-
--- what follows an earlier word is the same, so what follows a later one is
-pub drop-behind : (a c : ℕ) (w u : List ℕ) → a ≤ c → drop a u ≡ drop a w → drop c u ≡ drop c w
-drop-behind a c w u h e =
-    let s : a + (c - a) ≡ c = omega arith in
-    ap (λ (i : ℕ). drop i u) (sym s)
-    ∙ sym (drop-drop (c - a) a u)
-    ∙ ap (drop (c - a)) e
-    ∙ drop-drop (c - a) a w
-    ∙ ap (λ (i : ℕ). drop i w) s
 
 -- a bucket's points are the same where its words and theirs are
 pub part-same : (n b : ℕ) (w u : List ℕ) → startOf n u b ≡ startOf n w b → startOf n u (b + 1) ≡ startOf n w (b + 1)
@@ -65,7 +56,7 @@ laid-same f g n m w u same agree s = record {
 -- only words before a were changed
 module _ (h : Hash) (pts : List Float) (n a : ℕ) (w u : List ℕ) (q : a ≤ 9 * n) (e : drop a u ≡ drop a w) (l : length u ≡ length w) where
   pub links-behind : linksOf n u ≡ linksOf n w
-  links-behind = drop-behind a (9 * n) w u q e
+  links-behind = drop-more w u a (9 * n) q e
 
   pub linked-behind : Linked h pts n w → Linked h pts n u
   linked-behind s = record {
@@ -83,7 +74,7 @@ hashed-behind h pts n a w u q e l s = record {
   linked = linked-behind h pts n a w u (omega arith) e l (s .linked);
   unused-in = λ j k free.
       ap (λ (ls : List ℕ). isOut n ls j) (links-behind h pts n a w u (omega arith) e l)
-      ∙ s .unused-in j k (subst (λ (x : List ℕ). unused (take n x) j ≡ true) (drop-behind a (5 * n) w u q e) free);
+      ∙ s .unused-in j k (subst (λ (x : List ℕ). unused (take n x) j ≡ true) (drop-more w u a (5 * n) q e) free);
 }
 
 -- nobody is out, so nobody who is unused

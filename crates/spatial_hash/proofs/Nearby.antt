@@ -1,24 +1,28 @@
--- Of points that were gathered: each whose squared distance is not above a limit that the bounds cover is among them (`near-gathered`),
--- and a test that only such points pass is passed as often by those gathered as by all (`gathered-count`). Assumes nothing.
+-- Of the points found near a place: those within bounds that cover the limit, but for those above it (`sifted-near`), so that each that is not above it is among them
+-- (`surrounds-near`), and a test that only such points pass is passed as often by those found as by all (`surrounds-count`). Assumes nothing.
 use mathlib.Core.Path.{_≡_, refl, sym, ap, subst, _∙_}
-use mathlib.Core.Bool.{Bool, true, false}
+use mathlib.Core.Logic.{⊎-elim}
+use mathlib.Core.Bool.{Bool, true, false, not}
 use mathlib.Core.List.{List, [], _∷_}
 use Prim.Native.Nat.{ℕ, zero, suc, _+_, _*_, _≤_, _<_}
 use native.Mathlib.Omega.{arith}
 use borrow.Author.Tests.{eq-eqb, eqb-true, eqb-false, ltb-true, ltb-false}
 use lib.Dec.{T, eqb, ltb}
-use lib.ListN.{length, take, drop, getD, length-drop}
-use lib.Seq.{getD-take, getD-drop, length-take-le}
-use lib.Ieee.{Float, le}
+use lib.ListN.{take, drop}
+use lib.Ieee.{Float, lt, le}
+use lib.Ieee.Bits.{is-true}
 use Rattle.numbers.proofs.OrderLaws.{le-not-lt}
 use Rattle.vector.specs.declared.Point3f.{Point3f}
 use Rattle.vector.specs.Vector.{squared, Finite}
 use Rattle.points.specs.Points.{pointAt, upFrom}
 use Rattle.patch.specs.Count.{count, bit}
-use Rattle.patch.specs.Search.{Below}
+use Rattle.patch.proofs.Counts.{either, not-true, true-not-false}
 use Rattle.bounds.specs.declared.Bounds.{Bounds}
 use Rattle.bounds.specs.Within.{within, Covers}
-use Rattle.spatial_hash.specs.Near.{nobody, Gathers, Gathered, HashedAll}
+use Rattle.sifting.specs.Sift.{isWithin, Sifted}
+use Rattle.sifting.proofs.Only.{only-count, only-fewer, only-at-most}
+use Rattle.spatial_hash.specs.Buckets.{linksOf, isOut}
+use Rattle.spatial_hash.specs.Near.{nobody, Gathered, Surrounds, Near, HashedAll}
 use Rattle.spatial_hash.specs.declared.Hash.{Hash}
 use Rattle.spatial_hash.proofs.Chains.{without}
 
@@ -72,18 +76,35 @@ module _ (test : ℕ → Bool) where
           let rest = r (λ (y : ℕ) (t : test y ≡ true). let d : bit (eqb y x) ≡ 0 = ap bit (apart test y x t e) in omega (arith, h y t)) in
           omega arith
 
--- ---- what was gathered
-pub gathered-all : {h : Hash} {pts : List Float} {n : ℕ} {b : Bounds} {w u : List ℕ} {r : ℕ} → HashedAll h pts n w → Gathered pts n b w u r → Gathers pts n nobody b (take r (drop (4 * n) u))
-gathered-all s g = record { below = g .gathers .below; once = g .gathers .once; complete = λ j h _ i. g .gathers .complete j h (s .all-in j h) i }
+-- ---- what was found
+module _ {pts : List Float} {n : ℕ} where
+  -- of the points within bounds that cover the limit those that are not above it are left
+  pub sifted-near : {p : Point3f} {t : Float} {b : Bounds} {w u v : List ℕ} {found r : ℕ} → ((j : ℕ) → j < n → Finite (pointAt pts j)) → Covers p t b → Gathered pts n b w u found → Sifted pts n p t u v found r → Near pts n p t w v r
+  sifted-near {p} {t} {b} {w} {u} {v} {found} {r} numbers covers g s = record {
+    most = omega (arith, s .most, g .most);
+    surrounds = subst (Surrounds pts n (isOut n (linksOf n w)) p t) (sym (s .same)) record {
+      below = λ j c. g .gathers .below j (only-fewer (isWithin pts p t) j (listed u) c);
+      once = λ j. let few = g .gathers .once j in omega (arith, only-at-most (isWithin pts p t) j (listed u));
+      complete = λ j h out i. let e = only-count (isWithin pts p t) j i (listed u) in omega (arith, g .gathers .complete j h out (inside j h i));
+    };
+    before = s .before ∙ g .before;
+    after = s .after ∙ g .after;
+  }
+    where
+      listed : List ℕ → List ℕ
+      listed u = take found (drop (4 * n) u)
 
-pub near-gathered : (pts : List Float) (n : ℕ) (b : Bounds) (js : List ℕ) (p : Point3f) (t : Float) → ((j : ℕ) → j < n → Finite (pointAt pts j)) → Covers p t b → Gathers pts n nobody b js
-    → (j : ℕ) → j < n → T (le (squared (pointAt pts j) p) t) → 1 ≤ count (eqb j) js
-near-gathered pts n b js p t numbers covers g j h l = go (within b (pointAt pts j)) refl
-  where
-    go : (x : Bool) → within b (pointAt pts j) ≡ x → 1 ≤ count (eqb j) js
-    go true e = g .complete j h refl e
-    go false e =
-        absurd (le-not-lt (squared (pointAt pts j) p) t l (covers (pointAt pts j) (numbers j h) e))
+      inside : (j : ℕ) → j < n → isWithin pts p t j ≡ true → within b (pointAt pts j) ≡ true
+      inside j h i = ⊎-elim
+          (λ (o : within b (pointAt pts j) ≡ true). o)
+          (λ (o : within b (pointAt pts j) ≡ false). absurd (true-not-false i (ap not (is-true (lt t (squared (pointAt pts j) p)) (covers (pointAt pts j) (numbers j h) o)))))
+          (either (within b (pointAt pts j)))
+
+  pub near-all : {h : Hash} {p : Point3f} {t : Float} {w u : List ℕ} {r : ℕ} → HashedAll h pts n w → Near pts n p t w u r → Surrounds pts n nobody p t (take r (drop (4 * n) u))
+  near-all s g = record { below = g .surrounds .below; once = g .surrounds .once; complete = λ j h _ i. g .surrounds .complete j h (s .all-in j h) i }
+
+  pub surrounds-near : {p : Point3f} {t : Float} {js : List ℕ} → Surrounds pts n nobody p t js → (j : ℕ) → j < n → T (le (squared (pointAt pts j) p) t) → 1 ≤ count (eqb j) js
+  surrounds-near {p} {t} g j h l = g .complete j h refl (ap not (not-true (λ (e : lt t (squared (pointAt pts j) p) ≡ true). le-not-lt (squared (pointAt pts j) p) t l (subst T (sym e) tt))))
 
 -- ---- the numbers from i on, m of them
 pub up-in : (j i m : ℕ) → 1 ≤ count (eqb j) (upFrom i m) → (i ≤ j) × (j < i + m)
@@ -133,15 +154,15 @@ up-whole n j = go (ltb j n) refl
         let o = up-once j 0 n in omega arith
     go false e = let l = ltb-false j n e in no-count (λ h. let k = up-in j 0 n h in omega arith)
 
--- a test that only points pass whose squared distance is not above the limit is passed as often by those gathered as by all
-pub gathered-count : (pts : List Float) (n : ℕ) (b : Bounds) (js all : List ℕ) (p : Point3f) (t : Float) → ((j : ℕ) → j < n → Finite (pointAt pts j)) → Covers p t b → Gathers pts n nobody b js → ((j : ℕ) → count (eqb j) all ≡ bit (ltb j n))
+-- a test that only points pass whose squared distance is not above the limit is passed as often by those found as by all
+pub surrounds-count : {pts : List Float} {n : ℕ} {p : Point3f} {t : Float} (js all : List ℕ) → Surrounds pts n nobody p t js → ((j : ℕ) → count (eqb j) all ≡ bit (ltb j n))
     → (test : ℕ → Bool) → ((j : ℕ) → j < n → test j ≡ true → T (le (squared (pointAt pts j) p) t)) → count test js ≡ count test all
-gathered-count pts n b js all p t numbers covers g whole test near = count-same test js all (λ (j : ℕ) (h : test j ≡ true). go j h (ltb j n) refl)
+surrounds-count {n = n} js all g whole test near = count-same test js all (λ (j : ℕ) (h : test j ≡ true). go j h (ltb j n) refl)
   where
     go : (j : ℕ) → test j ≡ true → (x : Bool) → ltb j n ≡ x → count (eqb j) js ≡ count (eqb j) all
     go j h true e =
         let l = ltb-true j n e in
-        let m = near-gathered pts n b js p t numbers covers g j l (near j l h) in
+        let m = surrounds-near g j l (near j l h) in
         let z : bit (ltb j n) ≡ 1 = ap bit e in
         omega (arith, g .once j, whole j)
     go j h false e =
@@ -149,14 +170,3 @@ gathered-count pts n b js all p t numbers covers g whole test near = count-same 
         let z : bit (ltb j n) ≡ 0 = ap bit e in
         let none : count (eqb j) js ≡ 0 = no-count (λ k. let m = g .below j k in omega arith) in
         omega (arith, whole j)
-
--- ---- the k-th of the points listed is a point
-counted-at : (js : List ℕ) (k : ℕ) → k < length js → 1 ≤ count (eqb (getD js k 0)) js
-counted-at [] k h = absurd (omega arith)
-counted-at (j ∷ js) zero h = rw (eq-eqb j j refl) (omega arith)
-counted-at (j ∷ js) (suc k) h = let r = counted-at js k (omega arith) in omega arith
-
-pub listed-point : (w : List ℕ) (at n found k : ℕ) → at + found ≤ length w → k < found → Below n (take found (drop at w)) → getD w (at + k) 0 < n
-listed-point w at n found k long h below =
-    let size : length (take found (drop at w)) ≡ found = length-take-le found (drop at w) (simp length-drop (omega arith)) in
-    subst (λ (j : ℕ). j < n) (getD-take found (drop at w) k 0 h ∙ getD-drop at w k 0) (below (getD (take found (drop at w)) k 0) (counted-at (take found (drop at w)) k (omega arith)))

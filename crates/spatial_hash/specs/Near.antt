@@ -1,4 +1,4 @@
--- Places within bounds, lists of the points there, and what the hash asks and keeps. Definitions only.
+-- Lists of the points within bounds and near a place, and what the hash asks and keeps. Definitions only.
 use Prim.Native.Nat.{ℕ, _+_, _*_, _≤_, _<_}
 use mathlib.Core.Path.{_≡_}
 use mathlib.Core.Logic.{_≢_}
@@ -10,12 +10,14 @@ use lib.Ieee.{Float, lt}
 use lib.Ieee.Scale.{finite}
 use Rattle.numbers.specs.Rounded.{f32}
 use Rattle.vector.specs.Vector.{Finite}
+use Rattle.vector.specs.declared.Point3f.{Point3f}
 use Rattle.points.specs.Points.{pointAt}
 use Rattle.regions.specs.Regions.{neighborsAt, usedAt, linksAt, startsAt}
 use Rattle.patch.specs.Count.{count}
 use Rattle.patch.specs.Search.{Below, unused}
 use Rattle.bounds.specs.declared.Bounds.{Bounds}
 use Rattle.bounds.specs.Within.{within}
+use Rattle.sifting.specs.Sift.{isWithin}
 use Rattle.spatial_hash.specs.declared.Hash.{Hash}
 use Rattle.spatial_hash.specs.Buckets.{Chained, bucketAt, bucketIn, buckets, linksOf, isOut}
 use Rattle.spatial_hash.specs.Order.{Laid}
@@ -25,6 +27,12 @@ pub record Gathers (pts : List Float) (n : ℕ) (out : ℕ → Bool) (b : Bounds
   pub below : Below n js
   pub once : (j : ℕ) → count (eqb j) js ≤ 1
   pub complete : (j : ℕ) → j < n → out j ≡ false → within b (pointAt pts j) ≡ true → 1 ≤ count (eqb j) js
+
+-- the same of those whose squared distance from a place is not above a limit
+pub record Surrounds (pts : List Float) (n : ℕ) (out : ℕ → Bool) (p : Point3f) (t : Float) (js : List ℕ) : Type 0 where
+  pub below : Below n js
+  pub once : (j : ℕ) → count (eqb j) js ≤ 1
+  pub complete : (j : ℕ) → j < n → out j ≡ false → isWithin pts p t j ≡ true → 1 ≤ count (eqb j) js
 
 -- out is nobody
 abbrev pub nobody : ℕ → Bool
@@ -58,7 +66,7 @@ pub record Heading (h : Hash) (pts : List Float) (n : ℕ) (w : List ℕ) : Type
   pub sound : Sound h n
   pub chained : Chained (bucketAt h pts) n (buckets h) w n
 
--- what `gather` needs and `remove` keeps: it lies in the words from `linksAt` on
+-- what `gather_within` needs and `remove` keeps: it lies in the words from `linksAt` on
 pub record Linked (h : Hash) (pts : List Float) (n : ℕ) (w : List ℕ) : Type 0 where
   pub ready : Ready pts n w
   pub sound : Sound h n
@@ -84,10 +92,17 @@ pub record Built (h : Hash) (pts : List Float) (n : ℕ) (w u : List ℕ) : Type
   pub before : take (linksAt n) u ≡ take (linksAt n) w
   pub length-same : length u ≡ length w
 
--- r points were gathered, and only the list of neighbours was changed: w before, u after
+-- r points within bounds were gathered, and only the list of neighbours was changed: w before, u after
 pub record Gathered (pts : List Float) (n : ℕ) (b : Bounds) (w u : List ℕ) (r : ℕ) : Type 0 where
   pub most : r ≤ n
   pub gathers : Gathers pts n (isOut n (linksOf n w)) b (take r (drop (neighborsAt n) u))
+  pub before : take (neighborsAt n) u ≡ take (neighborsAt n) w
+  pub after : drop (usedAt n) u ≡ drop (usedAt n) w
+
+-- the same of points near a place
+pub record Near (pts : List Float) (n : ℕ) (p : Point3f) (t : Float) (w u : List ℕ) (r : ℕ) : Type 0 where
+  pub most : r ≤ n
+  pub surrounds : Surrounds pts n (isOut n (linksOf n w)) p t (take r (drop (neighborsAt n) u))
   pub before : take (neighborsAt n) u ≡ take (neighborsAt n) w
   pub after : drop (usedAt n) u ≡ drop (usedAt n) w
 

@@ -1,5 +1,5 @@
 // The points near a place: a spatial hash over the cloud, in the words of the work slice from 9n on. How its cells are sized is a guess that decides nothing;
-// what is promised is that no point within the bounds asked for is left out, but those that were removed.
+// what is promised is that no point within the distance asked for is left out, but those that were removed.
 // The points of a row of buckets, those with the same remainders on the first two axes, lie one after another, so that a walk goes from row to row and passes no empty bucket.
 mod cells;
 mod leave;
@@ -10,7 +10,8 @@ mod walk;
 use bounds::Bounds;
 use vector::Point3f;
 ghost use Prim.Native.Nat.{_*_, _<_};
-ghost use Rattle.spatial_hash.specs.Near.{Ready, Linked, Gathered, Built, Removed};
+ghost use Rattle.vector.specs.Vector.{Finite};
+ghost use Rattle.spatial_hash.specs.Near.{Ready, Linked, Gathered, Near, Built, Removed};
 
 // How a coordinate becomes the number of a cell, and how many of these numbers have buckets of their own on an axis.
 pub struct Hash {
@@ -45,7 +46,7 @@ pub fn build(points: &[f32], n: usize, size: f32, w: &mut [u32]) -> Hash
 }
 
 // Writes the numbers of points into the region of the neighbours, those within the bounds that are not out among them, and returns how many they are.
-pub fn gather(points: &[f32], w: &mut [u32], n: usize, hash: Hash, bounds: Bounds) -> usize
+fn gather(points: &[f32], w: &mut [u32], n: usize, hash: Hash, bounds: Bounds) -> usize
     requires { ⌜ Linked hash (now points) n (now w) ⌝ }
     ensures { λ r. ⌜ Gathered (now (points .entry)) n bounds (now (w .entry)) (now (w .exit)) r ⌝ }
 {
@@ -53,6 +54,24 @@ pub fn gather(points: &[f32], w: &mut [u32], n: usize, hash: Hash, bounds: Bound
     let ys = cells::span(hash, hash.least.y, bounds.lo.y, bounds.hi.y);
     let zs = cells::span(hash, hash.least.z, bounds.lo.z, bounds.hi.z);
     walk::visit_planes(points, w, n, hash, xs, ys, zs)
+}
+
+// The same of the points whose squared distance from a place is not above a limit. The reach is a guess at how far they are.
+pub fn gather_within(
+    points: &[f32],
+    w: &mut [u32],
+    n: usize,
+    hash: Hash,
+    place: Point3f,
+    reach: f32,
+    limit: f32,
+) -> usize
+    requires { ⌜ Linked hash (now points) n (now w) × Finite place ⌝ }
+    ensures { λ r. ⌜ Near (now (points .entry)) n place limit (now (w .entry)) (now (w .exit)) r ⌝ }
+{
+    let bounds = bounds::covering(place, reach, limit);
+    let found = gather(points, w, n, hash, bounds);
+    sifting::keep_within(points, w, n, found, place, limit)
 }
 
 // Takes point k out of its bucket, if it is still there.

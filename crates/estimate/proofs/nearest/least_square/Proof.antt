@@ -7,7 +7,7 @@ use lib.ListN.{take, drop}
 use lib.Ieee.{Float, inf}
 use borrow.Author.Needs.{needs}
 use Rattle.estimate.specs.Squares.{leastSquare}
-use Rattle.spatial_hash.proofs.Nearby.{listed-point}
+use Rattle.sifting.proofs.Parts.{listed-point}
 use Rattle.estimate.proofs.Looking.{square-step, square-end}
 use Rattle.estimate.proofs.nearest.least_square.Statement.{statement}
 use Rattle.estimate.proofs.nearest.least_square.Tie as tie

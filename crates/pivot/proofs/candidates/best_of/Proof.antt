@@ -60,7 +60,7 @@ score-ahead-requires c κs =
     let a = c .before .before .before .before .before .before .before .before .before .before in
     let l = c .before .before .loop in
     let e = between (c .before .before .before .before .side-of .ensures) (c .before .before .before .before .before .before .point-at .ensures) (c .before .before .before .before .before .point-at2 .ensures) in
-    (a .pre .0, a .pre .1, a .pre .2 .below (l .m) (c .before .loop-test .taken), e, a .pre .5, l .inv .1, l .inv .0 .met)
+    (a .pre .0, a .pre .1, a .pre .2 .below (l .m) (c .before .loop-test .taken), e, l .inv .1, l .inv .0 .met)
 
 enum-known-x : tie.Need-enum-known-x Inv-loop μ-loop
 enum-known-x c = search needs

@@ -24,11 +24,7 @@ filter-of-requires c κs = search needs
 gather-both-requires : tie.Need-gather-both-requires
 gather-both-requires c κs =
     let n = c .before .before .before .before .before .before .before in
-    let numbers = n .pre .2 .linked .ready .numbers in (
-      n .pre .2,
-      subst Finite (sym (c .before .filter-of .ensures .center-is ∙ c .before .before .before .before .point-at .ensures)) (numbers (n .args .a) (n .pre .3)),
-      subst Finite (sym (c .before .before .before .point-at2 .ensures)) (numbers (n .args .b) (n .pre .4)),
-    )
+    (n .pre .2, subst Finite (sym (c .before .filter-of .ensures .center-is ∙ c .before .before .before .before .point-at .ensures)) (n .pre .2 .linked .ready .numbers (n .args .a) (n .pre .3)))
 
 best-of-requires : tie.Need-best-of-requires
 best-of-requires c κs =
@@ -40,7 +36,6 @@ best-of-requires c κs =
       collected-listed (h .work-long) (g .ensures),
       n .pre .3,
       n .pre .4,
-      c .before .before .before .before .before .filter-of .ensures .limits,
     )
 
 same-length : tie.Need-same-length

@@ -16,13 +16,13 @@ use Rattle.pivot.proofs.candidates.score_ahead.Statement.{statement}
 use Rattle.pivot.proofs.candidates.score_ahead.Tie as tie
 
 score-of-requires : tie.Need-score-of-requires
-score-of-requires c κs = let n = c .before .before in (n .pre .0, n .pre .2, n .pre .3, n .pre .4, n .pre .5)
+score-of-requires c κs = let n = c .before .before in (n .pre .0, n .pre .2, n .pre .3, n .pre .4)
 
 enum-known-x : tie.Need-enum-known-x
 enum-known-x c = search needs
 
 is-ahead-requires : tie.Need-is-ahead-requires
-is-ahead-requires c κs = let n = c .before .before .before .before .before .before in (n .pre .6, n .pre .2, n .pre .0 .few, omega (arith, n .pre .0 .work-long))
+is-ahead-requires c κs = let n = c .before .before .before .before .before .before in (n .pre .5, n .pre .2, n .pre .0 .few, omega (arith, n .pre .0 .work-long))
 
 returns : tie.Need-returns
 unfolding scoreIn
@@ -30,7 +30,7 @@ returns c =
     let n = c .before .before .before .before .before .before .before .before in
     let a = n .args in
     found-ahead (earlier (a .s .indexed) (cellAt (a .s .grid) (a .points .now))) (a .top) (pointOf (a .best)) (a .k) (inCells (a .s .indexed) (a .s .grid) (a .points .now) (a .f .range) (a .f .cell) (a .k)) (scoreOf (floatsOf (a .s) (a .points .now)) (a .radius) (usedIn (a .s) (a .w .now)) (edge (a .a) (a .b)) (a .k))
-    (c .before .before .before .before .before .score-of .ensures) (c .before .before .before .x .given .1) (c .before .is-ahead .ensures ∙ test-kept (a .s) (a .points .now) (a .w .now) (a .f) (a .k) _ (a .top) (a .best) (n .pre .1) (n .pre .2) (n .pre .6)) (c .if1 .taken)
+    (c .before .before .before .before .before .score-of .ensures) (c .before .before .before .x .given .1) (c .before .is-ahead .ensures ∙ test-kept (a .s) (a .points .now) (a .w .now) (a .f) (a .k) _ (a .top) (a .best) (n .pre .1) (n .pre .2) (n .pre .5)) (c .if1 .taken)
 
 enum-told : tie.Need-enum-told
 enum-told c = search needs
@@ -41,7 +41,7 @@ returns-2 c =
     let n = c .before .before .before .before .before .before .before .before in
     let a = n .args in
     found-behind (earlier (a .s .indexed) (cellAt (a .s .grid) (a .points .now))) (a .top) (pointOf (a .best)) (a .k) (inCells (a .s .indexed) (a .s .grid) (a .points .now) (a .f .range) (a .f .cell) (a .k)) (scoreOf (floatsOf (a .s) (a .points .now)) (a .radius) (usedIn (a .s) (a .w .now)) (edge (a .a) (a .b)) (a .k))
-    (c .before .before .before .before .before .score-of .ensures) (c .before .before .before .x .given .1) (c .before .is-ahead .ensures ∙ test-kept (a .s) (a .points .now) (a .w .now) (a .f) (a .k) _ (a .top) (a .best) (n .pre .1) (n .pre .2) (n .pre .6)) (c .if1 .left)
+    (c .before .before .before .before .before .score-of .ensures) (c .before .before .before .x .given .1) (c .before .is-ahead .ensures ∙ test-kept (a .s) (a .points .now) (a .w .now) (a .f) (a .k) _ (a .top) (a .best) (n .pre .1) (n .pre .2) (n .pre .5)) (c .if1 .left)
 
 returns-3 : tie.Need-returns-3
 unfolding scoreIn

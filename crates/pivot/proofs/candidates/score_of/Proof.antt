@@ -44,7 +44,7 @@ score-over-requires : tie.Need-score-over-requires
 score-over-requires c κs =
     let n = c .before .before .before .before .before .before .before in
     let a = n .args in
-    (side-own (pointAt (a .points .now) (a .a)) (pointAt (a .points .now) (a .b)) (n .pre .2), n .pre .3, n .pre .4)
+    (side-own (pointAt (a .points .now) (a .a)) (pointAt (a .points .now) (a .b)) (n .pre .2), n .pre .3)
 
 returns-4 : tie.Need-returns-4
 unfolding floatsOf

@@ -5,7 +5,7 @@ use native.Mathlib.Omega.{arith}
 use lib.ListN.{length, take, drop}
 use borrow.Author.Needs.{needs}
 use Rattle.sorting.specs.Sorted.{insertAll}
-use Rattle.spatial_hash.proofs.Nearby.{listed-point}
+use Rattle.sifting.proofs.Parts.{listed-point}
 use Rattle.radii.specs.Squares.{isNear, within, squaresTo, leastSquares}
 use Rattle.radii.proofs.Looking.{with-ordered, look-step, look-end}
 use Rattle.radii.proofs.Rising.{Ordered}

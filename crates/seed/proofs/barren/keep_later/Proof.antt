@@ -2,22 +2,21 @@
 use Prim.Native.Nat.{_-_}
 use native.Mathlib.Omega.{arith}
 use borrow.Author.Needs.{needs}
-use Rattle.nearby.proofs.Keeping.{held-kept}
-use Rattle.seed.proofs.Threes.{Sifting, sift-start, sift-below, sift-skip, sift-take, sift-end}
+use Rattle.seed.proofs.Threes.{Leaving, later-start, later-below, later-skip, later-take, later-end}
 use Rattle.seed.proofs.barren.keep_later.Statement.{statement}
 use Rattle.seed.proofs.barren.keep_later.Tie as tie
 
 abbrev Inv-loop : tie.InvT-loop
-Inv-loop s points w₀ limit found i at kept₀ m₀ w kept m = Sifting s points limit i w₀ w found kept m
+Inv-loop s w₀ found i at kept₀ m₀ w kept m = Leaving s i w₀ w found kept m
 
 abbrev μ-loop : tie.MeasureT-loop
-μ-loop s points w₀ limit found i at kept₀ m₀ w kept m = found - m
+μ-loop s w₀ found i at kept₀ m₀ w kept m = found - m
 
 mul-at : tie.Need-mul-at Inv-loop μ-loop
 mul-at c = search needs
 
 loop-holds : tie.Need-loop-holds Inv-loop μ-loop
-loop-holds c = sift-start
+loop-holds c = later-start
 
 add-k : tie.Need-add-k Inv-loop μ-loop
 add-k c = search needs
@@ -33,15 +32,15 @@ add-m c = search needs
 
 cast-is-later : tie.Need-cast-is-later Inv-loop μ-loop
 cast-is-later c =
-    let a = c .before .before .before .before .before .before .before in
-    let h = sift-below (a .pre .0) (a .pre .1) (c .before .before .before .loop .inv) (c .before .before .loop-test .taken) in
-    record { fits = omega (arith, h, a .pre .0 .few) }
+    let a = c .before .before .before .before .before .before in
+    let h = later-below (a .pre .1) (a .pre .2) (c .before .before .before .loop .inv) (c .before .before .loop-test .taken) in
+    record { fits = omega (arith, h, a .pre .0) }
 
 is-later-requires : tie.Need-is-later-requires Inv-loop μ-loop
 is-later-requires c κs =
     let l = c .before .before .before .loop in
-    let a = c .before .before .before .before .before .before .before in
-    (held-kept (l .w) (a .pre .0) (l .inv .same), a .pre .2, sift-below (a .pre .0) (a .pre .1) (l .inv) (c .before .before .loop-test .taken))
+    let a = c .before .before .before .before .before .before in
+    (a .pre .0, omega (arith, a .pre .1, l .inv .same), later-below (a .pre .1) (a .pre .2) (l .inv) (c .before .before .loop-test .taken))
 
 add-w : tie.Need-add-w Inv-loop μ-loop
 add-w c = search needs
@@ -60,22 +59,22 @@ loop-less c = search needs
 
 loop-again : tie.Need-loop-again Inv-loop μ-loop
 loop-again c =
-    let a = c .before .before .before .before .before .before .before .before .before in
-    sift-take (a .pre .0) (a .pre .1) (c .before .before .before .before .before .loop .inv) (c .before .before .before .before .loop-test .taken)
+    let a = c .before .before .before .before .before .before .before .before in
+    later-take (a .pre .1) (a .pre .2) (c .before .before .before .before .before .loop .inv) (c .before .before .before .before .loop-test .taken)
 
 loop-less-2 : tie.Need-loop-less-2 Inv-loop μ-loop
 loop-less-2 c = search needs
 
 loop-again-2 : tie.Need-loop-again-2 Inv-loop μ-loop
 loop-again-2 c =
-    let a = c .before .before .before .before .before .before .before .before .before in
-    sift-skip (a .pre .0) (a .pre .1) (c .before .before .before .before .before .loop .inv) (c .before .before .before .before .loop-test .taken) (c .before .is-later .ensures) (c .if1 .left)
+    let a = c .before .before .before .before .before .before .before .before in
+    later-skip (a .pre .1) (a .pre .2) (c .before .before .before .before .before .loop .inv) (c .before .before .before .before .loop-test .taken) (c .before .is-later .ensures) (c .if1 .left)
 
 same-length : tie.Need-same-length Inv-loop μ-loop
 same-length c = c .before .loop .inv .same
 
 returns : tie.Need-returns Inv-loop μ-loop
-returns c = let a = c .before .before .before .before .before in sift-end (a .pre .0) (a .pre .1) (c .before .loop .inv) (c .loop-test .left)
+returns c = let a = c .before .before .before .before in later-end (a .pre .1) (a .pre .2) (c .before .loop .inv) (c .loop-test .left)
 
 pub keep-later-spec : {M : Type 1} → statement M
 keep-later-spec = tie.close (tie.spec Inv-loop μ-loop mul-at loop-holds add-k mul-k slice-read-k add-m cast-is-later is-later-requires add-w mul-w slice-write-w add-kept loop-less loop-again loop-less-2 loop-again-2 same-length returns)
