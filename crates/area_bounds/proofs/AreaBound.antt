@@ -18,7 +18,7 @@ use Rattle.numbers.proofs.Maximum.{maximum-left, maximum-right, maximum-unsigne
 use Rattle.vector.specs.Vector.{Finite, point, difference, magnitudeSquared, magnitude, cross}
 use Rattle.quality.specs.Measures.{half}
 use Rattle.triangle.specs.Quality.{area}
-use Rattle.area_bounds.specs.AreaBound.{wider, widen, crossBound, areaBound, crossSquared, AreaLimit, TooLong, LargeLimit}
+use Rattle.area_bounds.specs.AreaBound.{crossBound, areaBound, crossSquared, AreaLimit, TooLong, LargeLimit}
 use Rattle.vector.specs.declared.Point3f.{Point3f}
 use Rattle.vector.proofs.Distances.{magnitude-nonnegative}
 
@@ -173,63 +173,3 @@ no-limit m = record { below = λ a g z k. absurd (minus-one (le-trans (f32 0) a 
   where
     minus-one : T (le (f32 0) (neg (f32 0x3f800000))) → ⊥
     minus-one h = unfold le neg ofBits in h
-
--- ---- bounds that grow
-
-neg-number : (d : Float) → T (not (isNan d)) → T (not (isNan (neg d)))
-unfolding isNan neg
-neg-number nan f = f
-neg-number (inf s) f = tt
-neg-number (fin s m e) f = tt
-
-module _ (w d : Float) (u : T (unsigned w)) where
-  wider-unsigned : T (unsigned (wider w d))
-  unfolding wider
-  wider-unsigned = maximum-unsigned (maximum w d) (neg d) (maximum-unsigned w d u)
-
-  wider-above : T (le w (wider w d))
-  unfolding wider
-  wider-above =
-      let v = maximum-unsigned w d u in
-      le-trans w (maximum w d) (maximum (maximum w d) (neg d)) (maximum-left w d (unsigned-number w u)) (maximum-left (maximum w d) (neg d) (unsigned-number (maximum w d) v))
-
-  wider-bounds : T (not (isNan d)) → Bounded d (wider w d)
-  unfolding wider
-  wider-bounds f =
-      let v = maximum-unsigned w d u in
-      let r = maximum (maximum w d) (neg d) in
-      record {
-        upper = le-trans d (maximum w d) r (maximum-right w d f) (maximum-left (maximum w d) (neg d) (unsigned-number (maximum w d) v));
-        lower = subst (λ (x : Float). T (le (neg r) x)) (neg-neg d) (neg-le (neg d) r (maximum-right (maximum w d) (neg d) (neg-number d f)));
-      }
-
-module _ (w d : Point3f) (u : Unsigned w) where
-  pub widen-unsigned : Unsigned (widen w d)
-  unfolding widen
-  widen-unsigned = record {
-    unsigned-x = wider-unsigned (w .x) (d .x) (u .unsigned-x);
-    unsigned-y = wider-unsigned (w .y) (d .y) (u .unsigned-y);
-    unsigned-z = wider-unsigned (w .z) (d .z) (u .unsigned-z);
-  }
-
-  -- what w bounds is bounded still
-  pub widen-keeps : (e : Point3f) → Bounds e w → Bounds e (widen w d)
-  unfolding widen
-  widen-keeps e b = record {
-    bounded-x = bounded-above (wider-above (w .x) (d .x) (u .unsigned-x)) (b .bounded-x);
-    bounded-y = bounded-above (wider-above (w .y) (d .y) (u .unsigned-y)) (b .bounded-y);
-    bounded-z = bounded-above (wider-above (w .z) (d .z) (u .unsigned-z)) (b .bounded-z);
-  }
-
--- and a difference of finite points is bounded
-pub widen-bounds : (w p q : Point3f) → Unsigned w → Finite p → Finite q → Bounds (difference p q) (widen w (difference p q))
-unfolding widen difference
-widen-bounds w p q u f g = record {
-  bounded-x = wider-bounds (w .x) (p .x ⊖ q .x) (u .unsigned-x) (sub-number (p .x) (q .x) (f .x-finite) (g .x-finite));
-  bounded-y = wider-bounds (w .y) (p .y ⊖ q .y) (u .unsigned-y) (sub-number (p .y) (q .y) (f .y-finite) (g .y-finite));
-  bounded-z = wider-bounds (w .z) (p .z ⊖ q .z) (u .unsigned-z) (sub-number (p .z) (q .z) (f .z-finite) (g .z-finite));
-}
-
-pub zero-unsigned : Unsigned (point (f32 0) (f32 0) (f32 0))
-unfolding ofBits
-zero-unsigned = record { unsigned-x = tt; unsigned-y = tt; unsigned-z = tt }

@@ -1,21 +1,12 @@
 -- What bounds the area of triangles: bounds of two edges on each axis, and the square of the edges' cross product. Definitions only.
 use mathlib.Core.Bool.{false}
 use lib.Dec.{T}
-use lib.Ieee.{Float, binary32, inf, neg, lt, le, fits}
+use lib.Ieee.{Float, binary32, inf, lt, le, fits}
 use Rattle.numbers.specs.Rounded.{f32, _⊕_, _⊗_}
 use Rattle.numbers.specs.Root.{root}
-use Rattle.numbers.specs.Order.{maximum}
 use Rattle.vector.specs.Vector.{point, difference, magnitudeSquared, magnitude, cross}
 use Rattle.quality.specs.Measures.{half, one, tiny}
 use Rattle.vector.specs.declared.Point3f.{Point3f}
-
--- the largest of w, d and -d
-unfoldable pub wider : Float → Float → Float
-wider w d = maximum (maximum w d) (neg d)
-
--- the same on each axis
-unfoldable pub widen : Point3f → Point3f → Point3f
-widen w d = point (wider (w .x) (d .x)) (wider (w .y) (d .y)) (wider (w .z) (d .z))
 
 -- the cross product with a plus for each minus: it bounds the cross product of the vectors that v and w bound
 unfoldable pub crossBound : Point3f → Point3f → Point3f

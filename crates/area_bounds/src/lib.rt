@@ -2,25 +2,7 @@
 use vector::Point3f;
 ghost use mathlib.Core.Path.{_≡_};
 ghost use mathlib.Core.Bool.{true};
-ghost use Rattle.area_bounds.specs.AreaBound.{wider, widen, crossBound, areaBound, crossSquared, AreaLimit, TooLong, LargeLimit};
-
-// The largest of w, d and -d.
-fn wider(w: f32, d: f32) -> f32
-    ensures { λ r. ⌜ r ≡ wider w d ⌝ }
-{
-    numbers::max(numbers::max(w, d), -d)
-}
-
-// w, made to bound the vector d too.
-pub fn widen(w: Point3f, d: Point3f) -> Point3f
-    ensures { λ r. ⌜ r ≡ widen w d ⌝ }
-{
-    Point3f {
-        x: wider(w.x, d.x),
-        y: wider(w.y, d.y),
-        z: wider(w.z, d.z),
-    }
-}
+ghost use Rattle.area_bounds.specs.AreaBound.{crossBound, areaBound, crossSquared, AreaLimit, TooLong, LargeLimit};
 
 fn cross_bound(v: Point3f, w: Point3f) -> Point3f
     ensures { λ r. ⌜ r ≡ crossBound v w ⌝ }

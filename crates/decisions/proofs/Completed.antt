@@ -13,7 +13,7 @@ use Rattle.score_bounds.specs.Bound.{scoreBound}
 use Rattle.quality.specs.declared.Shape.{Shape}
 use Rattle.quality.specs.declared.TriangleQuality.{TriangleQuality}
 use Rattle.vector.proofs.Distances.{distance-turned}
-use Rattle.quality.proofs.Shapes.{shape-area, quality-area, quality-edges}
+use Rattle.quality.proofs.Shapes.{quality-area, quality-edges}
 use Rattle.triangle.proofs.Quality.{quality-is}
 use Rattle.score_bounds.proofs.Aspect.{bound-low}
 use Rattle.points.specs.Points.{pointAt}
@@ -29,14 +29,7 @@ quality-at pts i j k =
     ap (λ (b : Float). qualityOf (distance (pointAt pts j) (pointAt pts i)) b (distance (pointAt pts i) (pointAt pts k)) (area (pointAt pts i) (pointAt pts j) (pointAt pts k))) (distance-turned (pointAt pts j) (pointAt pts k))
     ∙ quality-is (pointAt pts i) (pointAt pts j) (pointAt pts k)
 
-refused : (s : Scene) (r : Float) (q : TriangleQuality) → lt (q .area) (s .«min_triangle_area») ≡ true → false ≡ accepts s r q
-unfolding accepts acceptable
-refused s r q h = rw h
-
 module _ (s : Scene) (pts : List Float) (r : Float) (i j k : ℕ) {area : Float} (e : area ≡ areaAt pts i j k) where
-  pub accepted-small : lt area (s .«min_triangle_area») ≡ true → false ≡ accepts s r (qualityAt pts i j k)
-  accepted-small h = refused s r (qualityAt pts i j k) (rw (← quality-at pts i j k, quality-area (apart pts j i) (apart pts j k) (apart pts i k) (areaAt pts i j k), shape-area (apart pts j i) (apart pts j k) (apart pts i k) (areaAt pts i j k), ← e) h)
-
   pub accepted-at : {side toJ toI : Float} {q : TriangleQuality} {t : Bool} → side ≡ apart pts j i → toJ ≡ apart pts j k → toI ≡ apart pts i k → qualityOf side toJ toI area ≡ q → t ≡ accepts s r q → t ≡ accepts s r (qualityAt pts i j k)
   accepted-at es ej ei eq et = et ∙ ap (accepts s r) (sym eq ∙ rw (es, ej, ei, e) (quality-at pts i j k))
 

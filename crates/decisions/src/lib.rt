@@ -128,7 +128,7 @@ fn is_shape_refused(s: Scene, radius: f32, shape: Shape) -> bool
 }
 
 // Whether the settings accept the triangle of points i, j and k, `to_i` and `to_j` being the lengths of two edges.
-// The area is asked first, since it needs no other length, then the shape, since it needs no angle.
+// The shape is asked first, since it needs no angle.
 fn is_accepted_at(
     s: Scene,
     points: &[f32],
@@ -143,9 +143,6 @@ fn is_accepted_at(
     ensures { λ r. ⌜ r ≡ accepts s radius (qualityAt (now (points .entry)) i j k) ⌝ }
 {
     let area = area_at(points, i, j, k);
-    if area < s.min_triangle_area {
-        return false;
-    }
     let side = apart_at(points, j, i);
     let shape = quality::shape_of(side, to_j, to_i, area);
     if is_shape_refused(s, radius, shape) {

@@ -19,9 +19,9 @@ use Rattle.grid.proofs.Sequence.{up-below, by-cell-below, snoc-up, insert-alike
 use Rattle.patch.specs.Count.{bit, count}
 use Rattle.patch.proofs.Counts.{either, true-not-false, upto}
 use Rattle.sifting.specs.Sift.{only}
-use Rattle.sifting.proofs.Only.{only-all}
+use Rattle.sifting.proofs.Only.{only-all, insert-count}
 use Rattle.nearby.specs.Narrow.{cellAt, inCells}
-use Rattle.nearby.proofs.Ordered.{Strict, Sorted, insert-count, sorted-insert}
+use Rattle.nearby.proofs.Ordered.{Strict, Sorted, sorted-insert}
 
 -- ---- orders by keys
 

@@ -12,18 +12,8 @@ use Rattle.sorting.specs.Insertion.{insertBefore}
 use Rattle.patch.specs.Count.{bit, count}
 use Rattle.patch.proofs.Counts.{either, not-true, true-not-false}
 use Rattle.sifting.specs.Sift.{only}
-use Rattle.sifting.proofs.Only.{In, in-head, in-cases, only-count, only-none, only-fewer}
+use Rattle.sifting.proofs.Only.{In, in-head, in-cases, only-count, only-none, only-fewer, insert-count}
 use Rattle.nearby.specs.Narrow.{insertAll}
-
--- ---- inserting
-pub insert-count : (p test : ℕ → Bool) (v : ℕ) (xs : List ℕ) → count p (insertBefore test v xs) ≡ bit (p v) + count p xs
-unfolding insertBefore
-insert-count p test v [] = refl
-insert-count p test v (x ∷ xs) = go (test x) (insert-count p test v xs)
-  where
-    go : (b : Bool) → count p (insertBefore test v xs) ≡ bit (p v) + count p xs → count p (cond b (v ∷ x ∷ xs) (x ∷ insertBefore test v xs)) ≡ bit (p v) + count p (x ∷ xs)
-    go true ih = refl
-    go false ih = omega arith
 
 -- ---- in order
 

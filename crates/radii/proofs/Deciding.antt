@@ -28,6 +28,7 @@ use Rattle.grid.proofs.Sequence.{order-of-below}
 use Rattle.patch.specs.Count.{count, bit}
 use Rattle.patch.specs.Search as search
 use Rattle.patch.proofs.Counts.{not-true, and-both, count-mono, count-zero, count-all}
+use Rattle.sifting.proofs.Only.{insert-count}
 use Rattle.spatial_hash.specs.declared.Hash.{Hash}
 use Rattle.spatial_hash.specs.Near.{nobody, Surrounds, Near}
 use Rattle.spatial_hash.proofs.Kept.{hashed-all-behind}
@@ -36,7 +37,7 @@ use Rattle.spatial_hash.proofs.Nearby.{count-same, near-all, surrounds-count, u
 use Rattle.radii.specs.declared.Around.{Around}
 use Rattle.radii.specs.Radii.{distancesTo, nearOf, nearest}
 use Rattle.radii.specs.Squares.{aroundOf, isNear, within, squaresTo, leastSquares, Whole, Prepared, Kept, Looked}
-use Rattle.radii.proofs.Rising.{atMost, insert-count, sorted-count, sorted-good, roots-good, least-same, least-roots}
+use Rattle.radii.proofs.Rising.{atMost, sorted-count, sorted-good, roots-good, least-same, least-roots}
 
 -- ---- squares of some points
 abbrev key : List Float → ℕ → ℕ → Float

@@ -22,9 +22,8 @@ use Rattle.area_bounds.proofs.AreaBound.{Bounds, Unsigned}
 use Rattle.points.specs.Points.{pointAt}
 use Rattle.decisions.specs.declared.Scene.{Scene}
 use Rattle.refusals.proofs.Refusals.{bounded-accepts}
-use Rattle.seed.specs.Spread.{tooSmall}
-use Rattle.seed.specs.Flat.{FlatAmong, onAxis, Numbers, Extent}
-use Rattle.seed.proofs.Spread.{below-next}
+use Rattle.seed.specs.Flat.{tooSmall, FlatAmong, onAxis, Numbers, Extent}
+use Rattle.seed.proofs.Points.{below-next}
 
 -- ---- one axis
 
@@ -124,7 +123,7 @@ sides {pts} {n} {x} ex ey ez a b ha hb = record {
   bounded-z = ez .bounds a b ha hb;
 }
 
-pub box-flat : (s : Scene) {pts : List Float} {n : ℕ} {x y z : Float} {v : Point3f} → Extent pts 0 n x → Extent pts 1 n y → Extent pts 2 n z → v ≡ point x y z → tooSmall s v v ≡ true → FlatAmong s pts n
+pub box-flat : (s : Scene) {pts : List Float} {n : ℕ} {x y z : Float} {v : Point3f} → Extent pts 0 n x → Extent pts 1 n y → Extent pts 2 n z → v ≡ point x y z → tooSmall s v ≡ true → FlatAmong s pts n
 unfolding tooSmall
 box-flat s {pts} {n} {x} {y} {z} {v} ex ey ez e h r i j k hi hj hk = bounded-accepts s pts r i j k v v signs signs (edge j i hj hi) (edge k i hk hi) h
   where

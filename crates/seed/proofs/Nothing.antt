@@ -1,48 +1,37 @@
--- Where nothing is found: around a point whose near points lie in too small a spread (`small-nothing`), with a second point that is too near (`near-nothing`),
--- at a radius that is hopeless (`hopeless-nothing`), and in a cloud that is flat (`flat-nothing`). Assumes nothing.
+-- Where nothing is found: at a radius that is hopeless (`hopeless-nothing`), in a cloud that is flat (`flat-nothing`), and with three points that limits refuse. Assumes nothing.
 use Prim.Native.Nat.{ℕ, zero, suc, _+_, _≤_, _<_}
-use mathlib.Core.Path.{_≡_, refl, sym, ap, _∙_, subst}
-use mathlib.Core.Logic.{_⊎_, ⊎-elim}
-use mathlib.Core.Bool.{Bool, true, false, cond, not, _&&_}
+use mathlib.Core.Path.{_≡_, refl, sym, ap, _∙_}
+use mathlib.Core.Logic.{⊎-elim}
+use mathlib.Core.Bool.{Bool, true, false, not, _&&_}
 use mathlib.Core.List.{List, [], _∷_}
 use mathlib.Core.Option.{Option, none}
 use native.Mathlib.Nat.{min-le-left}
 use native.Mathlib.Omega.{arith}
 use lib.Dec.{eqb}
-use lib.ListN.{length, take, drop, getD, length-take}
+use lib.ListN.{length, drop, getD, length-take}
 use lib.Seq.{getD-take, getD-drop}
-use lib.Ieee.{Float, lt}
+use lib.Ieee.{Float}
 use borrow.Author.Tests.{eq-eqb, eqb-true}
-use Rattle.vector.specs.Vector.{squared, Finite}
-use Rattle.vector.specs.declared.Point3f.{Point3f}
+use Rattle.vector.specs.Vector.{Finite}
 use Rattle.points.specs.Points.{pointAt}
-use Rattle.sorting.specs.Insertion.{insertBefore}
-use Rattle.grid.specs.Index.{earlier}
 use Rattle.regions.specs.Regions.{neighborsAt}
-use Rattle.patch.specs.Count.{bit, count}
+use Rattle.patch.specs.Count.{count}
 use Rattle.patch.specs.Search.{Floats, unused, isSecond, isThird, thirdOf, secondOf, firstOf, numbers, Below}
 use Rattle.patch.proofs.Counts.{either, not-true, true-not-false, and-both}
 use Rattle.decisions.specs.declared.Scene.{Scene}
-use Rattle.decisions.specs.Decisions.{reach, apart, isClose, accepts, qualityAt, completes, floatsOf}
+use Rattle.decisions.specs.Decisions.{isClose, accepts, qualityAt, completes, floatsOf}
 use Rattle.decisions.proofs.Within.{within}
 use Rattle.refusals.specs.declared.Limits.{Limits}
 use Rattle.refusals.specs.Refused.{Refused, Hopeless}
 use Rattle.refusals.proofs.Refusals.{refused-turned, refused-accepts, hopeless-accepts}
-use Rattle.nearby.specs.declared.Filter.{Filter}
-use Rattle.nearby.specs.Ready.{usedIn, listed}
-use Rattle.nearby.specs.Narrow.{insertAll, inReach, cellAt, passes, Filters, Collected, Narrowed}
-use Rattle.nearby.proofs.Keeping.{kept-self}
-use Rattle.sifting.specs.Sift.{isWithin}
+use Rattle.nearby.specs.Ready.{listed}
 use Rattle.sifting.proofs.Only.{and-false}
-use Rattle.nearby.proofs.Ordered.{insert-count}
 use Rattle.nearby.proofs.Laws.{chosen, passed}
-use Rattle.nearby.proofs.Narrowing.{out-of-reach, in-reach, in-unused}
 use Rattle.seed.specs.Found.{withSecond, withFirst}
 use Rattle.seed.specs.Flat.{Flat}
-use Rattle.seed.specs.Spread.{spread, tooSmall, Fruitless, Spans, Judged, Listing}
+use Rattle.seed.specs.Judged.{Fruitless, Judged}
 use Rattle.seed.proofs.Laws.{orElse, third-miss, third-end, second-step, second-end, first-tried, first-used, first-spent, first-end}
-use Rattle.seed.proofs.LeftOut.{second-out, third-out}
-use Rattle.seed.proofs.Spread.{in-either, spread-accepts}
+use Rattle.seed.proofs.Points.{in-either}
 
 -- ---- where no third point serves
 module _ {R : Type 0} (floats : Floats R) (r : R) (used : List ℕ) where
@@ -95,42 +84,6 @@ module _ (s : Scene) (pts : List Float) (r : Float) (used : List ℕ) where
       near : Below (s .n) (floatsOf s pts .near r i)
       near = within s pts .near-below r i
 
--- ---- a spread that is too small
-
-pub listing : {s : Scene} {pts : List Float} {r : Float} {i : ℕ} {f : Filter} {w u : List ℕ} {found : ℕ} {p : Point3f} → p ≡ pointAt pts i → Filters s p p (reach r) f → Collected s pts f (f .center) w u found → Listing s pts r i f u found
-listing {s} {pts} {r} {f = f} {u = u} e x c = record {
-  filters = subst (λ (q : Point3f). Filters s q q (reach r) f) e x;
-  collected = record { most = c .most; below = c .below; once = c .once; complete = λ k h t. c .complete k h (subst (λ (l : List ℕ). unused (take (s .n) l) k ≡ true) (c .kept .after) t); kept = kept-self s u };
-}
-
--- a point that may be chosen is among the listed ones
-listed-near : {s : Scene} {pts : List Float} {r : Float} {i : ℕ} {f : Filter} {w : List ℕ} {found : ℕ} → Listing s pts r i f w found → (k : ℕ) → k < s .n
-    → inReach pts (usedIn s w) (pointAt pts i) (f .limit) k ≡ true → 1 ≤ count (eqb k) (listed s w found)
-listed-near {s} {pts} {i = i} {f = f} {w = w} l k h t =
-    let near : isWithin pts (f .center) (f .limit) k ≡ true = rw (l .filters .center-is) (in-reach pts (usedIn s w) (pointAt pts i) (f .limit) k t) in
-    l .collected .complete k h (in-unused pts (usedIn s w) (pointAt pts i) (f .limit) k t) near near
-
-pub small-nothing : {s : Scene} {pts : List Float} {r : Float} {l : Limits} {i : ℕ} {f : Filter} {w : List ℕ} {found : ℕ} {v : Point3f} → Judged s pts r l → i < s .n → Listing s pts r i f w found
-    → v ≡ spread pts (pointAt pts i) (listed s w found) → tooSmall s v v ≡ true → withFirst (floatsOf s pts) r (usedIn s w) i ≡ none
-small-nothing {s} {pts} {r} {i = i} {f = f} {w = w} {found = found} {v = v} g hi l e h = first-around s pts r (usedIn s w) i go
-  where
-    out : (k : ℕ) → inReach pts (usedIn s w) (pointAt pts i) (f .limit) k ≡ false → (unused (usedIn s w) k ≡ false) ⊎ (lt (reach r) (apart pts k i) ≡ true)
-    out k t = out-of-reach pts (usedIn s w) (reach r) i k (f .limit) (l .filters .limits) t
-
-    both : (j k : ℕ) → j < s .n → k < s .n → 1 ≤ count (eqb j) (listed s w found) → 1 ≤ count (eqb k) (listed s w found) → isThird (floatsOf s pts) r (usedIn s w) i j k ≡ false
-    both j k hj hk cj ck =
-        third-refused s pts r (usedIn s w) i j k
-        (spread-accepts s pts r i j k (g .numbers i hi) (g .numbers j hj) (g .numbers k hk) (listed s w found) (listed s w found) cj ck (ap (λ (x : Point3f). tooSmall s x x) (sym e) ∙ h))
-
-    go : (j : ℕ) → j < s .n → isSecond (floatsOf s pts) r (usedIn s w) i j ≡ true → (k : ℕ) → k < s .n → isThird (floatsOf s pts) r (usedIn s w) i j k ≡ false
-    go j hj second k hk = ⊎-elim
-        (λ (tk : inReach pts (usedIn s w) (pointAt pts i) (f .limit) k ≡ true). ⊎-elim
-        (λ (tj : inReach pts (usedIn s w) (pointAt pts i) (f .limit) j ≡ true). both j k hj hk (listed-near l j hj tj) (listed-near l k hk tk))
-        (λ (tj : inReach pts (usedIn s w) (pointAt pts i) (f .limit) j ≡ false). absurd (true-not-false second (second-out s pts r (usedIn s w) i j (g .numbers i hi) (g .numbers j hj) (out j tj))))
-        (either (inReach pts (usedIn s w) (pointAt pts i) (f .limit) j)))
-        (λ (tk : inReach pts (usedIn s w) (pointAt pts i) (f .limit) k ≡ false). third-out s pts r (usedIn s w) i k (g .numbers i hi) (g .numbers k hk) j (out k tk))
-        (either (inReach pts (usedIn s w) (pointAt pts i) (f .limit) k))
-
 -- ---- a radius that is hopeless
 
 pub close-second : (s : Scene) (pts : List Float) (r : Float) (used : List ℕ) (i j : ℕ) → isSecond (floatsOf s pts) r used i j ≡ true → isClose pts r i j ≡ true
@@ -157,18 +110,6 @@ hopeless-nothing s pts r used tries numbers h = first-nothing (floatsOf s pts) r
 
 pub flat-nothing : (s : Scene) (pts : List Float) (r : Float) (used : List ℕ) (tries : ℕ) → Flat s pts → firstOf (floatsOf s pts) r used (numbers (s .n) 0) tries ≡ none
 flat-nothing s pts r used tries h = first-nothing (floatsOf s pts) r used (s .n) (λ i hi. first-around s pts r used i (λ j hj _ k hk. third-refused s pts r used i j k (h r i j k hi hj hk))) (s .n) 0 tries (omega arith)
-
--- ---- a second point that is too near
-
-pub near-nothing : {s : Scene} {pts : List Float} {r : Float} {l : Limits} {i j : ℕ} {ks : List ℕ} {u v : Point3f} (used : List ℕ) → Judged s pts r l → i < s .n → j < s .n → Spans s pts i ks v
-    → u ≡ spread pts (pointAt pts i) (j ∷ []) → tooSmall s u v ≡ true → thirdOf (floatsOf s pts) r used i j ks ≡ none
-near-nothing {s} {pts} {r} {i = i} {j = j} {ks = ks} {u = u} {v = v} used g hi hj x e h =
-    let self : eqb j j ≡ true = eq-eqb j j refl in
-    let one : 1 ≤ count (eqb j) (j ∷ []) = rw self (omega arith) in
-    third-nothing (floatsOf s pts) r used i j ks (λ k c.
-    third-refused s pts r used i j k
-    (spread-accepts s pts r i j k (g .numbers i hi) (g .numbers j hj) (g .numbers k (x .below k (x .among k c))) (j ∷ []) (x .all) one (x .among k c)
-    (ap (λ (z : Point3f). tooSmall s z (spread pts (pointAt pts i) (x .all))) (sym e) ∙ ap (tooSmall s u) (sym (x .is)) ∙ h)))
 
 -- ---- points no two of which make a seed
 
@@ -204,27 +145,3 @@ listed-place s w c k h =
     let r = place-of k (listed s w c) h in
     let z : r .0 < c = omega (arith, r .1 .0, length-take c (drop (neighborsAt (s .n)) w), min-le-left c (length (drop (neighborsAt (s .n)) w))) in
     (r .0, (z, sym (getD-take c (drop (neighborsAt (s .n)) w) (r .0) 0 z ∙ getD-drop (neighborsAt (s .n)) w (r .0) 0) ∙ r .1 .1))
-
--- ---- what is left of the listed points is among them
-
-insert-all-le : (less : ℕ → ℕ → Bool) (test : ℕ → Bool) (k : ℕ) (xs js : List ℕ) → count (eqb k) (insertAll less test xs js) ≤ count (eqb k) xs + count (eqb k) js
-unfolding insertAll
-insert-all-le less test k xs [] = omega arith
-insert-all-le less test k xs (j ∷ js) = go (test j) (insert-all-le less test k (insertBefore (less j) j xs) js) (insert-all-le less test k xs js)
-  where
-    go : (b : Bool) → count (eqb k) (insertAll less test (insertBefore (less j) j xs) js) ≤ count (eqb k) (insertBefore (less j) j xs) + count (eqb k) js → count (eqb k) (insertAll less test xs js) ≤ count (eqb k) xs + count (eqb k) js
-        → count (eqb k) (insertAll less test (cond b (insertBefore (less j) j xs) xs) js) ≤ count (eqb k) xs + (bit (eqb k j) + count (eqb k) js)
-    go true p q = omega (arith, insert-count (eqb k) (less j) j xs)
-    go false p q = omega arith
-
-pub spans-listed : {s : Scene} {pts : List Float} {r : Float} {i : ℕ} {f : Filter} {w u : List ℕ} {found count : ℕ} {v : Point3f} → Listing s pts r i f w found → v ≡ spread pts (pointAt pts i) (listed s w found) → Narrowed s pts f w u found count
-    → Spans s pts i (listed s u count) v
-spans-listed {s} {pts} {f = f} {w = w} {u = u} {found = found} {count = c} l e n = record {
-  all = listed s w found;
-  below = l .collected .below;
-  is = e;
-  among = λ k h.
-      let z = insert-all-le (earlier (s .indexed) (cellAt (s .grid) pts)) (passes s pts (usedIn s w) f) k [] (listed s w found) in
-      let q = ap (λ (ks : List ℕ). count (eqb k) ks) (n .same) in
-      omega arith;
-}

@@ -32,11 +32,11 @@ use Rattle.nearby.proofs.Keeping.{kept-self, kept-on}
 use Rattle.sifting.proofs.Only.{and-false}
 use Rattle.nearby.proofs.Narrowing.{out-of-reach, in-reach}
 use Rattle.seed.specs.Found.{withFirst}
-use Rattle.seed.specs.Spread.{Fruitless, Judged}
+use Rattle.seed.specs.Judged.{Fruitless, Judged}
 use Rattle.seed.specs.Barren.{Barren, AllBarren, BarrenFrom, Stands, Later}
 use Rattle.seed.proofs.LeftOut.{close-far}
 use Rattle.seed.proofs.State.{Seeking}
-use Rattle.seed.proofs.Spread.{below-next}
+use Rattle.seed.proofs.Points.{below-next}
 use Rattle.seed.proofs.Nothing.{first-around, completes-third, refused-fruitless, listed-place, close-second}
 
 -- ---- the loop of `keep_later` at the m-th point

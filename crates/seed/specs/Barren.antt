@@ -11,7 +11,7 @@ use Rattle.regions.specs.Regions.{neighborsAt}
 use Rattle.patch.specs.Search.{unused}
 use Rattle.decisions.specs.declared.Scene.{Scene}
 use Rattle.nearby.specs.Ready.{Listed, Kept, usedIn}
-use Rattle.seed.specs.Spread.{Fruitless}
+use Rattle.seed.specs.Judged.{Fruitless}
 
 -- points i, j and k make no seed, whichever of them comes first
 pub record Barren (s : Scene) (pts : List Float) (r : Float) (i j k : ℕ) : Type 0 where

@@ -1,17 +1,23 @@
 -- A cloud that is flat, and how far its points reach on an axis. Definitions only.
 use Prim.Native.Nat.{ℕ, _+_, _*_, _<_}
 use mathlib.Core.Path.{_≡_}
-use mathlib.Core.Bool.{false}
+use mathlib.Core.Bool.{Bool, false}
 use mathlib.Core.List.{List}
 use lib.Dec.{T}
 use lib.ListN.{getD}
-use lib.Ieee.{Float, nan}
+use lib.Ieee.{Float, nan, lt}
 use lib.Ieee.Scale.{finite}
 use Rattle.numbers.specs.Rounded.{_⊖_}
 use Rattle.numbers.proofs.OrderLaws.{unsigned}
 use Rattle.numbers.proofs.Bounded.{Bounded}
+use Rattle.vector.specs.declared.Point3f.{Point3f}
+use Rattle.area_bounds.specs.AreaBound.{areaBound}
 use Rattle.decisions.specs.declared.Scene.{Scene}
 use Rattle.decisions.specs.Decisions.{accepts, qualityAt}
+
+-- two edges that v bounds make a triangle that is too small
+unfoldable pub tooSmall : Scene → Point3f → Bool
+tooSmall s v = lt (areaBound v v) (s .«min_triangle_area»)
 
 -- no three of the first n points make an acceptable triangle, at any radius
 abbrev pub FlatAmong : Scene → List Float → ℕ → Type 0

@@ -1,5 +1,5 @@
 -- What the crate's contracts cite, leaves first.
 pub mod Found
-pub mod Spread
+pub mod Judged
 pub mod Barren
 pub mod Flat

@@ -12,8 +12,26 @@ ghost use Rattle.spatial_hash.specs.Near.{Hashed};
 ghost use Rattle.patch.specs.Search.{unused};
 ghost use Rattle.refusals.specs.Refused.{Limiting};
 ghost use Rattle.nearby.specs.Ready.{Held, Listed, Kept, usedIn};
-ghost use Rattle.seed.specs.Spread.{Judged};
+ghost use Rattle.seed.specs.Judged.{Fruitless, Judged};
 ghost use Rattle.seed.specs.Barren.{Barren, BarrenAfter, AllBarren, BarrenFrom, Later};
+
+// Whether points j and k make no seed with point i, in either order, both being measured.
+fn are_measured_fruitless(
+    s: Scene,
+    points: &[f32],
+    radius: f32,
+    i: usize,
+    j: usize,
+    k: usize,
+) -> bool
+    requires { ⌜ (length (now points) ≡ 3 * s .n) × (i < s .n) × (j < s .n) × (k < s .n) ⌝ }
+    ensures { λ r. ⌜ (r ≡ true → Fruitless s (now (points .entry)) radius i j k) ⌝ }
+{
+    if decisions::is_completed(s, points, radius, i, j, k) {
+        return false;
+    }
+    !decisions::is_completed(s, points, radius, i, k, j)
+}
 
 // Whether points i, j and k make no seed, whichever of them comes first. Limits are asked first, since they need no root.
 fn is_barren(
@@ -34,13 +52,13 @@ fn is_barren(
     if refusals::is_refused_throughout(limits, first, second, third) {
         return true;
     }
-    if !crate::areas::are_measured_fruitless(s, points, radius, i, j, k) {
+    if !are_measured_fruitless(s, points, radius, i, j, k) {
         return false;
     }
-    if !crate::areas::are_measured_fruitless(s, points, radius, j, i, k) {
+    if !are_measured_fruitless(s, points, radius, j, i, k) {
         return false;
     }
-    crate::areas::are_measured_fruitless(s, points, radius, k, i, j)
+    are_measured_fruitless(s, points, radius, k, i, j)
 }
 
 // Whether points i and j make no seed with any of the listed points from a place on.

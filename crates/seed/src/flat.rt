@@ -1,12 +1,13 @@
 // Whether a cloud's points lie in a box so flat that no three of them make a triangle that is large enough.
 use decisions::Scene;
+use vector::Point3f;
 ghost use mathlib.Core.Path.{_≡_};
 ghost use mathlib.Core.Bool.{true};
 ghost use Prim.Native.Nat.{ℕ, _*_, _<_, _≤_};
 ghost use lib.ListN.{length};
 ghost use Rattle.points.specs.Points.{pointAt};
 ghost use Rattle.vector.specs.Vector.{Finite};
-ghost use Rattle.seed.specs.Flat.{FlatAmong, Flat, Numbers, Extent};
+ghost use Rattle.seed.specs.Flat.{tooSmall, FlatAmong, Flat, Numbers, Extent};
 
 // How far the n points reach on one axis, 0, 1 or 2. The difference is taken both ways, since a zero may have either sign.
 fn extent_on(points: &[f32], axis: usize, n: usize) -> f32
@@ -24,6 +25,13 @@ fn extent_on(points: &[f32], axis: usize, n: usize) -> f32
     numbers::max(numbers::max(0.0, hi - lo), -(lo - hi))
 }
 
+// Whether two edges that v bounds make no triangle that is large enough.
+fn is_too_small(s: Scene, v: Point3f) -> bool
+    ensures { λ r. ⌜ r ≡ tooSmall s v ⌝ }
+{
+    area_bounds::area_bound(v, v) < s.min_triangle_area
+}
+
 // Whether no triangle in the box around the first n points is large enough.
 fn is_box_small(s: Scene, points: &[f32], n: usize) -> bool
     requires { ⌜ (0 < n) × (n ≤ 4096) × (3 * n ≤ length (now points)) × ((k : ℕ) → k < n → Finite (pointAt (now points) k)) ⌝ }
@@ -33,7 +41,7 @@ fn is_box_small(s: Scene, points: &[f32], n: usize) -> bool
     let y = extent_on(points, 1, n);
     let z = extent_on(points, 2, n);
     let v = vector::point(x, y, z);
-    crate::areas::is_too_small(s, v, v)
+    is_too_small(s, v)
 }
 
 // How many points are asked first.

@@ -1,5 +1,4 @@
 // The search for a seed triangle.
-mod areas;
 mod barren;
 pub mod flat;
 mod triples;

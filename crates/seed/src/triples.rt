@@ -1,22 +1,20 @@
 // The search for a seed: three loops, over i, j and k.
 use crate::Seed;
 use decisions::Scene;
-use nearby::Filter;
 use refusals::Limits;
 use spatial_hash::Hash;
-use vector::Point3f;
 ghost use mathlib.Core.Path.{_≡_};
 ghost use mathlib.Core.Bool.{true};
 ghost use mathlib.Core.Option.{none};
 ghost use Prim.Native.Nat.{_*_, _<_, _+_};
-ghost use Rattle.grid.specs.Index.{Cells, Indexed};
+ghost use Rattle.grid.specs.Index.{Indexed};
 ghost use Rattle.spatial_hash.specs.Near.{Hashed};
 ghost use Rattle.patch.specs.Search.{isSecond, isThird, thirdOf, secondOf, firstOf, numbers};
 ghost use Rattle.decisions.specs.Decisions.{isClose, floatsOf};
 ghost use Rattle.refusals.specs.Refused.{Limiting};
 ghost use Rattle.nearby.specs.Ready.{Held, Listed, usedIn, listed, Kept};
 ghost use Rattle.seed.specs.Found.{seedFound, withSecond, withFirst};
-ghost use Rattle.seed.specs.Spread.{Spans, Judged, Listing};
+ghost use Rattle.seed.specs.Judged.{Judged};
 
 // Whether j may be the second point after i.
 fn is_second(s: Scene, points: &[f32], w: &[u32], radius: f32, i: usize, j: usize) -> bool
@@ -97,17 +95,13 @@ fn try_second(
     count: usize,
     radius: f32,
     limits: Limits,
-    wide: Point3f,
     i: usize,
     j: usize,
 ) -> Seed
-    requires { ⌜ Held s (now points) (now w) × Listed s (now w) count × (i < s .n) × (j < s .n) × Judged s (now points) radius limits × Spans s (now points) i (listed s (now w) count) wide ⌝ }
+    requires { ⌜ Held s (now points) (now w) × Listed s (now w) count × (i < s .n) × (j < s .n) × Judged s (now points) radius limits ⌝ }
     ensures { λ r. ⌜ r ≡ seedFound (withSecond (floatsOf s (now (points .entry))) radius (usedIn s (now (w .entry))) i (listed s (now (w .entry)) count) j) ⌝ }
 {
     if !is_second(s, points, w, radius, i, j) {
-        return Seed::Nothing;
-    }
-    if crate::areas::is_too_near(s, points, i, j, wide) {
         return Seed::Nothing;
     }
     find_third(s, points, w, count, radius, limits, i, j)
@@ -121,45 +115,22 @@ fn find_second(
     count: usize,
     radius: f32,
     limits: Limits,
-    wide: Point3f,
     i: usize,
 ) -> Seed
-    requires { ⌜ Held s (now points) (now w) × Listed s (now w) count × (i < s .n) × Judged s (now points) radius limits × Spans s (now points) i (listed s (now w) count) wide ⌝ }
+    requires { ⌜ Held s (now points) (now w) × Listed s (now w) count × (i < s .n) × Judged s (now points) radius limits ⌝ }
     ensures { λ r. ⌜ r ≡ seedFound (secondOf (floatsOf s (now (points .entry))) radius (usedIn s (now (w .entry))) i (listed s (now (w .entry)) count) (listed s (now (w .entry)) count)) ⌝ }
 {
     let at = 4 * s.n;
     let mut m: usize = 0;
     while m < count {
         let j = w[at + m] as usize;
-        let found = try_second(s, points, w, count, radius, limits, wide, i, j);
+        let found = try_second(s, points, w, count, radius, limits, i, j);
         if let Seed::Triangle(a, b, c) = found {
             return Seed::Triangle(a, b, c);
         }
         m += 1;
     }
     Seed::Nothing
-}
-
-// What the unused point i gives as the first one, the points near it being listed.
-fn try_listed(
-    s: Scene,
-    points: &[f32],
-    w: &mut [u32],
-    found: usize,
-    radius: f32,
-    limits: Limits,
-    f: Filter,
-    i: usize,
-) -> Seed
-    requires { ⌜ Held s (now points) (now w) × Cells (s .grid) (now points) (s .n) (now w) × Listing s (now points) radius i f (now w) found × (i < s .n) × Judged s (now points) radius limits ⌝ }
-    ensures { λ r. ⌜ (r ≡ seedFound (withFirst (floatsOf s (now (points .entry))) radius (usedIn s (now (w .entry))) i)) × Kept s (now (w .entry)) (now (w .exit)) ⌝ }
-{
-    let wide = crate::areas::spread(s, points, w, found, i);
-    if crate::areas::is_too_small(s, wide, wide) {
-        return Seed::Nothing;
-    }
-    let count = nearby::narrow(s, points, w, f, found);
-    find_second(s, points, w, count, radius, limits, wide, i)
 }
 
 // What the unused point i gives as the first one.
@@ -178,7 +149,8 @@ fn try_first(
     let place = points::point_at(points, i);
     let f = nearby::filter_of(s, place, place, radius * 2.0);
     let found = nearby::gather_near(s, points, w, f, radius * 2.002, hash);
-    try_listed(s, points, w, found, radius, limits, f, i)
+    let count = nearby::narrow(s, points, w, f, found);
+    find_second(s, points, w, count, radius, limits, i)
 }
 
 // The same, where it may be known that it gives nothing.

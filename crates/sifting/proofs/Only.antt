@@ -1,4 +1,4 @@
--- Members of a list, and those of them that pass a test. Assumes nothing.
+-- Members of a list, those of them that pass a test, and what an insertion adds. Assumes nothing.
 use Prim.Native.Nat.{ℕ, zero, suc, _+_, _≤_, _<_}
 use mathlib.Core.Path.{_≡_, refl, sym, ap, _∙_, subst}
 use mathlib.Core.Logic.{⊎-elim}
@@ -8,6 +8,7 @@ use native.Mathlib.Omega.{arith}
 use lib.Dec.{eqb}
 use lib.ListN.{length, getD}
 use borrow.Author.Tests.{eqb-true, eq-eqb}
+use Rattle.sorting.specs.Insertion.{insertBefore}
 use Rattle.patch.specs.Count.{bit, count}
 use Rattle.patch.proofs.Counts.{either, not-true, true-not-false}
 use Rattle.sifting.specs.Sift.{only}
@@ -99,3 +100,13 @@ module _ (test : ℕ → Bool) (k : ℕ) (ks : List ℕ) where
   pub only-take : test k ≡ true → only test (k ∷ ks) ≡ k ∷ only test ks
   unfolding only
   only-take h = rw h
+
+-- ---- inserting
+pub insert-count : {A : Type 0} (p test : A → Bool) (v : A) (xs : List A) → count p (insertBefore test v xs) ≡ bit (p v) + count p xs
+unfolding insertBefore
+insert-count p test v [] = refl
+insert-count p test v (x ∷ xs) = go (test x) (insert-count p test v xs)
+  where
+    go : (b : Bool) → count p (insertBefore test v xs) ≡ bit (p v) + count p xs → count p (cond b (v ∷ x ∷ xs) (x ∷ insertBefore test v xs)) ≡ bit (p v) + count p (x ∷ xs)
+    go true r = refl
+    go false r = omega arith

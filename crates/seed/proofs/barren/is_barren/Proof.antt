@@ -3,7 +3,7 @@ use mathlib.Core.Path.{sym, subst}
 use lib.Dec.{T}
 use borrow.Author.Needs.{needs}
 use borrow.Author.Tests.{not-false}
-use Rattle.seed.proofs.Spread.{throughout-points}
+use Rattle.seed.proofs.Points.{throughout-points}
 use Rattle.seed.proofs.Threes.{refused-barren}
 use Rattle.seed.proofs.barren.is_barren.Statement.{statement}
 use Rattle.seed.proofs.barren.is_barren.Tie as tie

@@ -7,10 +7,10 @@ use Rattle.seed.proofs.triples.find_second.Statement.{statement}
 use Rattle.seed.proofs.triples.find_second.Tie as tie
 
 abbrev Inv-loop : tie.InvT-loop
-Inv-loop s points w count radius limits wide i at m₀ m = Second s points radius w count i m
+Inv-loop s points w count radius limits i at m₀ m = Second s points radius w count i m
 
 abbrev μ-loop : tie.MeasureT-loop
-μ-loop s points w count radius limits wide i at m₀ m = count - m
+μ-loop s points w count radius limits i at m₀ m = count - m
 
 mul-at : tie.Need-mul-at Inv-loop μ-loop
 mul-at c = search needs
@@ -36,7 +36,7 @@ cast-j c =
 try-second-requires : tie.Need-try-second-requires Inv-loop μ-loop
 try-second-requires c κs =
     let a = c .before .before .before .before .before .before in
-    (a .pre .0, a .pre .1, a .pre .2, a .pre .1 .below (c .before .before .loop .m) (c .before .loop-test .taken), a .pre .3, a .pre .4)
+    (a .pre .0, a .pre .1, a .pre .2, a .pre .1 .below (c .before .before .loop .m) (c .before .loop-test .taken), a .pre .3)
 
 enum-known-found : tie.Need-enum-known-found Inv-loop μ-loop
 enum-known-found c = search needs

@@ -6,7 +6,7 @@ use Rattle.patch.specs.Search.{isThird}
 use Rattle.decisions.specs.Decisions.{floatsOf, completes}
 use Rattle.nearby.specs.Ready.{usedIn}
 use Rattle.seed.proofs.Nothing.{limits-third}
-use Rattle.seed.proofs.Spread.{refused-points}
+use Rattle.seed.proofs.Points.{refused-points}
 use Rattle.seed.proofs.triples.is_third.Statement.{statement}
 use Rattle.seed.proofs.triples.is_third.Tie as tie
 

@@ -1,14 +1,11 @@
--- `try_first` meets its contract: the points near point i are listed, and the used points stay. Assumes nothing.
-use Prim.Native.Nat.{ℕ}
+-- `try_first` meets its contract: what is left of the points near point i are its neighbours but for some that it can't choose. Assumes nothing.
 use mathlib.Core.Path.{sym, ap, _∙_, subst}
-use mathlib.Core.List.{List}
-use lib.ListN.{take}
 use borrow.Author.Needs.{needs}
 use Rattle.vector.specs.Vector.{Finite}
-use Rattle.decisions.specs.Decisions.{floatsOf}
 use Rattle.nearby.proofs.Keeping.{kept-on, held-kept, cells-kept}
-use Rattle.seed.specs.Found.{seedFound, withFirst}
-use Rattle.seed.proofs.Nothing.{listing}
+use Rattle.nearby.proofs.Narrowing.{collected-listed, sought}
+use Rattle.seed.specs.Found.{seedFound}
+use Rattle.seed.proofs.State.{listed-points, with-first}
 use Rattle.seed.proofs.triples.try_first.Statement.{statement}
 use Rattle.seed.proofs.triples.try_first.Tie as tie
 
@@ -23,36 +20,34 @@ gather-near-requires c κs =
     let a = c .before .before .before .before .before in
     (a .pre .2, subst Finite (sym (c .before .filter-of .ensures .center-is ∙ c .before .before .point-at .ensures)) (a .pre .2 .linked .ready .numbers (a .args .i) (a .pre .3)))
 
-try-listed-requires : tie.Need-try-listed-requires
-try-listed-requires c κs =
+narrow-requires : tie.Need-narrow-requires
+narrow-requires c κs =
     let a = c .before .before .before .before .before .before .before .before .before in
-    let g = c .before .before .before .gather-near in (
-      held-kept (g .last .1 .1 .0) (a .pre .0) (g .kept .1 .1 .0),
-      cells-kept (a .args .s .grid) (a .args .points .now) (a .args .s .n) (a .args .w .now) (g .last .1 .1 .0) (a .pre .1 .cells) (g .ensures .kept .before),
-      listing (c .before .before .before .before .before .before .point-at .ensures) (c .before .before .before .before .before .filter-of .ensures) (g .ensures),
-      a .pre .3,
-      record { numbers = a .pre .2 .linked .ready .numbers; limits = a .pre .4 },
-    )
+    let g = c .before .before .before .gather-near in
+    let h = held-kept (g .last .1 .1 .0) (a .pre .0) (g .kept .1 .1 .0) in
+    (h, cells-kept (a .args .s .grid) (a .args .points .now) (a .args .s .n) (a .args .w .now) (g .last .1 .1 .0) (a .pre .1 .cells) (g .ensures .kept .before), collected-listed (h .work-long) (g .ensures))
+
+find-second-requires : tie.Need-find-second-requires
+find-second-requires c κs =
+    let a = c .before .before .before .before .before .before .before .before .before .before .before .before .before in
+    let g = c .before .before .before .before .before .before .before .gather-near in
+    let n = c .before .before .before .narrow in
+    let h = held-kept (n .last .1 .1 .0) (a .pre .0) (n .kept .1 .1 .0 ∙ g .kept .1 .1 .0) in
+    (h, listed-points (h .work-long) (sought (c .before .before .before .before .before .before .before .before .before .before .point-at .ensures) (c .before .before .before .before .before .before .before .before .before .filter-of .ensures) (g .ensures) (n .ensures)), a .pre .3, record { numbers = a .pre .2 .linked .ready .numbers; limits = a .pre .4 })
 
 same-length : tie.Need-same-length
-same-length c = c .before .before .try-listed .kept .1 .1 .0 ∙ c .before .before .before .before .before .before .gather-near .kept .1 .1 .0
+same-length c = search needs
 
 returns : tie.Need-returns
 returns c =
-    let a = c .before .before .before .before .before .before .before .before .before .before .before .before in
-    let g = c .before .before .before .before .before .before .gather-near in
-    let t = c .before .before .try-listed in (
-      t .ensures .0 ∙ ap (λ (l : List ℕ). seedFound (withFirst (floatsOf (a .args .s) (a .args .points .now)) (a .args .radius) (take (a .args .s .n) l) (a .args .i))) (g .ensures .kept .after),
-      kept-on (g .ensures .kept) (t .ensures .1),
+    let a = c .before .before .before .before .before .before .before .before .before .before .before .before .before .before in
+    let p = c .before .before .before .before .before .before .before .before .before .before .before .point-at in
+    let g = c .before .before .before .before .before .before .before .before .gather-near in
+    let n = c .before .before .before .before .narrow in (
+      c .find-second .ensures
+          ∙ ap seedFound (with-first (a .args .s) (a .args .points .now) (a .args .radius) (a .args .w .now) (n .last .1 .1 .0) (n .result) (a .args .i) (p .result) (p .ensures) (a .pre .3) (a .pre .2 .linked .ready .numbers) (sought (p .ensures) (c .before .before .before .before .before .before .before .before .before .before .filter-of .ensures) (g .ensures) (n .ensures))),
+      kept-on (g .ensures .kept) (n .ensures .kept),
     )
 
 pub try-first-spec : {M : Type 1} → statement M
-try-first-spec =
-    tie.close
-    (tie.spec
-    point-at-requires
-    filter-of-requires
-    gather-near-requires
-    try-listed-requires
-    same-length
-    returns)
+try-first-spec = tie.close (tie.spec point-at-requires filter-of-requires gather-near-requires narrow-requires find-second-requires same-length returns)

@@ -1,11 +1,10 @@
--- `try_second` meets its contract: a second point that is too near has no third one. Assumes nothing.
-use mathlib.Core.Path.{refl, sym, ap, _∙_}
+-- `try_second` meets its contract. Assumes nothing.
+use mathlib.Core.Path.{sym, _∙_}
 use borrow.Author.Needs.{needs}
 use borrow.Author.Tests.{not-true, not-false}
 use Rattle.decisions.specs.Decisions.{floatsOf}
 use Rattle.nearby.specs.Ready.{usedIn, listed}
-use Rattle.seed.specs.Found.{seedFound}
-use Rattle.seed.proofs.Nothing.{close-second, near-nothing}
+use Rattle.seed.proofs.Nothing.{close-second}
 use Rattle.seed.proofs.Laws.{second-not, second-is}
 use Rattle.seed.proofs.triples.try_second.Statement.{statement}
 use Rattle.seed.proofs.triples.try_second.Tie as tie
@@ -19,38 +18,20 @@ returns c =
     second-not (floatsOf (a .args .s) (a .args .points .now)) (a .args .radius) (usedIn (a .args .s) (a .args .w .now)) (a .args .i) (a .args .j) (listed (a .args .s) (a .args .w .now) (a .args .count))
     (sym (c .before .is-second .ensures) ∙ not-true (c .before .is-second .result) (c .if1 .taken))
 
-is-too-near-requires : tie.Need-is-too-near-requires
-is-too-near-requires c κs = search needs
+find-third-requires : tie.Need-find-third-requires
+find-third-requires c κs =
+    let a = c .before .before .before .before in
+    let x = a .args in
+    let t = c .before .is-second in
+    (a .pre .0, a .pre .1, a .pre .2, a .pre .3, a .pre .4, close-second (x .s) (x .points .now) (x .radius) (usedIn (x .s) (x .w .now)) (x .i) (x .j) (sym (t .ensures) ∙ not-false (t .result) (c .if1 .left)))
 
 returns-2 : tie.Need-returns-2
 returns-2 c =
-    let a = c .before .before .before .before .before .before in
-    let x = a .args in
-    ap seedFound (sym (near-nothing (usedIn (x .s) (x .w .now)) (a .pre .4) (a .pre .2) (a .pre .3) (a .pre .5) refl (sym (c .before .is-too-near .ensures) ∙ c .if2 .taken)))
-    ∙ second-is (floatsOf (x .s) (x .points .now)) (x .radius) (usedIn (x .s) (x .w .now)) (x .i) (x .j) (listed (x .s) (x .w .now) (x .count))
-    (sym (c .before .before .before .is-second .ensures) ∙ not-false (c .before .before .before .is-second .result) (c .before .before .if1 .left))
-
-find-third-requires : tie.Need-find-third-requires
-find-third-requires c κs =
-    let a = c .before .before .before .before .before .before in
-    let x = a .args in
-    let t = c .before .before .before .is-second in
-    (a .pre .0, a .pre .1, a .pre .2, a .pre .3, a .pre .4, close-second (x .s) (x .points .now) (x .radius) (usedIn (x .s) (x .w .now)) (x .i) (x .j) (sym (t .ensures) ∙ not-false (t .result) (c .before .before .if1 .left)))
-
-returns-3 : tie.Need-returns-3
-returns-3 c =
-    let a = c .before .before .before .before .before .before .before in
+    let a = c .before .before .before .before .before in
+    let t = c .before .before .is-second in
     c .find-third .ensures
     ∙ second-is (floatsOf (a .args .s) (a .args .points .now)) (a .args .radius) (usedIn (a .args .s) (a .args .w .now)) (a .args .i) (a .args .j) (listed (a .args .s) (a .args .w .now) (a .args .count))
-    (sym (c .before .before .before .before .is-second .ensures) ∙ not-false (c .before .before .before .before .is-second .result) (c .before .before .before .if1 .left))
+    (sym (t .ensures) ∙ not-false (t .result) (c .before .if1 .left))
 
 pub try-second-spec : {M : Type 1} → statement M
-try-second-spec =
-    tie.close
-    (tie.spec
-    is-second-requires
-    returns
-    is-too-near-requires
-    returns-2
-    find-third-requires
-    returns-3)
+try-second-spec = tie.close (tie.spec is-second-requires returns find-third-requires returns-2)

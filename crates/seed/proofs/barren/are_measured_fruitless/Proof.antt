@@ -3,8 +3,8 @@ use mathlib.Core.Path.{sym, _∙_, subst}
 use lib.Dec.{T}
 use borrow.Author.Needs.{needs}
 use borrow.Author.Tests.{not-true}
-use Rattle.seed.proofs.areas.are_measured_fruitless.Statement.{statement}
-use Rattle.seed.proofs.areas.are_measured_fruitless.Tie as tie
+use Rattle.seed.proofs.barren.are_measured_fruitless.Statement.{statement}
+use Rattle.seed.proofs.barren.are_measured_fruitless.Tie as tie
 
 is-completed-requires : tie.Need-is-completed-requires
 is-completed-requires c κs = search needs

@@ -1,0 +1,22 @@
+-- What the search for a seed knows of three points, and of limits. Definitions only.
+use Prim.Native.Nat.{ℕ, _<_}
+use mathlib.Core.Path.{_≡_}
+use mathlib.Core.Bool.{true, false}
+use mathlib.Core.List.{List}
+use lib.Ieee.{Float}
+use Rattle.vector.specs.Vector.{Finite}
+use Rattle.points.specs.Points.{pointAt}
+use Rattle.decisions.specs.declared.Scene.{Scene}
+use Rattle.decisions.specs.Decisions.{isClose, completes}
+use Rattle.refusals.specs.declared.Limits.{Limits}
+use Rattle.refusals.specs.Refused.{Limiting}
+
+-- points j and k make no seed with point i, in either order
+pub record Fruitless (s : Scene) (pts : List Float) (r : Float) (i j k : ℕ) : Type 0 where
+  pub forward : isClose pts r i j ≡ true → completes s pts r i j k ≡ false
+  pub backward : isClose pts r i k ≡ true → completes s pts r i k j ≡ false
+
+-- coordinates are numbers, and limits are those at a radius
+pub record Judged (s : Scene) (pts : List Float) (r : Float) (l : Limits) : Type 0 where
+  pub numbers : (k : ℕ) → k < s .n → Finite (pointAt pts k)
+  pub limits : Limiting s r l
