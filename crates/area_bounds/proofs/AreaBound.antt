@@ -1,5 +1,5 @@
 -- The area of a triangle is at most `areaBound` of what bounds two of its edges (`area-bounded`), below what `AreaLimit` says (`area-limited`), and too long for its edges where `LargeLimit` says so (`area-too-long`). Assumes nothing.
-use mathlib.Core.Path.{_≡_, ap, _∙_, subst}
+use mathlib.Core.Path.{_≡_, ap, _∙_}
 use mathlib.Core.Bool.{true, false, not}
 use lib.Dec.{T}
 use lib.Ieee.{Float, nan, inf, fin, binary32, neg, mul, lt, le, fits, isNan, ofBits}
@@ -7,15 +7,12 @@ use lib.Ieee.Fits.{add-fits}
 use lib.Ieee.Scale.{finite}
 use Rattle.numbers.specs.Rounded.{f32, _⊕_, _⊖_, _⊗_}
 use Rattle.numbers.specs.Root.{root}
-use Rattle.numbers.specs.Order.{maximum}
-use Rattle.numbers.proofs.OrderLaws.{le-left, le-right, lt-le, le-not-lt, le-top, le-trans, le-lt-trans, unsigned, unsigned-number}
-use Rattle.numbers.proofs.RoundedOrder.{neg-le}
+use Rattle.numbers.proofs.OrderLaws.{le-left, le-right, lt-le, le-not-lt, le-top, le-trans, le-lt-trans, unsigned}
 use Rattle.numbers.proofs.RootMonotone.{root-monotone}
-use Rattle.numbers.proofs.SumOrder.{add-unsigned, sub-number}
+use Rattle.numbers.proofs.SumOrder.{add-unsigned}
 use Rattle.numbers.proofs.ProductOrder.{mul-number, mul-monotone, mul-commutative, square-turned}
-use Rattle.numbers.proofs.Bounded.{Bounded, bounded-above, neg-neg, add-bounded, sub-bounded, mul-bounded, mul-unsigned, add-finite, mul-finite}
-use Rattle.numbers.proofs.Maximum.{maximum-left, maximum-right, maximum-unsigned}
-use Rattle.vector.specs.Vector.{Finite, point, difference, magnitudeSquared, magnitude, cross}
+use Rattle.numbers.proofs.Bounded.{Bounded, add-bounded, sub-bounded, mul-bounded, mul-unsigned, add-finite, mul-finite}
+use Rattle.vector.specs.Vector.{Finite, difference, magnitudeSquared, magnitude, cross}
 use Rattle.quality.specs.Measures.{half}
 use Rattle.triangle.specs.Quality.{area}
 use Rattle.area_bounds.specs.AreaBound.{crossBound, areaBound, crossSquared, AreaLimit, TooLong, LargeLimit}

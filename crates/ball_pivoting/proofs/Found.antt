@@ -1,5 +1,5 @@
 -- What the two paths find is what the definition finds. Assumes nothing.
-use Prim.Native.Nat.{ℕ, zero, suc, _+_, _*_, _≤_, _<_}
+use Prim.Native.Nat.{ℕ, _*_, _≤_}
 use mathlib.Core.Path.{_≡_, refl, sym, ap, _∙_, subst}
 use mathlib.Core.List.{List, [], _∷_}
 use native.Mathlib.Omega.{arith}
@@ -9,7 +9,7 @@ use lib.Ieee.{Float}
 use Rattle.settings.specs.declared.BallPivotingConfig.{BallPivotingConfig}
 use Rattle.grid.specs.Index.{Indexed}
 use Rattle.grid.proofs.Near.{indexed-kept}
-use Rattle.patch.specs.Lay.{State, patch}
+use Rattle.patch.specs.Lay.{patch}
 use Rattle.patch.specs.Frontier.{heapOf}
 use Rattle.patch.specs.Shape.{Shape}
 use Rattle.spatial_hash.specs.declared.Hash.{Hash}
@@ -20,7 +20,7 @@ use Rattle.radii.specs.Steps as radii
 use Rattle.radii.specs.declared.Radii.{Radii}
 use Rattle.laying.specs.Laying.{Ground, rulesOf}
 use Rattle.laying.proofs.Claim.{laid-shape}
-use Rattle.ball_pivoting.specs.Reconstruct.{pointCount, indexOf, sceneOf, radiiOf, laidOf, laid, plainly, foundAt, found}
+use Rattle.ball_pivoting.specs.Reconstruct.{pointCount, sceneOf, radiiOf, laidOf, laid, plainly, foundAt, found}
 use Rattle.ball_pivoting.specs.Parts.{Sized, Ready, Finds}
 use Rattle.ball_pivoting.specs.declared.Finding.{Finding}
 

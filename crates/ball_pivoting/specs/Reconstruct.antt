@@ -1,6 +1,6 @@
 -- The whole call, `reconstruct_with_normals`: the checks, the radii, the laying or the plain path, and what comes back. Definitions only.
-use Prim.Native.Nat.{ℕ, zero, suc, _+_, _-_, _*_, _/_}
-use mathlib.Core.Bool.{Bool, true, false, cond}
+use Prim.Native.Nat.{ℕ, _+_, _-_, _/_}
+use mathlib.Core.Bool.{Bool, cond}
 use mathlib.Core.List.{List, [], _∷_, _++_}
 use lib.Dec.{eqb, ltb}
 use lib.ListN.{length, replicate}
@@ -14,7 +14,7 @@ use Rattle.radii.specs.Radii.{adaptiveRadii}
 use Rattle.patch.specs.Lay.{Face, State, seedsOf, patch}
 use Rattle.patch.specs.Search.{searching}
 use Rattle.patch.specs.Frontier.{heapOf}
-use Rattle.patch.specs.View.{flat, written}
+use Rattle.patch.specs.View.{written}
 use Rattle.decisions.specs.Decisions.{floatsOf}
 use Rattle.decisions.specs.declared.Scene.{Scene}
 use Rattle.plain.specs.Plain.{plainFaces}

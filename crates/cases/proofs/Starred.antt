@@ -4,13 +4,11 @@ use mathlib.Core.Path.{_≡_, refl}
 use mathlib.Core.Bool.{true}
 use mathlib.Core.List.{List, [], _∷_, map}
 use lib.Count.{trailingZeros}
-use lib.ListN.{getD, length, replicate}
+use lib.ListN.{getD, replicate}
 use lib.Ieee.{Float, span, climb, size, odd, units, round, neg, sum, add, sub, mul, div, lt, eq, le, ne, ofInt, toUnsigned, isNan, ofFields, ofBits, toBits}
 use Rattle.numbers.specs.Rounded.{f32}
 use Rattle.settings.specs.declared.BallPivotingConfig.{BallPivotingConfig}
-use Rattle.patch.specs.Lay.{Face, face}
-use Rattle.ball_pivoting.specs.declared.Patch.{Patch}
-use Rattle.ball_pivoting.specs.Reconstruct.{pointCount}
+use Rattle.patch.specs.Lay.{face}
 use Rattle.domain.proofs.Starred.{CheckCases, check-cases}
 use Rattle.estimate.proofs.Starred.{EstimateCases, estimate-cases}
 use Rattle.radii.proofs.Starred.{RadiiCases, radii-cases}

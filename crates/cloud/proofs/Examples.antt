@@ -1,7 +1,7 @@
 -- The definition of the format on written inputs, by computation. Assumes nothing.
 use mathlib.Core.Path.{_≡_, refl}
 use mathlib.Core.List.{List, [], _∷_, map}
-use Prim.Native.Nat.{ℕ, zero}
+use Prim.Native.Nat.{ℕ}
 use Prim.Native.String.{String, [] as []ˢ, _∷_ as _∷ˢ_}
 use Prim.Native.Char.{code}
 use lib.Ieee.{Float, ofBits, ofInt, add, div, neg, round, units, odd, size, climb, span, ofFields, sum}

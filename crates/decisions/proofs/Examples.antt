@@ -1,10 +1,9 @@
 -- The searches worked out from their definitions on the corners of a square, 1 apart. Assumes nothing.
-use Prim.Native.Nat.{ℕ}
 use mathlib.Core.Path.{_≡_, refl}
-use mathlib.Core.Bool.{Bool, true, false, cond}
+use mathlib.Core.Bool.{Bool, true, false}
 use mathlib.Core.List.{List, [], _∷_}
 use mathlib.Core.Option.{none, some}
-use lib.Ieee.{Float, binary32, neg, add, sub, mul, div, lt, le, eq, isNan, ofBits, toBits, toUnsigned, odd}
+use lib.Ieee.{Float, neg, add, sub, mul, div, lt, le, eq, isNan, ofBits, toBits, toUnsigned, odd}
 use Rattle.numbers.specs.Rounded.{f32}
 use Rattle.numbers.specs.Root.{root}
 use Rattle.numbers.specs.Order.{minimum, maximum, clamp}

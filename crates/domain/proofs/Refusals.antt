@@ -102,9 +102,6 @@ module _ {answer : ℕ} (p q : ℕ) (is : answer ≡ firstRefusal (sizeChecks p 
   abbrev pub row : List Check
   row = sizeChecks p q ++ (pointCheck n bad ∷ third ∷ check room 7 0 ∷ [])
 
-  pub row-size : (answer ≡ 0 → ⊥) → refusal answer 0 ≡ firstRefusal row
-  row-size h = sym (size-refused p q answer is _ h)
-
   module _ (sized : answer ≡ 0) where
     pub row-point : found < n → refusal 4 found ≡ firstRefusal row
     row-point h =

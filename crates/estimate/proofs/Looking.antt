@@ -12,7 +12,7 @@ use lib.Ieee.{Float, inf, lt, le}
 use Rattle.numbers.specs.Root.{root}
 use Rattle.numbers.proofs.OrderLaws.{unsigned-number, le-top}
 use Rattle.vector.specs.declared.Point3f.{Point3f}
-use Rattle.vector.specs.Vector.{squared, distance, Finite}
+use Rattle.vector.specs.Vector.{squared, distance}
 use Rattle.points.specs.Points.{pointAt, upFrom}
 use Rattle.sorting.proofs.Insertion.{part-length, part-at}
 use Rattle.patch.specs.Count.{count}
@@ -20,7 +20,7 @@ use Rattle.patch.specs.Search.{Below}
 use Rattle.spatial_hash.specs.declared.Hash.{Hash}
 use Rattle.spatial_hash.specs.Near.{nobody, Surrounds, Near, HashedAll}
 use Rattle.spatial_hash.proofs.Kept.{hashed-all-behind}
-use Rattle.spatial_hash.proofs.Nearby.{near-all, surrounds-near, up-in}
+use Rattle.spatial_hash.proofs.Nearby.{near-all, surrounds-near}
 use Rattle.estimate.specs.Estimate.{nearer, nearestFrom, leastDistance}
 use Rattle.estimate.specs.Squares.{lesser, leastSquare, Looked}
 use Rattle.spatial_hash.proofs.Squares.{Good, squared-good, distance-back}
@@ -72,12 +72,12 @@ module _ (pts : List Float) (i : ℕ) where
   distance-fold d j zero = refl
   distance-fold d j (suc m) = distance-fold (nearer pts i j d) (j + 1) m
 
-  least-distance-is : (n : ℕ) → i < n → ((j : ℕ) → j < n → Finite (pointAt pts j)) → leastDistance pts n i ≡ leastOf (λ (j : ℕ). root (key j)) i (inf false) (upFrom 0 n)
+  least-distance-is : (n : ℕ) → leastDistance pts n i ≡ leastOf (λ (j : ℕ). root (key j)) i (inf false) (upFrom 0 n)
   unfolding leastDistance
-  least-distance-is n inside numbers =
+  least-distance-is n =
       distance-fold (inf false) 0 n
       ∙ least-ext (λ (j : ℕ). distance (pointAt pts i) (pointAt pts j)) (λ (j : ℕ). root (key j)) i (inf false) (upFrom 0 n)
-      (λ (j : ℕ) (c : 1 ≤ count (eqb j) (upFrom 0 n)). let h = up-in j 0 n c in distance-back (pointAt pts i) (pointAt pts j) (numbers i inside) (numbers j (omega arith)))
+      (λ (j : ℕ) _. distance-back (pointAt pts i) (pointAt pts j))
 
 -- ---- a look
 pub looked : (h : Hash) (pts : List Float) (n i : ℕ) (limit : Float) (w u : List ℕ) (p : Point3f) (found : ℕ) (s : Float) → i < n → HashedAll h pts n w → length u ≡ length w
@@ -86,7 +86,7 @@ looked h pts n i limit w u p found s inside x same hp g hs = record {
   decides = λ (l : T (le s limit)).
       ap root is
       ∙ root-least (key pts i) n i js limit good below near (subst (λ (z : Float). T (le z limit)) is l)
-      ∙ sym (least-distance-is pts i n inside (x .linked .ready .numbers));
+      ∙ sym (least-distance-is pts i n);
   number = subst (λ (z : Float). T (le z (inf false))) (sym is) (le-top (leastOf (key pts i) i (inf false) js) (unsigned-number (leastOf (key pts i) i (inf false) js) (square-good .1)));
   hashed = hashed-all-behind h pts n (5 * n) w u (omega arith) (g .after) same x;
 }

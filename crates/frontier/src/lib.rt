@@ -8,7 +8,6 @@ ghost use lib.ListN.{replicate};
 ghost use Prim.Native.Nat.{_+_, _*_, _≤_, _<_};
 ghost use Rattle.regions.specs.Regions.{usedAt, frontierAt, frontierEnd};
 ghost use Rattle.patch.specs.Lay.{edge, face, met, seeded, pivoted};
-ghost use Rattle.patch.specs.View.{encode};
 ghost use Rattle.frontier.specs.Work.{usedIn, flag, wordOf, wordsOf, Takes, Begins, Clears, Pops, Tells, Open, NoneProcessed, Misses, Sized, Ready, Room, OnlyIn, Taken, Pushed, Marked, Wrote};
 
 // What an entry has above its edge if the edge is processed.

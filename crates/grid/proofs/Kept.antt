@@ -1,17 +1,15 @@
 -- The least coordinates and the kept cells, step by step. Assumes nothing.
-use mathlib.Core.Path.{_≡_, refl, sym, ap, _∙_}
-use mathlib.Core.List.{List, [], _∷_}
-use Prim.Native.Nat.{ℕ, zero, suc, _+_, _-_, _*_, _≤_, _<_}
+use mathlib.Core.Path.{_≡_, sym, ap, _∙_}
+use mathlib.Core.List.{List}
+use Prim.Native.Nat.{ℕ, suc, _+_, _-_, _*_, _≤_, _<_}
 use native.Mathlib.Omega.{arith}
 use borrow.Author.Count.{below-more}
 use lib.ListN.{length, take, drop, getD, set, length-set}
-use lib.Seq.{getD-set-same, getD-set-other, drop-set-lt, getD-drop, getD-take}
+use lib.Seq.{getD-set-same, getD-set-other, drop-set-lt, getD-take}
 use lib.Ieee.{Float, nan}
 use Rattle.numbers.specs.Order.{minimum}
-use Rattle.points.specs.Points.{pointAt}
 use Rattle.grid.specs.declared.Cell.{Cell}
-use Rattle.grid.specs.declared.SpatialGrid.{SpatialGrid}
-use Rattle.grid.specs.Grid.{leastFrom, cellOf}
+use Rattle.grid.specs.Grid.{leastFrom}
 use Rattle.grid.specs.Index.{cellIn}
 
 -- ---- the least coordinate
@@ -77,19 +75,6 @@ pub cells-step : (f : ℕ → Cell) (w u : List ℕ) (n i : ℕ) → ((j : ℕ) 
 cells-step f w u n i inv e other = below-more (λ (j : ℕ). cellIn u n j ≡ f j) i (λ (j : ℕ) (l : j < i). other j (λ (q : j ≡ i). omega arith) ∙ inv j l) e
 
 -- ---- the kept cells lie in the words from n to 4n
-pub cell-of-drop : (w u : List ℕ) (n j : ℕ) → drop n u ≡ drop n w → cellIn u n j ≡ cellIn w n j
-unfolding cellIn
-cell-of-drop w u n j e = rw (at (3 * j), at₁, at₂)
-  where
-    at : (k : ℕ) → getD u (n + k) 0 ≡ getD w (n + k) 0
-    at k = sym (getD-drop n u k 0) ∙ ap (λ (l : List ℕ). getD l k 0) e ∙ getD-drop n w k 0
-
-    at₁ : getD u (n + 3 * j + 1) 0 ≡ getD w (n + 3 * j + 1) 0
-    at₁ = let q : n + 3 * j + 1 ≡ n + (3 * j + 1) = omega arith in rw q (sym (getD-drop n u (3 * j + 1) 0) ∙ ap (λ (l : List ℕ). getD l (3 * j + 1) 0) e ∙ getD-drop n w (3 * j + 1) 0)
-
-    at₂ : getD u (n + 3 * j + 2) 0 ≡ getD w (n + 3 * j + 2) 0
-    at₂ = let q : n + 3 * j + 2 ≡ n + (3 * j + 2) = omega arith in rw q (sym (getD-drop n u (3 * j + 2) 0) ∙ ap (λ (l : List ℕ). getD l (3 * j + 2) 0) e ∙ getD-drop n w (3 * j + 2) 0)
-
 pub cell-of-take : (w u : List ℕ) (n j : ℕ) → j < n → take (4 * n) u ≡ take (4 * n) w → cellIn u n j ≡ cellIn w n j
 unfolding cellIn
 cell-of-take w u n j h e = rw (same (n + 3 * j) (omega arith), same (n + 3 * j + 1) (omega arith), same (n + 3 * j + 2) (omega arith))

@@ -1,20 +1,19 @@
 -- That the neighbours by the kept cells are those of the definition, that each is a point, and what survives a change of the slice from 4n on. Assumes nothing.
-use mathlib.Core.Path.{_≡_, refl, sym, ap, _∙_, subst}
-use mathlib.Core.Bool.{Bool, true, false, cond, not, _||_}
-use mathlib.Core.List.{List, [], _∷_, _++_, append-nil}
-use Prim.Native.Nat.{ℕ, zero, suc, _+_, _-_, _*_, _≤_, _<_}
+use mathlib.Core.Path.{_≡_, refl, ap, _∙_}
+use mathlib.Core.Bool.{Bool, true, false, cond}
+use mathlib.Core.List.{List, [], _∷_}
+use Prim.Native.Nat.{ℕ, _-_, _*_, _<_}
 use native.Mathlib.Omega.{arith}
-use lib.ListN.{length, take, drop, getD, set, length-drop}
-use lib.Seq.{take-set-le, drop-set-lt, drop-set-add, take-suc, take-suc-set, take-take, drop-drop, getD-take}
+use lib.ListN.{length, take}
 use lib.Ieee.{Float}
 use Rattle.vector.specs.declared.Point3f.{Point3f}
 use Rattle.points.specs.Points.{pointAt, upFrom}
 use Rattle.grid.specs.declared.Cell.{Cell}
 use Rattle.grid.specs.declared.SpatialGrid.{SpatialGrid}
 use Rattle.grid.specs.Grid.{cellOf, inRange, rangeOf, keep, neighbors, byCell, orderOf}
-use Rattle.grid.specs.Index.{cellIn, Cells, Indexed, Below, keepIn}
-use Rattle.grid.proofs.Kept.{cell-of-take, cell-of-drop}
-use Rattle.grid.proofs.Sequence.{order-of-below, below-word}
+use Rattle.grid.specs.Index.{Cells, Indexed, Below, keepIn}
+use Rattle.grid.proofs.Kept.{cell-of-take}
+use Rattle.grid.proofs.Sequence.{order-of-below}
 
 -- ---- the neighbours of the definition
 keep-is : (g : SpatialGrid) (pts : List Float) (range : ℕ) (c : Cell) (n : ℕ) (w : List ℕ) → Cells g pts n w → (js : List ℕ) → Below n js → keepIn true range c w n js ≡ keep g pts range c js

@@ -5,7 +5,7 @@ pub mod search;
 
 use vector::Point3f;
 ghost use mathlib.Core.Path.{_≡_};
-ghost use Prim.Native.Nat.{_+_, _*_, _≤_, _<_};
+ghost use Prim.Native.Nat.{_+_, _*_, _≤_};
 ghost use lib.ListN.{length, drop};
 ghost use Rattle.grid.specs.Grid.{boundsMin, gridOf, cellOf};
 ghost use Rattle.grid.specs.Index.{Indexed};

@@ -6,7 +6,7 @@ use native.Mathlib.Omega.{arith}
 use native.Mathlib.Nat.{add-zero}
 use native.Mathlib.Numerals.{add-one}
 use lib.ListN.{length, take, getD, length-append}
-use lib.Seq.{sets, set-out, take-suc, take-all, length-take-le}
+use lib.Seq.{sets, set-out, take-suc, take-all}
 use Rattle.listing.specs.Ready.{Put}
 
 sets-append : (xs ys l : List ℕ) (i : ℕ) → sets (sets l i xs) (i + length xs) ys ≡ sets l i (xs ++ ys)
@@ -41,6 +41,3 @@ put-more t l₀ l₁ l₂ at i r₁ r₂ h p q =
 
 pub put-all : (t l₀ l₁ : List ℕ) (at i r : ℕ) → length t ≤ i → Put (take i t) l₀ l₁ at r → Put t l₀ l₁ at r
 put-all t l₀ l₁ at i r h p = subst (λ (xs : List ℕ). Put xs l₀ l₁ at r) (take-all i t h) p
-
-pub put-at : (t l₀ l₁ : List ℕ) (at i r : ℕ) → i ≤ length t → Put (take i t) l₀ l₁ at r → r ≡ at + i
-put-at t l₀ l₁ at i r h p = let len : length (take i t) ≡ i = length-take-le i t h in let e = p .next in omega arith

@@ -7,7 +7,7 @@ mod rows;
 ghost use mathlib.Core.Path.{_≡_};
 ghost use Prim.Native.Nat.{_*_, _≤_};
 ghost use lib.ListN.{length};
-ghost use Rattle.listing.specs.Listing.{text, refusal, listing, listed, filled, written};
+ghost use Rattle.listing.specs.Listing.{refusal, listing, listed, filled, written};
 ghost use Rattle.listing.specs.Ready.{Put};
 use crate::put::put_field;
 use crate::put::put_text;

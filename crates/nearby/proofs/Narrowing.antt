@@ -1,23 +1,20 @@
 -- The listed points that pass, inserted in place: what each turn does, and that they are the neighbours without those that don't matter. Assumes nothing.
 use Prim.Native.Nat.{ℕ, _+_, _*_, _≤_, _<_}
 use mathlib.Core.Path.{_≡_, refl, sym, ap, _∙_, subst}
-use mathlib.Core.Logic.{_⊎_, inl, inr, ⊎-elim}
-use mathlib.Core.Bool.{Bool, true, false, cond, not, _&&_}
+use mathlib.Core.Logic.{_⊎_, inl, inr}
+use mathlib.Core.Bool.{Bool, true, false, not, _&&_}
 use mathlib.Core.List.{List, [], _∷_}
 use native.Mathlib.Omega.{arith}
 use lib.ListN.{length, take, drop, getD}
-use lib.Seq.{getD-drop}
 use lib.Dec.{T, eqb}
-use lib.Ieee.{Float, lt, le}
+use lib.Ieee.{Float, lt}
 use lib.Ieee.Bits.{is-true}
-use borrow.Author.Tests.{not-true}
-use Rattle.vector.specs.Vector.{squared, distance, Finite}
+use Rattle.vector.specs.Vector.{squared, distance}
 use Rattle.vector.specs.declared.Point3f.{Point3f}
 use Rattle.vector.proofs.Distances.{squared-fits, distance-is}
 use Rattle.points.specs.Points.{pointAt}
 use Rattle.sorting.specs.Insertion.{insertBefore, Written}
 use Rattle.sorting.proofs.Insertion.{part-length, part-at}
-use Rattle.regions.specs.Regions.{neighborsAt, usedAt}
 use Rattle.grid.specs.declared.SpatialGrid.{SpatialGrid}
 use Rattle.grid.specs.declared.Cell.{Cell}
 use Rattle.grid.specs.Grid.{rangeOf, orderOf}
@@ -31,7 +28,7 @@ use Rattle.sifting.proofs.Parts.{drop-more, word-same, part-step, part-end}
 use Rattle.spatial_hash.specs.Near.{Hashed, Near}
 use Rattle.patch.specs.Count.{count}
 use Rattle.patch.specs.Search.{unused, Below as Points}
-use Rattle.patch.proofs.Counts.{either, and-both, true-not-false}
+use Rattle.patch.proofs.Counts.{and-both}
 use Rattle.decisions.specs.declared.Scene.{Scene}
 use Rattle.decisions.specs.Decisions.{apart}
 use Rattle.nearby.specs.declared.Filter.{Filter}

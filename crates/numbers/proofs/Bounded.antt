@@ -36,12 +36,6 @@ neg-bounded {x} {v} b = record {
   lower = neg-le x v (b .upper);
 }
 
-pub bounded-above : {x v w : Float} → T (le v w) → Bounded x v → Bounded x w
-bounded-above {x} {v} {w} h b = record {
-  upper = le-trans x v w (b .upper) h;
-  lower = le-trans (neg w) (neg v) x (neg-le v w h) (b .lower);
-}
-
 pub bounded-finite : (x v : Float) → T (finite v) → Bounded x v → T (finite x)
 unfolding le neg
 bounded-finite x nan f b = absurd f

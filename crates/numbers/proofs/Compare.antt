@@ -1,8 +1,8 @@
 -- Laws of a float compared with itself, and of the code's infinity. Assumes nothing.
-use mathlib.Core.Path.{_≡_, refl, sym, ap, _∙_, subst}
+use mathlib.Core.Path.{_≡_, refl, sym, ap}
 use mathlib.Core.Bool.{Bool, true, false, not, _&&_, _||_, Bool·beq}
 use Prim.Native.Nat.{ℕ, _*_}
-use lib.Dec.{T, eqb}
+use lib.Dec.{eqb}
 use lib.Ieee.Bits.{is-true}
 use lib.Ieee.Fits.{eq→eqb}
 use lib.Ieee.{Float, nan, inf, fin, binary32, ne, eq, div, ofBits, isNan, up, down}

@@ -1,4 +1,4 @@
--- The cut to a whole number keeps the order (`cut-monotone`), and so does a coordinate's place on a grid, the cut of (x - least) * scale (`cut-scaled-monotone`). Assumes nothing.
+-- The cut to a whole number keeps the order (`cut-monotone`), and so does the cut of a product (`cut-product-monotone`). Assumes nothing.
 use mathlib.Core.Path.{_≡_, refl, sym, ap, subst}
 use Prim.Native.Nat.{ℕ, _*_, _/_, _≤_, _<_, zero-le}
 use native.Mathlib.Nat.{zero-div, mul-pos, le-of-eq, le-trans}
@@ -10,11 +10,10 @@ use lib.Ieee.{Float, nan, inf, fin, binary32, round, up, down, unlike, mul, le, 
 use lib.Ieee.Fits.{down-pos}
 use lib.Ieee.Nearest.{div-mono}
 use lib.Ieee.Scale.{finite}
-use Rattle.numbers.specs.Rounded.{f32, _⊖_, _⊗_}
+use Rattle.numbers.specs.Rounded.{f32, _⊗_}
 use Rattle.numbers.specs.Cut.{cut}
 use Rattle.numbers.proofs.OrderLaws.{le→side, le-right, top-le}
 use Rattle.numbers.proofs.RoundedOrder.{above, under, rounds-nonpositive}
-use Rattle.numbers.proofs.SumOrder.{sub-monotone}
 use Rattle.numbers.proofs.ProductOrder.{mul-number, mul-monotone}
 
 pub cut-monotone : (x y : Float) → T (le x y) → cut x ≤ cut y
@@ -78,7 +77,3 @@ cut-product-monotone u v c f h z = go (isNan (u ⊗ c)) (isNan (v ⊗ c)) refl r
     go true b p q = rw (cut-nan (u ⊗ c) (subst T (sym p) tt)) zero-le
     go false true p q = le-trans (cut-nothing u v c (le-right u v h) f (subst T (sym q) tt)) zero-le
     go false false p q = cut-monotone (u ⊗ c) (v ⊗ c) (mul-monotone u v c f h z (subst (λ (b : Bool). T (not b)) (sym p) tt) (subst (λ (b : Bool). T (not b)) (sym q) tt))
-
-pub cut-scaled-monotone : (x y least scale : Float) → T (finite x) → T (finite y) → T (finite least) → T (finite scale) → T (le (f32 0) scale) → T (le x y)
-    → cut ((x ⊖ least) ⊗ scale) ≤ cut ((y ⊖ least) ⊗ scale)
-cut-scaled-monotone x y least scale f g k l z h = cut-product-monotone (x ⊖ least) (y ⊖ least) scale l (sub-monotone x y least f g k h) z

@@ -12,7 +12,7 @@ use lib.Ieee.{Float, nan, inf, fin, binary32, up, down, round, neg, sum, add, su
 use lib.Ieee.Scale.{finite}
 use lib.Ieee.Positive.{den, den-pos}
 use Rattle.numbers.specs.Rounded.{f32, _⊕_, _⊖_}
-use Rattle.numbers.proofs.OrderLaws.{plus, minus, plus-mul, minus-mul, side, le→side, of-finite, le-refl, le-right, le-top, bottom-le, top-le, finite-number, unsigned, unsigned-le}
+use Rattle.numbers.proofs.OrderLaws.{plus, minus, plus-mul, minus-mul, side, le→side, of-finite, le-refl, le-right, le-top, bottom-le, top-le, finite-number, unsigned}
 use Rattle.numbers.proofs.RoundedOrder.{Rounds, above, under, round-unsigned, neg-le, rounds-le, rounds-own, rounds-number, nonnegative-minus, rounds-nonnegative, rounds-nonpositive}
 
 -- ---- a sum as a rounding
@@ -147,13 +147,6 @@ add-cases (fin s m e) nan h k = absurd k
 add-cases (fin s m e) (inf true) h k = absurd k
 add-cases (fin s m e) (inf false) h k = inr refl
 add-cases (fin s m e) (fin t n d) h k = inl (tt, tt)
-
-pub add-nonnegative : (u v : Float) → T (le (f32 0) u) → T (le (f32 0) v) → T (le (f32 0) (u ⊕ v))
-add-nonnegative u v h k = elim (add-cases u v h k) [
-  | inl f ↦
-      rounds-nonnegative (mul-pos (den-pos u) (den-pos v)) (rounds-add u v (f .0) (f .1)) (rw (nonnegative-minus u (f .0) h, nonnegative-minus v (f .1) k) (omega arith))
-  | inr e ↦ subst (λ (x : Float). T (le (f32 0) x)) (sym e) (unsigned-le (inf false) tt)
-]
 
 pub add-unsigned : (u v : Float) → T (unsigned u) → T (unsigned v) → T (unsigned (u ⊕ v))
 unfolding add

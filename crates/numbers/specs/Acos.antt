@@ -1,7 +1,7 @@
 -- Arc cosine as musl's `acosf` has it, case by case, each operation rounded once. Definitions only.
-use Prim.Native.Nat.{ℕ, _-_, _%_}
+use Prim.Native.Nat.{_-_, _%_}
 use mathlib.Core.Bool.{cond}
-use lib.Ieee.{Float, nan, binary32, neg, lt, le, eq, isNan, ofBits, toBits}
+use lib.Ieee.{Float, nan, binary32, neg, lt, le, eq, isNan, toBits}
 use Rattle.numbers.specs.Rounded.{f32, _⊕_, _⊖_, _⊗_, _⊘_}
 use Rattle.numbers.specs.Root.{root}
 

@@ -2,7 +2,6 @@
 use Prim.Native.Nat.{ℕ, _+_, _*_, _/_, _%_}
 use mathlib.Core.Bool.{cond}
 use lib.Dec.{ltb}
-use lib.IntN.{ℤ}
 use lib.Ieee.{Float, nan, inf, fin, up, down, odd, toUnsigned}
 
 -- the scope's cutting to a whole number, Rust's `as u32`: without the fraction, held to 0 .. 2 ^ 32 - 1; 0 for a not-a-number

@@ -1,20 +1,20 @@
 -- What the code of a look and of a run cites: a look by cases, a run look by look, and the room that a look needs. Assumes nothing.
 use Prim.Native.Nat.{ℕ, suc, _+_, _*_, _≤_, _<_}
-use mathlib.Core.Path.{_≡_, refl, sym, ap, _∙_}
+use mathlib.Core.Path.{_≡_, sym, ap, _∙_}
 use mathlib.Core.Logic.{⊎-elim}
 use mathlib.Core.Bool.{Bool, true, false}
-use mathlib.Core.List.{List, [], _∷_}
-use mathlib.Core.Option.{Option, none}
+use mathlib.Core.List.{List, _∷_}
+use mathlib.Core.Option.{Option}
 use native.Mathlib.Omega.{arith}
 use lib.Dec.{eqb}
 use borrow.Author.Tests.{eqb-true}
-use lib.ListN.{length, length-append}
+use lib.ListN.{length}
 use Rattle.patch.specs.Count.{bit, count, any}
 use Rattle.patch.specs.Lay.{Edge, same, State, seedsOf, Rules, Pop, popped, met, pivoted, judged, look, next, run, Free}
 use Rattle.patch.proofs.Counts.{either, any-false, false-any, count-all, pigeons}
 use Rattle.patch.proofs.Edges.{same-refl}
 use Rattle.patch.proofs.Inv.{Inv}
-use Rattle.patch.proofs.Looks.{clear-v1, clear-v2, miss-looked}
+use Rattle.patch.proofs.Looks.{clear-v1, clear-v2}
 use Rattle.patch.proofs.Laying.{Room, room, entry-below}
 
 module _ {R : Type 0} (rules : Rules R) (order : Pop) (r : R) where
@@ -29,10 +29,6 @@ module _ {R : Type 0} (rules : Rules R) (order : Pop) (r : R) where
   pub run-more : (m : ℕ) (s : State) (x : Edge) (xs : List Edge) → s .frontier ≡ x ∷ xs → run rules order r (suc m) s ≡ run rules order r m (look rules order r (order x xs .0) (order x xs .1) s)
   unfolding run next
   run-more m s x xs h = ap (λ (l : List Edge). run rules order r m (next rules order r l s)) h
-
-pub met-none : (e : Edge) (s : State) → met e none s ≡ s
-unfolding met
-met-none e s = refl
 
 module _ (n : ℕ) (s : State) (inv : Inv n s) where
   -- an edge that a free point belongs to is not processed

@@ -9,7 +9,7 @@ use lib.Dec.{eqb, ltb}
 use borrow.Author.Tests.{eqb-false, ltb-true}
 use lib.ListN.{length, getD, set, take, drop, length-map, length-append, length-drop, List·getD-map}
 use lib.Seq.{take-all, take-append-le, take-at, drop-append-add, drop-drop, sets, sets-eq}
-use Rattle.patch.specs.Lay.{edge, Face, face}
+use Rattle.patch.specs.Lay.{edge, Face}
 use Rattle.patch.specs.Frontier.{sift, afterPop}
 use Rattle.patch.specs.View.{encode, decode, flat, written}
 use Rattle.patch.proofs.Counts.{either}

@@ -1,8 +1,8 @@
 -- What the main call leaves is what the definition prints of it: the faces in front of the slice, and the counts. Assumes nothing.
-use Prim.Native.Nat.{ℕ, zero, suc, _+_, _*_, _/_, _≤_, _<_}
+use Prim.Native.Nat.{ℕ, _+_, _*_, _/_, _≤_}
 use mathlib.Core.Path.{_≡_, refl, sym, ap, _∙_, subst}
 use mathlib.Core.Bool.{Bool, true, false, cond}
-use mathlib.Core.List.{List, [], _∷_, _++_}
+use mathlib.Core.List.{List, _++_}
 use native.Mathlib.Omega.{arith}
 use lib.Dec.{eqb, ltb, leb}
 use lib.ListN.{length, take, drop, length-append}
@@ -20,7 +20,7 @@ use Rattle.patch.proofs.View.{length-flat, length-written}
 use Rattle.ball_pivoting.specs.Reconstruct.{Found, found, radiiOf, reconstructed, delivered, accepted, refused, facesAfter}
 use Rattle.ball_pivoting.specs.Outcome.{Reconstructs}
 use Rattle.ball_pivoting.specs.declared.Patch.{Patch}
-use Rattle.listing.specs.Listing.{refusal, listing, listed, written, filled}
+use Rattle.listing.specs.Listing.{refusal, listed, written, filled}
 use Rattle.patch_text.specs.Text.{countsOf, patchText, laidText, Prints}
 
 -- ---- an answer of 0 is of a cloud that the checks let pass and of faces that fit

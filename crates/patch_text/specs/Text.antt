@@ -11,7 +11,6 @@ use Rattle.patch.specs.View as patch
 use Rattle.ball_pivoting.specs.Reconstruct.{Found, found, reconstructed}
 use Rattle.ball_pivoting.specs.declared.Patch.{Patch}
 use Rattle.cloud.specs.Answers as cloud
-use Rattle.cloud.specs.declared.line.Point.{Point}
 use Rattle.listing.specs.Listing.{refusal, listing, written, filled}
 use Rattle.listing.specs.declared.Counts.{Counts}
 

@@ -3,7 +3,6 @@
 // The text is the definition `fileText` of specs/Text.antt, for all bytes and all lengths of the slices.
 ghost use lib.ListN.{length};
 ghost use Prim.Native.Nat.{_/_};
-ghost use mathlib.Core.Path.{_≡_};
 ghost use Rattle.patch_text.specs.Text.{laidText, fileText, printed, Prints};
 use listing::Counts;
 use settings::BallPivotingConfig;

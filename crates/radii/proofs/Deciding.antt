@@ -24,7 +24,6 @@ use Rattle.grid.specs.declared.SpatialGrid.{SpatialGrid}
 use Rattle.grid.specs.Grid.{precedes, byCell, orderOf}
 use Rattle.grid.specs.Index.{Indexed, Below, keepIn}
 use Rattle.grid.proofs.Near.{near-is}
-use Rattle.grid.proofs.Sequence.{order-of-below}
 use Rattle.patch.specs.Count.{count, bit}
 use Rattle.patch.specs.Search as search
 use Rattle.patch.proofs.Counts.{not-true, and-both, count-mono, count-zero, count-all}
@@ -210,11 +209,11 @@ prepared-kept {h} {pts} {n} {i} {w} {u} x words floats k = record {
 }
 
 -- ---- the least distances of the definition
-module _ (pts : List Float) (n i : ℕ) (inside : i < n) (numbers : (j : ℕ) → j < n → Finite (pointAt pts j)) (a : Around) (w : List ℕ) where
-  distances-are : (js : List ℕ) → Below n js → distancesTo pts i (keepIn (a .indexed) (a .range) (a .cell) w n js) ≡ map root (squaresTo (isNear a w n) pts i js)
+module _ (pts : List Float) (n i : ℕ) (a : Around) (w : List ℕ) where
+  distances-are : (js : List ℕ) → distancesTo pts i (keepIn (a .indexed) (a .range) (a .cell) w n js) ≡ map root (squaresTo (isNear a w n) pts i js)
   unfolding distancesTo keepIn squaresTo isNear
-  distances-are [] b = refl
-  distances-are (j ∷ js) b = go (isNear a w n j) (eqb j i) refl (distances-are js (b .1))
+  distances-are [] = refl
+  distances-are (j ∷ js) = go (isNear a w n j) (eqb j i) refl (distances-are js)
     where
       later : List ℕ
       later = keepIn (a .indexed) (a .range) (a .cell) w n js
@@ -227,7 +226,7 @@ module _ (pts : List Float) (n i : ℕ) (inside : i < n) (numbers : (j : ℕ) �
       go true true e r = rw e r
       go true false e r =
           rw e (
-          ap (λ (d : Float). d ∷ distancesTo pts i later) (distance-back (pointAt pts i) (pointAt pts j) (numbers i inside) (numbers j (b .0)))
+          ap (λ (d : Float). d ∷ distancesTo pts i later) (distance-back (pointAt pts i) (pointAt pts j))
           ∙ ap (λ (ds : List Float). root (key pts i j) ∷ ds) r
           )
       go false true e r = r
@@ -264,7 +263,7 @@ nearest-is c g pts n i w inside numbers x =
     let all : List ℕ = orderOf (c .«use_spatial_index») g pts n in
     ap (map root) (whole-same near pts n i inside numbers (upFrom 0 n) all (up-whole n) (order-whole (c .«use_spatial_index») g pts n))
     ∙ sym (least-roots 10 (squaresTo near pts i all) (squares-good near pts i n inside numbers all (whole-below n all (order-whole (c .«use_spatial_index») g pts n))))
-    ∙ ap (λ (ds : List Float). take 10 (sorted ds)) (sym (distances-are pts n i inside numbers a w all (order-of-below (c .«use_spatial_index») g pts n)))
+    ∙ ap (λ (ds : List Float). take 10 (sorted ds)) (sym (distances-are pts n i a w all))
     ∙ ap (λ (js : List ℕ). take 10 (sorted (distancesTo pts i js))) (near-is g (c .«use_spatial_index») pts n w (pointAt pts i) (c .radius ⊗ f32 0x40400000) (x .cells))
 
 pub nearest-good : (c : BallPivotingConfig) (g : SpatialGrid) (pts : List Float) (n i : ℕ) (w : List ℕ) → i < n → ((j : ℕ) → j < n → Finite (pointAt pts j)) → Indexed g pts n w → All Good (nearest c g pts n i)

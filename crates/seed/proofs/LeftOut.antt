@@ -7,8 +7,8 @@ use mathlib.Core.List.{List, [], _∷_}
 use mathlib.Core.Option.{Option, none}
 use lib.Dec.{eqb}
 use lib.Ieee.{Float, lt}
-use Rattle.vector.specs.Vector.{Finite, distance}
-use Rattle.vector.proofs.Distances.{distance-swap}
+use Rattle.vector.specs.Vector.{distance}
+use Rattle.vector.proofs.Distances.{distance-turned}
 use Rattle.points.specs.Points.{pointAt}
 use Rattle.grid.specs.Index.{Below}
 use Rattle.patch.specs.Search.{Floats, unused, isSecond, isThird, thirdOf, secondOf}
@@ -79,15 +79,15 @@ and-nothing true true true c z h = rw h
 
 module _ (s : Scene) (pts : List Float) (r : Float) (used : List ℕ) where
   -- a seed's other points are within twice the radius of the first
-  pub close-far : (i k : ℕ) → Finite (pointAt pts i) → Finite (pointAt pts k) → lt (reach r) (apart pts k i) ≡ true → isClose pts r i k ≡ false
+  pub close-far : (i k : ℕ) → lt (reach r) (apart pts k i) ≡ true → isClose pts r i k ≡ false
   unfolding isClose apart
-  close-far i k fi fk h =
-      let e : distance (pointAt pts i) (pointAt pts k) ≡ distance (pointAt pts k) (pointAt pts i) = distance-swap (pointAt pts i) (pointAt pts k) fi fk in
+  close-far i k h =
+      let e : distance (pointAt pts i) (pointAt pts k) ≡ distance (pointAt pts k) (pointAt pts i) = distance-turned (pointAt pts i) (pointAt pts k) in
       ap (λ (d : Float). not (lt (reach r) d)) e ∙ ap not h
 
-  module _ (i k : ℕ) (fi : Finite (pointAt pts i)) (fk : Finite (pointAt pts k)) where
+  module _ (i k : ℕ) where
     not-close : (unused used k ≡ false) ⊎ (lt (reach r) (apart pts k i) ≡ true) → (unused used k && isClose pts r i k) ≡ false
-    not-close = ⊎-elim (λ (u : unused used k ≡ false). rw u) (λ (f : lt (reach r) (apart pts k i) ≡ true). rw (close-far i k fi fk f) (and-false (unused used k)))
+    not-close = ⊎-elim (λ (u : unused used k ≡ false). rw u) (λ (f : lt (reach r) (apart pts k i) ≡ true). rw (close-far i k f) (and-false (unused used k)))
 
     pub second-out : (unused used k ≡ false) ⊎ (lt (reach r) (apart pts k i) ≡ true) → isSecond (floatsOf s pts) r used i k ≡ false
     unfolding isSecond floatsOf

@@ -15,7 +15,6 @@ use Rattle.grid.specs.Index.{Indexed, Below}
 use Rattle.grid.proofs.Near.{neighbors-below, indexed-kept}
 use Rattle.grid.proofs.Sequence.{below-part}
 use Rattle.spatial_hash.specs.declared.Hash.{Hash}
-use Rattle.vector.specs.Vector.{Finite}
 use Rattle.spatial_hash.specs.Near.{Hashed}
 use Rattle.patch.specs.Search.{unused, secondOf, firstOf, numbers}
 use Rattle.decisions.specs.declared.Scene.{Scene}
@@ -52,18 +51,18 @@ near-is : (s : Scene) (pts : List Float) (r : Float) (i : ℕ) (p : Point3f) →
 unfolding floatsOf around
 near-is s pts r i p e = ap (λ (q : Point3f). neighbors (s .indexed) (s .grid) pts (s .n) q (reach r)) e
 
-pub with-first : (s : Scene) (pts : List Float) (r : Float) (w u : List ℕ) (count i : ℕ) (p : Point3f) → p ≡ pointAt pts i → i < s .n → ((k : ℕ) → k < s .n → Finite (pointAt pts k))
+pub with-first : (s : Scene) (pts : List Float) (r : Float) (w u : List ℕ) (count i : ℕ) (p : Point3f) → p ≡ pointAt pts i
     → Sought s pts w u i p (reach r) count
     → secondOf (floatsOf s pts) r (usedIn s u) i (listed s u count) (listed s u count) ≡ withFirst (floatsOf s pts) r (usedIn s w) i
 unfolding withFirst
-with-first s pts r w u count i p ep hi finite f =
+with-first s pts r w u count i p ep f =
     let ks : List ℕ = neighbors (s .indexed) (s .grid) pts (s .n) p (reach r) in
     let test : ℕ → Bool = inReach pts (usedIn s w) (pointAt pts i) (f .nearby .limit) in
     let below = neighbors-below (s .indexed) (s .grid) pts (s .n) p (reach r) in
     ap (λ (l : List ℕ). secondOf (floatsOf s pts) r (take (s .n) l) i (listed s u count) (listed s u count)) (f .kept .after)
     ∙ ap (λ (l : List ℕ). secondOf (floatsOf s pts) r (usedIn s w) i l l) (f .nearby .same)
-    ∙ second-only (floatsOf s pts) r (usedIn s w) test (s .n) i (λ j h t. second-out s pts r (usedIn s w) i j (finite i hi) (finite j h) (left-out (f .nearby) j t)) (only test ks) ks below
-    ∙ second-thirds (floatsOf s pts) r (usedIn s w) test (s .n) i (λ j k h t. third-out s pts r (usedIn s w) i k (finite i hi) (finite k h) j (left-out (f .nearby) k t)) ks below ks
+    ∙ second-only (floatsOf s pts) r (usedIn s w) test (s .n) i (λ j h t. second-out s pts r (usedIn s w) i j (left-out (f .nearby) j t)) (only test ks) ks below
+    ∙ second-thirds (floatsOf s pts) r (usedIn s w) test (s .n) i (λ j k h t. third-out s pts r (usedIn s w) i k j (left-out (f .nearby) k t)) ks below ks
     ∙ ap (λ (l : List ℕ). secondOf (floatsOf s pts) r (usedIn s w) i l l) (near-is s pts r i p ep)
 
 -- what is found from the points is, so many of the unused ones being tried

@@ -11,7 +11,6 @@ use lib.ListN.{length, take, drop, getD, set, length-set}
 use lib.Seq.{getD-set-same, getD-set-other, take-set-le, drop-set-lt}
 use lib.Ieee.{Float, lt}
 use borrow.Author.Tests.{ltb-true, ltb-false, lt-ltb, eq-eqb}
-use Rattle.vector.specs.Vector.{squared, Finite}
 use Rattle.vector.proofs.Distances.{squared-turned}
 use Rattle.points.specs.Points.{pointAt}
 use Rattle.regions.specs.Regions.{neighborsAt}
@@ -24,7 +23,7 @@ use Rattle.decisions.specs.Decisions.{reach, apart, isClose, completes, floatsO
 use Rattle.refusals.specs.declared.Limits.{Limits}
 use Rattle.refusals.specs.Refused.{RefusedThroughout, distant, each}
 use Rattle.refusals.proofs.Refusals.{far-apart}
-use Rattle.nearby.specs.Ready.{Held, Listed, Kept, usedIn, listed}
+use Rattle.nearby.specs.Ready.{Listed, Kept, usedIn, listed}
 use Rattle.nearby.specs.Narrow.{inReach}
 use Rattle.sifting.specs.Sift.{isWithin}
 use Rattle.sifting.proofs.Parts.{drop-more, word-same}
@@ -147,8 +146,8 @@ module _ (s : Scene) (pts : List Float) (r : Float) where
     third = record { forward = λ d. second-far k i j h; backward = λ d. second-far k j i g };
   }
 
-  apart-barren : (i j k : ℕ) → Finite (pointAt pts i) → Finite (pointAt pts j) → lt (reach r) (apart pts j i) ≡ true → Barren s pts r i j k
-  apart-barren i j k fi fj h = far-barren i j k (close-far s pts r [] i j fi fj h) (back h)
+  apart-barren : (i j k : ℕ) → lt (reach r) (apart pts j i) ≡ true → Barren s pts r i j k
+  apart-barren i j k h = far-barren i j k (close-far s pts r [] i j h) (back h)
     where
       back : lt (reach r) (apart pts j i) ≡ true → isClose pts r j i ≡ false
       back h = unfold isClose in ap not h
@@ -174,7 +173,7 @@ barren-from {s} {pts} {r} {l} {i} {w} {u} {v} {found} {c} g hi kept near x all j
     beyond : (a b : ℕ) → a < s .n → unused (usedIn s w) a ≡ true → inReach pts (usedIn s w) (pointAt pts i) (l .far) a ≡ false → Barren s pts r i a b
     beyond a b ha ua t = ⊎-elim
         (λ (f : unused (usedIn s w) a ≡ false). absurd (true-not-false ua f))
-        (λ (f : lt (reach r) (apart pts a i) ≡ true). apart-barren s pts r i a b (g .numbers i hi) (g .numbers a ha) f)
+        (λ (f : lt (reach r) (apart pts a i) ≡ true). apart-barren s pts r i a b f)
         (out-of-reach pts (usedIn s w) (reach r) i a (l .far) (g .limits .fars) t)
 
     is-later : (a : ℕ) → i < a → unused (usedIn s w) a ≡ true → later s i u a ≡ true

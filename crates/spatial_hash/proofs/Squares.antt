@@ -11,7 +11,7 @@ use Rattle.numbers.proofs.OrderLaws.{unsigned}
 use Rattle.numbers.proofs.RootNearest.{root-nearest}
 use Rattle.vector.specs.declared.Point3f.{Point3f}
 use Rattle.vector.specs.Vector.{Finite, squared, distance}
-use Rattle.vector.proofs.Distances.{squared-fits, squared-unsigned, squared-swap, distance-is}
+use Rattle.vector.proofs.Distances.{squared-fits, squared-unsigned, squared-turned, distance-is}
 
 abbrev pub Good : Float → Type 0
 Good x = T (fits binary32 x) × T (unsigned x)
@@ -36,5 +36,5 @@ root-good (fin false (suc m) e) g =
 pub squared-good : (p q : Point3f) → Finite p → Finite q → Good (squared p q)
 squared-good p q f g = (squared-fits p q, squared-unsigned p q f g)
 
-pub distance-back : (p q : Point3f) → Finite p → Finite q → distance p q ≡ root (squared q p)
-distance-back p q f g = distance-is p q ∙ ap root (squared-swap p q f g)
+pub distance-back : (p q : Point3f) → distance p q ≡ root (squared q p)
+distance-back p q = distance-is p q ∙ ap root (squared-turned p q)

@@ -1,15 +1,14 @@
--- The squared distance of points, as f32 have it, is at least the square of the difference on each axis (`squared-x`, `squared-y`, `squared-z`), is the same both ways,
--- and orders the distances (`distance-monotone`, `distance-beyond`). Assumes nothing.
+-- The squared distance of points, as f32 have it, is at least the square of the difference on each axis (`squared-x`, `squared-y`, `squared-z`), and is the same both ways
+-- (`squared-turned`), as the distance is (`distance-turned`). Assumes nothing.
 use mathlib.Core.Path.{_≡_, refl, ap}
 use mathlib.Core.Bool.{not}
 use lib.Dec.{T}
-use lib.Ieee.{Float, nan, inf, fin, binary32, mul, lt, le, fits, isNan}
+use lib.Ieee.{Float, nan, inf, fin, binary32, mul, le, fits, isNan}
 use lib.Ieee.Fits.{add-fits, mul-fits}
 use lib.Ieee.Scale.{finite}
 use Rattle.numbers.specs.Rounded.{f32, _⊕_, _⊖_, _⊗_}
 use Rattle.numbers.specs.Root.{root}
-use Rattle.numbers.proofs.OrderLaws.{le-left, le-trans, lt-le-trans, unsigned, unsigned-le}
-use Rattle.numbers.proofs.RootMonotone.{root-monotone}
+use Rattle.numbers.proofs.OrderLaws.{le-trans, unsigned, unsigned-le}
 use Rattle.numbers.proofs.SumOrder.{add-unsigned, add-above-left, add-above-right, add-number, sub-number}
 use Rattle.numbers.proofs.ProductOrder.{square-unsigned, square-turned}
 use Rattle.vector.specs.Vector.{Finite, difference, magnitudeSquared, squared, distance}
@@ -80,9 +79,6 @@ module _ (p q : Point3f) (f : Finite p) (g : Finite q) where
   pub squared-z : T (le (square (p .z) (q .z)) (squared p q))
   squared-z = rw (squared-is p q) (above-third _ _ _ on-x on-y on-z (square-fits (p .z) (q .z)))
 
-  pub squared-swap : squared p q ≡ squared q p
-  squared-swap = squared-turned p q
-
 -- whatever the points, it is not below 0 unless it is a NaN
 number-unsigned : (d : Float) → T (not (isNan (d ⊗ d))) → T (unsigned (d ⊗ d))
 number-unsigned nan k = absurd (unfold isNan mul in k)
@@ -113,15 +109,3 @@ distance-is p q = refl
 pub distance-turned : (p q : Point3f) → distance p q ≡ distance q p
 unfolding distance
 distance-turned p q = ap root (squared-turned p q)
-
-pub distance-swap : (p q : Point3f) → Finite p → Finite q → distance p q ≡ distance q p
-distance-swap p q f g = distance-turned p q
-
-pub distance-monotone : (p q p' q' : Point3f) → T (le (squared p q) (squared p' q')) → T (le (distance p q) (distance p' q'))
-unfolding distance
-distance-monotone p q p' q' h =
-    root-monotone (squared p q) (squared p' q') (squared-fits p q) (squared-fits p' q') (squared-nonnegative p q (le-left (squared p q) (squared p' q') h)) h
-
-pub distance-beyond : (r t : Float) (p q : Point3f) → T (fits binary32 t) → T (le (f32 0) t) → T (lt r (root t)) → T (le t (squared p q)) → T (lt r (distance p q))
-unfolding distance
-distance-beyond r t p q f z h k = lt-le-trans r (root t) (root (squared p q)) h (root-monotone t (squared p q) f (squared-fits p q) z k)

@@ -2,7 +2,6 @@
 use Prim.Native.Nat.{_-_}
 use mathlib.Core.Path.{_∙_}
 use native.Mathlib.Omega.{arith}
-use Rattle.laying.proofs.Kept.{sized}
 use Rattle.laying.proofs.Radii.{Covering, cover-start, resting, cover-step, cover-end}
 use Rattle.laying.proofs.advanced_ball_pivoting.Statement.{statement}
 use Rattle.laying.proofs.advanced_ball_pivoting.Tie as tie

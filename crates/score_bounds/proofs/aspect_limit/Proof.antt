@@ -1,6 +1,4 @@
 -- `aspect_limit` meets its contract: its guess is tested.
-use mathlib.Core.Path.{sym, subst}
-use lib.Dec.{T}
 use borrow.Author.Needs.{needs}
 use Rattle.numbers.proofs.RootSpecial.{no-number}
 use Rattle.score_bounds.proofs.Aspect.{aspect-limit-is, no-aspect-limit}

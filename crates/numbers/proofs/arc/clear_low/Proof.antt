@@ -1,5 +1,5 @@
 -- `clear_low` meets its contract: a number's pattern with its low bits cleared is a number's still.
-use mathlib.Core.Path.{_≡_, sym, subst, _∙_}
+use mathlib.Core.Path.{sym, subst, _∙_}
 use mathlib.Core.Bool.{Bool, not}
 use Prim.Native.Nat.{_-_, _%_}
 use native.Mathlib.Omega.{arith}

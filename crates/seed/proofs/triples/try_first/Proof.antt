@@ -45,7 +45,7 @@ returns c =
     let g = c .before .before .before .before .before .before .before .before .gather-near in
     let n = c .before .before .before .before .narrow in (
       c .find-second .ensures
-          ∙ ap seedFound (with-first (a .args .s) (a .args .points .now) (a .args .radius) (a .args .w .now) (n .last .1 .1 .0) (n .result) (a .args .i) (p .result) (p .ensures) (a .pre .3) (a .pre .2 .linked .ready .numbers) (sought (p .ensures) (c .before .before .before .before .before .before .before .before .before .before .filter-of .ensures) (g .ensures) (n .ensures))),
+          ∙ ap seedFound (with-first (a .args .s) (a .args .points .now) (a .args .radius) (a .args .w .now) (n .last .1 .1 .0) (n .result) (a .args .i) (p .result) (p .ensures) (sought (p .ensures) (c .before .before .before .before .before .before .before .before .before .before .filter-of .ensures) (g .ensures) (n .ensures))),
       kept-on (g .ensures .kept) (n .ensures .kept),
     )
 

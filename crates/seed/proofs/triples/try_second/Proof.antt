@@ -1,6 +1,5 @@
 -- `try_second` meets its contract. Assumes nothing.
 use mathlib.Core.Path.{sym, _∙_}
-use borrow.Author.Needs.{needs}
 use borrow.Author.Tests.{not-true, not-false}
 use Rattle.decisions.specs.Decisions.{floatsOf}
 use Rattle.nearby.specs.Ready.{usedIn, listed}
