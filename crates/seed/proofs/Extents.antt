@@ -22,7 +22,7 @@ use Rattle.area_bounds.proofs.AreaBound.{Bounds, Unsigned}
 use Rattle.points.specs.Points.{pointAt}
 use Rattle.decisions.specs.declared.Scene.{Scene}
 use Rattle.refusals.proofs.Refusals.{bounded-accepts}
-use Rattle.seed.specs.Flat.{tooSmall, FlatAmong, onAxis, Numbers, Extent}
+use Rattle.seed.specs.Flat.{tooSmall, Flat, onAxis, Numbers, Extent}
 use Rattle.seed.proofs.Points.{below-next}
 
 -- ---- one axis
@@ -123,12 +123,12 @@ sides {pts} {n} {x} ex ey ez a b ha hb = record {
   bounded-z = ez .bounds a b ha hb;
 }
 
-pub box-flat : (s : Scene) {pts : List Float} {n : ℕ} {x y z : Float} {v : Point3f} → Extent pts 0 n x → Extent pts 1 n y → Extent pts 2 n z → v ≡ point x y z → tooSmall s v ≡ true → FlatAmong s pts n
+pub box-flat : (s : Scene) {pts : List Float} {x y z : Float} {v : Point3f} → Extent pts 0 (s .n) x → Extent pts 1 (s .n) y → Extent pts 2 (s .n) z → v ≡ point x y z → tooSmall s v ≡ true → Flat s pts
 unfolding tooSmall
-box-flat s {pts} {n} {x} {y} {z} {v} ex ey ez e h r i j k hi hj hk = bounded-accepts s pts r i j k v v signs signs (edge j i hj hi) (edge k i hk hi) h
+box-flat s {pts} {x} {y} {z} {v} ex ey ez e h r i j k hi hj hk = bounded-accepts s pts r i j k v v signs signs (edge j i hj hi) (edge k i hk hi) h
   where
     signs : Unsigned v
     signs = subst (λ (p : Point3f). Unsigned p) (sym e) (record { unsigned-x = ex .sign; unsigned-y = ey .sign; unsigned-z = ez .sign })
 
-    edge : (a b : ℕ) → a < n → b < n → Bounds (difference (pointAt pts a) (pointAt pts b)) v
+    edge : (a b : ℕ) → a < s .n → b < s .n → Bounds (difference (pointAt pts a) (pointAt pts b)) v
     edge a b ha hb = subst (λ (p : Point3f). Bounds (difference (pointAt pts a) (pointAt pts b)) p) (sym e) (sides ex ey ez a b ha hb)

@@ -19,13 +19,9 @@ use Rattle.decisions.specs.Decisions.{accepts, qualityAt}
 unfoldable pub tooSmall : Scene → Point3f → Bool
 tooSmall s v = lt (areaBound v v) (s .«min_triangle_area»)
 
--- no three of the first n points make an acceptable triangle, at any radius
-abbrev pub FlatAmong : Scene → List Float → ℕ → Type 0
-FlatAmong s pts n = (r : Float) (i j k : ℕ) → i < n → j < n → k < n → accepts s r (qualityAt pts i j k) ≡ false
-
--- no three points of the cloud do
+-- no three points of the cloud make an acceptable triangle, at any radius
 abbrev pub Flat : Scene → List Float → Type 0
-Flat s pts = FlatAmong s pts (s .n)
+Flat s pts = (r : Float) (i j k : ℕ) → i < s .n → j < s .n → k < s .n → accepts s r (qualityAt pts i j k) ≡ false
 
 -- the coordinate of point k on an axis
 abbrev pub onAxis : List Float → ℕ → ℕ → Float

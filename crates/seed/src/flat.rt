@@ -7,7 +7,7 @@ ghost use Prim.Native.Nat.{ℕ, _*_, _<_, _≤_};
 ghost use lib.ListN.{length};
 ghost use Rattle.points.specs.Points.{pointAt};
 ghost use Rattle.vector.specs.Vector.{Finite};
-ghost use Rattle.seed.specs.Flat.{tooSmall, FlatAmong, Flat, Numbers, Extent};
+ghost use Rattle.seed.specs.Flat.{tooSmall, Flat, Numbers, Extent};
 
 // How far the n points reach on one axis, 0, 1 or 2. The difference is taken both ways, since a zero may have either sign.
 fn extent_on(points: &[f32], axis: usize, n: usize) -> f32
@@ -32,33 +32,14 @@ fn is_too_small(s: Scene, v: Point3f) -> bool
     area_bounds::area_bound(v, v) < s.min_triangle_area
 }
 
-// Whether no triangle in the box around the first n points is large enough.
-fn is_box_small(s: Scene, points: &[f32], n: usize) -> bool
-    requires { ⌜ (0 < n) × (n ≤ 4096) × (3 * n ≤ length (now points)) × ((k : ℕ) → k < n → Finite (pointAt (now points) k)) ⌝ }
-    ensures { λ r. ⌜ (r ≡ true → FlatAmong s (now (points .entry)) n) ⌝ }
-{
-    let x = extent_on(points, 0, n);
-    let y = extent_on(points, 1, n);
-    let z = extent_on(points, 2, n);
-    let v = vector::point(x, y, z);
-    is_too_small(s, v)
-}
-
-// How many points are asked first.
-fn first_few(n: usize) -> usize
-    requires { ⌜ 0 < n ⌝ }
-    ensures { λ r. ⌜ (0 < r) × (r ≤ n) ⌝ }
-{
-    if n < 8 { n } else { 8 }
-}
-
-// Whether no triangle in the box around all points is large enough. Most clouds are known not to be flat by a few of their points.
+// Whether no triangle in the box around the points is large enough.
 pub fn is_flat(s: Scene, points: &[f32]) -> bool
     requires { ⌜ (0 < s .n) × (s .n ≤ 4096) × (length (now points) ≡ 3 * s .n) × ((k : ℕ) → k < s .n → Finite (pointAt (now points) k)) ⌝ }
     ensures { λ r. ⌜ (r ≡ true → Flat s (now (points .entry))) ⌝ }
 {
-    if !is_box_small(s, points, first_few(s.n)) {
-        return false;
-    }
-    is_box_small(s, points, s.n)
+    let x = extent_on(points, 0, s.n);
+    let y = extent_on(points, 1, s.n);
+    let z = extent_on(points, 2, s.n);
+    let v = vector::point(x, y, z);
+    is_too_small(s, v)
 }
