@@ -1,6 +1,6 @@
 //! Whole calls over clouds of a fixed seed: a line a cloud, with the ratio that is to be reached.
 
-use expect::{Lent, BUDGET};
+use expect::{bits, Lent, BUDGET};
 use generate::clouds::{self, Cloud};
 use generate::{work_lengths, Case, Random};
 use oracle::Settings;
@@ -47,10 +47,10 @@ fn race(mut rust: impl FnMut(), mut port: impl FnMut()) -> Times {
     best
 }
 
-/// Slices long enough for any cloud of this many points.
+/// Slices long enough for any cloud of this many points, with words in them that no call leaves there.
 fn lend(points: usize) -> Lent {
     let (words, floats) = work_lengths(points);
-    Lent { faces: vec![0; 30_000], words: vec![0; words], floats: vec![0.0; floats] }
+    Lent { faces: vec![u32::MAX; 30_000], words: vec![u32::MAX; words], floats: vec![1.0; floats] }
 }
 
 /// Times one reconstruction on both sides, which have to come to the same, and tells how many faces there were.
@@ -59,9 +59,10 @@ fn reconstruct(points: &[f32], normals: &[f32], settings: &Settings) -> (u32, Ti
     let mut expected = lent.clone();
     let work = [lent.words.len(), lent.floats.len()];
     let rust = expect::find(points, normals, settings, work, UNLIMITED).expect("a run without a limit");
+    let rust = rust.deliver(&mut expected);
     let found = port::reconstruct(points, normals, settings, &mut lent);
-    assert_eq!(found, rust.deliver(&mut expected), "the answers differ");
-    assert!(lent == expected, "the lent slices differ");
+    assert_eq!((found, bits(&found.radii)), (rust, bits(&rust.radii)), "the answers differ");
+    assert!(lent.is_same(&expected), "the lent slices differ");
     let times = race(
         || _ = std::hint::black_box(oracle::reconstruct(points, normals, settings, UNLIMITED)),
         || _ = std::hint::black_box(port::reconstruct(points, normals, settings, &mut lent)),
@@ -143,9 +144,11 @@ fn estimates() -> bool {
     for (size, reach) in [(WALLS[0], 2.0), (WALLS[2], 5.0), (WALLS[3], 10.0)] {
         let cloud = wall(size);
         let mut lent = lend(cloud.points.len() / 3);
-        let rust = expect::estimate(&cloud.points, 0.5, &mut lent.clone(), UNLIMITED).expect("a run without a limit");
+        let mut expected = lent.clone();
+        let rust = expect::estimate(&cloud.points, 0.5, &mut expected, UNLIMITED).expect("a run without a limit");
         let found = port::estimate(&cloud.points, 0.5, &mut lent.words, &mut lent.floats);
-        assert_eq!(found, rust, "the estimates differ");
+        assert_eq!((found, found.radius.to_bits()), (rust, rust.radius.to_bits()), "the estimates differ");
+        assert!(lent.is_same(&expected), "the lent slices differ");
         let times = race(
             || _ = std::hint::black_box(oracle::estimate(&cloud.points, 0.5, UNLIMITED)),
             || _ = std::hint::black_box(port::estimate(&cloud.points, 0.5, &mut lent.words, &mut lent.floats)),

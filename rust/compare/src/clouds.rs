@@ -2,7 +2,7 @@
 
 use crate::report::{Report, Same};
 use crate::sides::Side;
-use expect::{Estimate, Lent, Patch, BUDGET};
+use expect::{bits, Estimate, Lent, Patch, BUDGET};
 use generate::{case, old_word, Case};
 
 /// Slices of these lengths with recognisable contents.
@@ -24,7 +24,6 @@ fn unlike_slices(expected: &Lent, got: &Lent) -> Option<String> {
         let at = (0..a.len()).find(|i| a[*i] != b[*i])?;
         Some(format!("{name}[{at}] of {}: expected {:08x}, got {:08x}", a.len(), a[at], b[at]))
     };
-    let bits = |floats: &[f32]| floats.iter().map(|x| x.to_bits()).collect::<Vec<_>>();
     words("faces", &expected.faces, &got.faces)
         .or_else(|| words("work u32", &expected.words, &got.words))
         .or_else(|| words("work f32", &bits(&expected.floats), &bits(&got.floats)))

@@ -7,6 +7,11 @@ use oracle::{Error, Laid, Settings, Skip};
 /// The steps of the published code that a case may take, about half a second; above it the case is skipped.
 pub const BUDGET: u64 = 16_000_000;
 
+/// The bits of floats, by which they are compared: a zero's sign counts.
+pub fn bits(floats: &[f32]) -> Vec<u32> {
+    floats.iter().map(|x| x.to_bits()).collect()
+}
+
 /// The answer of the radius estimate.
 #[derive(Clone, Copy, Debug, Default, PartialEq)]
 pub struct Estimate {
@@ -29,7 +34,7 @@ pub struct Patch {
 }
 
 /// The slices that a call is lent.
-#[derive(Clone, Debug, Default, PartialEq)]
+#[derive(Clone, Debug, Default)]
 pub struct Lent {
     pub faces: Vec<u32>,
     pub words: Vec<u32>,
@@ -37,6 +42,11 @@ pub struct Lent {
 }
 
 impl Lent {
+    /// Whether every word is the same.
+    pub fn is_same(&self, other: &Lent) -> bool {
+        self.faces == other.faces && self.words == other.words && bits(&self.floats) == bits(&other.floats)
+    }
+
     fn clear_work(&mut self) {
         self.words.fill(0);
         self.floats.fill(0.0);
