@@ -1,6 +1,7 @@
 -- What the two paths find is what the definition finds. Assumes nothing.
-use Prim.Native.Nat.{ℕ, _*_, _≤_}
+use Prim.Native.Nat.{ℕ, _*_, _≤_, _<_}
 use mathlib.Core.Path.{_≡_, refl, sym, ap, _∙_, subst}
+use mathlib.Core.Bool.{true}
 use mathlib.Core.List.{List, [], _∷_}
 use native.Mathlib.Omega.{arith}
 use lib.ListN.{length, take}
@@ -9,17 +10,27 @@ use lib.Ieee.{Float}
 use Rattle.settings.specs.declared.BallPivotingConfig.{BallPivotingConfig}
 use Rattle.grid.specs.Index.{Indexed}
 use Rattle.grid.proofs.Near.{indexed-kept}
-use Rattle.patch.specs.Lay.{patch}
+use Rattle.patch.specs.Count.{any}
+use Rattle.patch.specs.Lay.{patch, blank}
 use Rattle.patch.specs.Frontier.{heapOf}
-use Rattle.patch.specs.Shape.{Shape}
+use Rattle.patch.specs.Search.{searching}
+use Rattle.patch.specs.Shape.{touches, Shape}
+use Rattle.patch.proofs.Counts.{any-true}
+use Rattle.patch.proofs.Inv.{touched-used}
+use Rattle.patch.proofs.Laying.{Rest, layAll-rest, blank-rest}
+use Rattle.patch.proofs.Pops.{heapOf-keeps}
+use Rattle.patch.proofs.Searching.{searching-fair}
 use Rattle.spatial_hash.specs.declared.Hash.{Hash}
 use Rattle.spatial_hash.specs.Near.{Built}
 use Rattle.decisions.specs.declared.Scene.{Scene}
+use Rattle.decisions.specs.Decisions.{floatsOf}
+use Rattle.decisions.proofs.Within.{within}
 use Rattle.radii.specs.Radii.{adaptiveRadii}
 use Rattle.radii.specs.Steps as radii
 use Rattle.radii.specs.declared.Radii.{Radii}
 use Rattle.laying.specs.Laying.{Ground, rulesOf}
-use Rattle.laying.proofs.Claim.{laid-shape}
+use Rattle.laying.proofs.Claim.{laid-shape, laid-few}
+use Rattle.plain.proofs.Plain.{plain-most}
 use Rattle.ball_pivoting.specs.Reconstruct.{pointCount, sceneOf, radiiOf, laidOf, laid, plainly, foundAt, found}
 use Rattle.ball_pivoting.specs.Parts.{Sized, Ready, Finds}
 use Rattle.ball_pivoting.specs.declared.Finding.{Finding}
@@ -28,6 +39,16 @@ use Rattle.ball_pivoting.specs.declared.Finding.{Finding}
 pub shape-of : (c : BallPivotingConfig) (pts : List Float) → Shape (laidOf c pts)
 unfolding laidOf sceneOf
 shape-of c pts = laid-shape (sceneOf c pts) pts (radiiOf c pts)
+
+-- and its faces touch only points of the cloud
+pub touched-inside : (c : BallPivotingConfig) (pts : List Float) (x : ℕ) → any (touches x) (laidOf c pts .faces) ≡ true → x < pointCount pts
+unfolding laidOf sceneOf patch
+touched-inside c pts x t =
+    let n : ℕ = pointCount pts in
+    let floats = floatsOf (sceneOf c pts) pts in
+    let rest : Rest n (laidOf c pts) = layAll-rest n (searching floats n) heapOf (searching-fair n floats (within (sceneOf c pts) pts)) heapOf-keeps (radiiOf c pts) (blank n) (blank-rest n) in
+    let w = rest .inv .pointwise x in
+    w .used-below (touched-used n x _ _ w (any-true (touches x) (laidOf c pts .faces) t))
 
 -- ---- the points are indexed and hashed
 
@@ -79,10 +100,19 @@ found-plain : (c : BallPivotingConfig) (pts : List Float) → radiiOf c pts ≡ 
 unfolding found foundAt
 found-plain c pts e = ap (foundAt c pts) e
 
-found-laid : (c : BallPivotingConfig) (pts xs : List Float) → radiiOf c pts ≡ xs → (xs ≡ [] → ⊥) → found c pts ≡ laid (laidOf c pts)
+pub found-laid : (c : BallPivotingConfig) (pts xs : List Float) → radiiOf c pts ≡ xs → (xs ≡ [] → ⊥) → found c pts ≡ laid (laidOf c pts)
 unfolding found foundAt
 found-laid c pts [] e some = absurd (some refl)
 found-laid c pts (x ∷ xs) e some = ap (foundAt c pts) e
+
+-- at most 10,000 faces are found over 4,096 points, so a face slice of 30,000 is never too short
+pub found-most : (c : BallPivotingConfig) (pts : List Float) → pointCount pts ≤ 4096 → length (found c pts .faces) ≤ 10000
+unfolding found foundAt laid plainly laidOf sceneOf
+found-most c pts few = go (radiiOf c pts)
+  where
+    go : (rs : List Float) → length (foundAt c pts rs .faces) ≤ 10000
+    go [] = plain-most pts (c .radius)
+    go (r ∷ rs) = omega (arith, few, laid-few (sceneOf c pts) pts (radiiOf c pts))
 
 module _ (c : BallPivotingConfig) (pts : List Float) (s : Scene) (g : Radii) (lent : List ℕ) (r : Finding) (slice : List ℕ) (e : s ≡ sceneOf c pts) where
   -- by way of the scene's own index and number of points

@@ -1,3 +1,5 @@
 pub mod Delivered
 pub mod Found
+pub mod Inside
+pub mod Answered
 pub mod Outcome

@@ -1,12 +1,13 @@
 -- The main call's whole result, turned away or taken. Assumes nothing.
-use Prim.Native.Nat.{ℕ, _+_, _*_, _≤_, _<_}
-use mathlib.Core.Path.{_≡_, sym, ap, _∙_, subst}
+use Prim.Native.Nat.{ℕ, _+_, _*_, _/_, _≤_, _<_}
+use mathlib.Core.Path.{_≡_, refl, sym, ap, _∙_, subst}
 use mathlib.Core.Bool.{Bool, true, false, cond}
 use mathlib.Core.List.{List, [], _∷_}
 use native.Mathlib.Omega.{arith}
+use lib.Dec.{eqb}
 use lib.ListN.{length, replicate}
 use lib.Ieee.{Float}
-use borrow.Author.Tests.{eq-eqb, ne-eqb}
+use borrow.Author.Tests.{eq-eqb, ne-eqb, le-ltb, eqb-true}
 use Rattle.numbers.specs.Rounded.{f32}
 use Rattle.domain.specs.Refusals.{Check, firstRefusal, reconstructRefusal}
 use Rattle.domain.specs.Accepted.{Cloud}
@@ -15,11 +16,12 @@ use Rattle.domain.specs.declared.Refusal.{Refusal}
 use Rattle.domain.proofs.Accepted.{cloud-finite, accepted-reconstruct}
 use Rattle.points.specs.Points.{pointAt}
 use Rattle.vector.specs.Vector.{Finite}
-use Rattle.patch.specs.Shape.{Shape}
-use Rattle.ball_pivoting.specs.Reconstruct.{radiiOf, laidOf, found, refused, delivered, reconstructed, swept, facesAfter}
+use Rattle.ball_pivoting.specs.Reconstruct.{Found, radiiOf, found, refused, accepted, delivered, reconstructed, swept, facesAfter}
 use Rattle.ball_pivoting.specs.Outcome.{Reconstructs}
 use Rattle.ball_pivoting.specs.Parts.{Ready}
 use Rattle.ball_pivoting.specs.declared.Patch.{Patch}
+use Rattle.ball_pivoting.proofs.Answered.{claimed}
+use Rattle.ball_pivoting.proofs.Found.{found-most}
 
 -- ---- a check that fails answers with a number of at most 7
 
@@ -36,7 +38,7 @@ refusal-early (c ∷ cs) e = go (refusal-early cs (e .1)) (c .passes)
     go later true = later
     go later false = e .0
 
-reconstruct-early : (points normals : List Float) (s : BallPivotingConfig) (words floats : ℕ) → reconstructRefusal points normals s words floats .answer ≤ 7
+pub reconstruct-early : (points normals : List Float) (s : BallPivotingConfig) (words floats : ℕ) → reconstructRefusal points normals s words floats .answer ≤ 7
 unfolding reconstructRefusal
 reconstruct-early points normals s words floats = refusal-early _ (omega arith, (omega arith, (omega arith, (omega arith, (omega arith, (omega arith, tt))))))
 
@@ -77,15 +79,36 @@ module _ (points normals : List Float) (c : BallPivotingConfig) (faces words : L
         shape = λ q some. absurd (bad (sym (ap (λ (x : Patch). x .answer) is) ∙ q));
       }
 
-  pub taken : (p : Patch) (faces' words' : List ℕ) (floats' : List Float) → r .answer ≡ 0 → Shape (laidOf c points)
+  pub taken : (p : Patch) (faces' words' : List ℕ) (floats' : List Float) → r .answer ≡ 0
       → (p ≡ delivered (found c points) (radiiOf c points) (length faces)) × (faces' ≡ facesAfter p (found c points) faces)
       → words' ≡ replicate (length words) 0 → floats' ≡ replicate (length floats) (f32 0)
       → Reconstructs points normals c faces words floats p faces' words' floats'
   unfolding reconstructed swept
-  taken p faces' words' floats' good whole d zeros zero-floats = record {
+  taken p faces' words' floats' good d zeros zero-floats = record {
     result = rw (sym e, eq-eqb (r .answer) 0 good) (d .0);
     faces-after = d .1;
     words-after = rw (sym e, eq-eqb (r .answer) 0 good) zeros;
     floats-after = rw (sym e, eq-eqb (r .answer) 0 good) zero-floats;
-    shape = λ q some. whole;
+    shape = claimed c points faces p faces' (d .0) (d .1);
   }
+
+-- a face slice of 30,000 is long enough: the answer is never 9
+module _ (points normals : List Float) (c : BallPivotingConfig) (words floats : ℕ) where
+  fitting : (f : Found) (rs : List Float) (room : ℕ) → length (f .faces) ≤ 10000 → 30000 ≤ room → delivered f rs room .answer ≤ 8
+  unfolding delivered refused accepted
+  fitting f rs room most long = rw (le-ltb (room / 3) (length (f .faces)) (omega arith)) (go (eqb (length (f .faces)) 0))
+    where
+      go : (none : Bool) → cond none (refused 8 0) (accepted f rs) .answer ≤ 8
+      go true = omega arith
+      go false = omega arith
+
+  pub never-nine : (room : ℕ) → 30000 ≤ room → reconstructed points normals c room words floats .answer ≤ 8
+  unfolding reconstructed refused
+  never-nine room long = go (eqb (reconstructRefusal points normals c words floats .answer) 0) refl
+    where
+      go : (passed : Bool) → eqb (reconstructRefusal points normals c words floats .answer) 0 ≡ passed
+          → cond passed (delivered (found c points) (radiiOf c points) room) (refused (reconstructRefusal points normals c words floats .answer) (reconstructRefusal points normals c words floats .detail)) .answer ≤ 8
+      go true e =
+          let a = accepted-reconstruct points normals c words floats (eqb-true _ 0 e) in
+          fitting (found c points) (radiiOf c points) room (found-most c points (a .cloud .few)) long
+      go false e = omega (arith, reconstruct-early points normals c words floats)

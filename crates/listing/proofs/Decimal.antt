@@ -46,7 +46,7 @@ decimal-more n h =
     spelled-more n n h ∙ ap (λ (l : List ℕ). l ++ ((48 + n % 10) ∷ [])) (spelled-same n (suc (n / 10)) (n / 10) a b)
 
 -- ---- k digits hold the numbers below 10 ^ k
-decimal-within : (k n : ℕ) → n < 10 ^ suc k → length (decimal n) ≤ suc k
+pub decimal-within : (k n : ℕ) → n < 10 ^ suc k → length (decimal n) ≤ suc k
 decimal-within zero n h = let e : length (decimal n) ≡ 1 = ap length (decimal-small n h) in omega arith
 decimal-within (suc k) n h = go (ltb n 10) refl (λ m a. decimal-within k m a)
   where

@@ -1,59 +1,27 @@
 -- What the main call leaves is what the definition prints of it: the faces in front of the slice, and the counts. Assumes nothing.
-use Prim.Native.Nat.{ℕ, _+_, _*_, _/_, _≤_}
-use mathlib.Core.Path.{_≡_, refl, sym, ap, _∙_, subst}
+use Prim.Native.Nat.{ℕ, _*_, _/_, _≤_}
+use mathlib.Core.Path.{_≡_, sym, ap, _∙_, subst}
 use mathlib.Core.Bool.{Bool, true, false, cond}
 use mathlib.Core.List.{List, _++_}
 use native.Mathlib.Omega.{arith}
-use lib.Dec.{eqb, ltb, leb}
+use lib.Dec.{leb}
 use lib.ListN.{length, take, drop, length-append}
 use lib.Seq.{take-all, take-append-seam}
 use lib.Ieee.{Float}
-use borrow.Author.Tests.{eq-eqb, ne-eqb, le-leb, ltb-false, eqb-true, eqb-false}
+use borrow.Author.Tests.{eq-eqb, ne-eqb, le-leb}
 use Rattle.settings.specs.Settings.{defaults}
 use Rattle.domain.specs.Refusals.{reconstructRefusal}
 use Rattle.settings.specs.declared.BallPivotingConfig.{BallPivotingConfig}
-use Rattle.domain.specs.declared.Refusal.{Refusal}
 use Rattle.domain.proofs.Accepted.{accepted-reconstruct}
 use Rattle.patch.specs.Lay.{Face}
 use Rattle.patch.specs.View as view
 use Rattle.patch.proofs.View.{length-flat, length-written}
-use Rattle.ball_pivoting.specs.Reconstruct.{Found, found, radiiOf, reconstructed, delivered, accepted, refused, facesAfter}
+use Rattle.ball_pivoting.specs.Reconstruct.{found, reconstructed, accepted, facesAfter}
 use Rattle.ball_pivoting.specs.Outcome.{Reconstructs}
 use Rattle.ball_pivoting.specs.declared.Patch.{Patch}
+use Rattle.ball_pivoting.proofs.Answered.{answered-zero}
 use Rattle.listing.specs.Listing.{refusal, listed, written, filled}
 use Rattle.patch_text.specs.Text.{countsOf, patchText, laidText, Prints}
-
--- ---- an answer of 0 is of a cloud that the checks let pass and of faces that fit
-module _ (f : Found) (rs : List Float) (room : ℕ) where
-  by-fit : (fits : Bool) → ltb (room / 3) (length (f .faces)) ≡ fits → (p : Patch) → p ≡ cond fits (refused 9 0) (accepted f rs) → p .answer ≡ 0
-      → (p .faces ≡ length (f .faces)) × (3 * length (f .faces) ≤ room)
-  unfolding refused accepted
-  by-fit true e p is zero-answer = absurd (let k : 9 ≡ 0 = sym (ap (λ (q : Patch). q .answer) is) ∙ zero-answer in omega arith)
-  by-fit false e p is zero-answer = (ap (λ (q : Patch). q .faces) is, let fit = ltb-false (room / 3) (length (f .faces)) e in omega arith)
-
-  by-some : (none : Bool) → (p : Patch) → p ≡ cond none (refused 8 0) (cond (ltb (room / 3) (length (f .faces))) (refused 9 0) (accepted f rs)) → p .answer ≡ 0
-      → (p .faces ≡ length (f .faces)) × (3 * length (f .faces) ≤ room)
-  unfolding refused
-  by-some true p is zero-answer = absurd (let k : 8 ≡ 0 = sym (ap (λ (q : Patch). q .answer) is) ∙ zero-answer in omega arith)
-  by-some false p is zero-answer = by-fit (ltb (room / 3) (length (f .faces))) refl p is zero-answer
-
-  delivered-fits : (p : Patch) → p ≡ delivered f rs room → p .answer ≡ 0 → (p .faces ≡ length (f .faces)) × (3 * length (f .faces) ≤ room)
-  unfolding delivered
-  delivered-fits p is zero-answer = by-some (eqb (length (f .faces)) 0) p is zero-answer
-
-module _ (points normals : List Float) (c : BallPivotingConfig) (room words floats : ℕ) where
-  by-checks : (passed : Bool) (r : Refusal) → eqb (r .answer) 0 ≡ passed → (p : Patch) → p ≡ cond passed (delivered (found c points) (radiiOf c points) room) (refused (r .answer) (r .detail)) → p .answer ≡ 0
-      → (r .answer ≡ 0) × ((p .faces ≡ length (found c points .faces)) × (3 * length (found c points .faces) ≤ room))
-  unfolding refused
-  by-checks true r e p is zero-answer = (eqb-true (r .answer) 0 e, delivered-fits (found c points) (radiiOf c points) room p is zero-answer)
-  by-checks false r e p is zero-answer =
-      let none : r .answer ≡ 0 = sym (ap (λ (q : Patch). q .answer) is) ∙ zero-answer in
-      absurd (eqb-false (r .answer) 0 e none)
-
-  answered-zero : (p : Patch) → p ≡ reconstructed points normals c room words floats → p .answer ≡ 0
-      → (reconstructRefusal points normals c words floats .answer ≡ 0) × ((p .faces ≡ length (found c points .faces)) × (3 * length (found c points .faces) ≤ room))
-  unfolding reconstructed
-  answered-zero p is zero-answer = by-checks (eqb (reconstructRefusal points normals c words floats .answer) 0) (reconstructRefusal points normals c words floats) refl p is zero-answer
 
 -- the faces' points stand in front of the slice
 written-front : (fs : List Face) (slice : List ℕ) → 3 * length fs ≤ length slice → take (3 * length fs) (view.written fs slice) ≡ view.flat fs
@@ -66,7 +34,10 @@ written-front fs slice h =
 -- ---- the main call, and what is printed of it
 module _ (points normals : List Float) (c : BallPivotingConfig) (faces words : List ℕ) (floats : List Float) (p : Patch) (faces' words' : List ℕ) (floats' : List Float) (h : Reconstructs points normals c faces words floats p faces' words' floats') where
   accepts : p .answer ≡ 0 → (reconstructRefusal points normals c (length words) (length floats) .answer ≡ 0) × ((p .faces ≡ length (found c points .faces)) × (3 * length (found c points .faces) ≤ length faces))
-  accepts z = answered-zero points normals c (length faces) (length words) (length floats) p (h .result) z
+  unfolding accepted
+  accepts z =
+      let a = answered-zero points normals c (length faces) (length words) (length floats) p (h .result) z in
+      (a .0, (ap (λ (q : Patch). q .faces) (a .1 .0), a .1 .1))
 
   pub few-points : p .answer ≡ 0 → length points / 3 ≤ 4096
   few-points z = accepted-reconstruct points normals c (length words) (length floats) (accepts z .0) .cloud .few

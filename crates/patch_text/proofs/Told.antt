@@ -22,7 +22,7 @@ unfolding flat
 flat-length [] = refl
 flat-length (t ∷ ts) = let h = flat-length ts in omega arith
 
-part-length : (part : Point → Triple) (ps : List Point) → length (flat (map part ps)) ≡ 3 * length ps
+pub part-length : (part : Point → Triple) (ps : List Point) → length (flat (map part ps)) ≡ 3 * length ps
 part-length part ps = flat-length (map part ps) ∙ ap (λ (k : ℕ). 3 * k) (length-map ps part)
 
 -- the numbers of the points stand in front

@@ -4,7 +4,6 @@ use mathlib.Core.Path.{sym, ap, _∙_}
 use lib.ListN.{replicate}
 use Rattle.numbers.specs.Rounded.{f32}
 use Rattle.domain.specs.declared.Refusal.{Refusal}
-use Rattle.ball_pivoting.proofs.Found.{shape-of}
 use Rattle.ball_pivoting.proofs.Outcome.{ready-of, turned-away, taken}
 use borrow.Author.Needs.{needs}
 use Rattle.ball_pivoting.proofs.reconstruct_with_normals.Statement.{statement}
@@ -57,7 +56,6 @@ returns-2 c =
     _
     _
     (c .before .before .before .before .before .before .before .before .before .before .before .before .before .before .before .before .before .before .before .before .before .before .if1 .left)
-    (shape-of _ _)
     (c .before .before .deliver .ensures _ _ _ (found .ensures))
     (c .before .before .before .before .before .before .before .before .before .before .clear-u32 .ensures ∙ ap (λ (k : ℕ). replicate k 0) (found .kept .1 .1 .1 .0))
     (c .before .before .before .before .before .before .clear-f32 .ensures ∙ ap (λ (k : ℕ). replicate k (f32 0)) (found .kept .1 .1 .1 .1 .0))
