@@ -132,6 +132,9 @@ bool yb_is_triangle_acceptable(YbTriangleQuality quality, float radius, float mi
 
 /* ---- Clouds ---- */
 
+/* The default settings at a radius: those of ball_pivoting_from_normals. Slots past a list's count are 0. */
+YbBallPivotingConfig yb_default_config(float radius);
+
 /*
  * A radius that suits the cloud: 2.5 times the percentile of its points' least distances, or 0.1 if there is none.
  *
@@ -172,13 +175,6 @@ YbPatch yb_reconstruct_with_normals(const float *points, size_t points_len, cons
  */
 YbCloudRead yb_read_cloud(const uint8_t *bytes, size_t bytes_len, float *points, size_t points_len, float *normals,
                           size_t normals_len);
-
-/* The default settings at a radius: those of ball_pivoting_from_normals. */
-static inline YbBallPivotingConfig yb_default_config(float radius) {
-    YbBallPivotingConfig config = {
-        radius, {0.05f, 0.15f, 0.2f}, 3, true, {0.25f, 0.5f, 0.75f, 0.9f}, 4, 0.1f, 3.0f, 1e-8f, true, 2.0f};
-    return config;
-}
 
 /* ---- The layout that the library was built with ---- */
 

@@ -104,6 +104,17 @@ static void numbers(void) {
     }
 }
 
+/* The defaults come through as they are, and the slots past the counts are zeros. */
+static void defaults(void) {
+    const YbBallPivotingConfig d = yb_default_config(0.5f);
+    const float radii[8] = {0.05f, 0.15f, 0.2f}, percentiles[8] = {0.25f, 0.5f, 0.75f, 0.9f};
+    CHECK(d.radius == 0.5f && d.additional_count == 3 && d.adaptive_radius && d.percentile_count == 4);
+    CHECK(memcmp(d.additional_radii, radii, sizeof radii) == 0);
+    CHECK(memcmp(d.adaptive_percentiles, percentiles, sizeof percentiles) == 0);
+    CHECK(d.quality_threshold == 0.1f && d.max_edge_factor == 3 && d.min_triangle_area == 1e-8f);
+    CHECK(d.use_spatial_index && d.spatial_cell_factor == 2 && isnan(yb_default_config(NAN).radius));
+}
+
 /* Each setting has its own place in the struct: a bad one is told by its number. */
 static void settings(void) {
     Call c = good();
@@ -221,6 +232,7 @@ static void files(void) {
 int main(void) {
     lengths();
     numbers();
+    defaults();
     settings();
     face_slices();
     choices();

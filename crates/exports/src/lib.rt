@@ -7,6 +7,7 @@ ghost use Rattle.numbers.specs.Cut.{cut, ceil};
 ghost use Rattle.numbers.specs.Acos.{acos};
 ghost use Rattle.vector.specs.Vector.{point};
 ghost use Rattle.triangle.specs.Quality.{circumradius, quality, acceptable};
+ghost use Rattle.settings.specs.Settings.{defaults};
 ghost use Rattle.estimate.specs.Estimate.{Estimated};
 ghost use Rattle.cloud.specs.Answers.{Answered, outcome};
 ghost use Rattle.ball_pivoting.specs.Outcome.{Reconstructs};
@@ -124,6 +125,13 @@ pub extern "C" fn yb_is_triangle_acceptable(
         quality_threshold,
         max_edge_factor,
     )
+}
+
+#[no_mangle]
+pub extern "C" fn yb_default_config(radius: f32) -> BallPivotingConfig
+    ensures { λ r. ⌜ r ≡ defaults radius ⌝ }
+{
+    BallPivotingConfig::new(radius)
 }
 
 #[no_mangle]

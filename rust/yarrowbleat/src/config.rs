@@ -23,19 +23,27 @@ pub struct BallPivotingConfig {
     pub spatial_cell_factor: f32,
 }
 
+impl BallPivotingConfig {
+    /// The defaults at this radius: those of `ball_pivoting_from_normals`.
+    pub fn new(radius: f32) -> Self {
+        let c = sys::default_config(radius);
+        Self {
+            radius: c.radius,
+            additional_radii: c.additional_radii[..c.additional_count as usize].to_vec(),
+            adaptive_radius: c.adaptive_radius,
+            adaptive_percentiles: c.adaptive_percentiles[..c.percentile_count as usize].to_vec(),
+            quality_threshold: c.quality_threshold,
+            max_edge_factor: c.max_edge_factor,
+            min_triangle_area: c.min_triangle_area,
+            use_spatial_index: c.use_spatial_index,
+            spatial_cell_factor: c.spatial_cell_factor,
+        }
+    }
+}
+
 impl Default for BallPivotingConfig {
     fn default() -> Self {
-        Self {
-            radius: 0.1,
-            additional_radii: vec![0.05, 0.15, 0.2],
-            adaptive_radius: true,
-            adaptive_percentiles: vec![0.25, 0.5, 0.75, 0.9],
-            quality_threshold: 0.1,
-            max_edge_factor: 3.0,
-            min_triangle_area: 1e-8,
-            use_spatial_index: true,
-            spatial_cell_factor: 2.0,
-        }
+        Self::new(0.1)
     }
 }
 

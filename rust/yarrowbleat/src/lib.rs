@@ -90,7 +90,7 @@ pub fn reconstruct_with_normals(
 
 /// Lays a patch with the default settings but for the radius.
 pub fn ball_pivoting_from_normals(points: &[[f32; 3]], normals: &[[f32; 3]], radius: f32) -> Result<Patch, Error> {
-    reconstruct_with_normals(points, normals, &BallPivotingConfig { radius, ..Default::default() })
+    reconstruct_with_normals(points, normals, &BallPivotingConfig::new(radius))
 }
 
 /// What a cloud file holds.

@@ -131,6 +131,7 @@ mod linked {
             quality_threshold: f32,
             max_edge_factor: f32,
         ) -> bool;
+        pub fn yb_default_config(radius: f32) -> BallPivotingConfig;
         pub fn yb_estimate_optimal_radius(
             points: *const f32,
             points_len: usize,
@@ -211,6 +212,10 @@ pub fn is_triangle_acceptable(
     max_edge_factor: f32,
 ) -> bool {
     unsafe { linked::yb_is_triangle_acceptable(quality, radius, min_triangle_area, quality_threshold, max_edge_factor) }
+}
+
+pub fn default_config(radius: f32) -> BallPivotingConfig {
+    unsafe { linked::yb_default_config(radius) }
 }
 
 pub fn estimate_optimal_radius(points: &[f32], percentile: f32, words: &mut [u32], floats: &mut [f32]) -> Estimate {

@@ -137,5 +137,5 @@ fn functions() {
         count += 1;
     }
     assert_eq!(count, sys.matches("pub fn yb_").count());
-    assert_eq!(count, header.matches(" yb_").count() - header.matches("inline YbBallPivotingConfig yb_").count());
+    assert_eq!(count, header.matches(" yb_").count());
 }
