@@ -1,6 +1,11 @@
 // Lays a patch over the cloud file on standard input and prints its listing, or why there is none.
 //
-// What is printed is made by `patch_text::program_text`; here is only the reading and the writing.
+// What is printed is made by `patch_text::program_text`; here is only the reading and the writing. Whatever was read, what is written is `printed` of it, whole:
+// `write_text` asks for that, and nothing else writes.
+ghost use mathlib.Core.Path.{_≡_};
+ghost use Prim.Native.Nat.{_≤_};
+ghost use lib.ListN.{length};
+ghost use Rattle.patch_text.specs.Text.{printed};
 
 // How many bytes of the input are there, whether that is all that will be read, and whether a read failed.
 pub struct Progress {
@@ -10,7 +15,10 @@ pub struct Progress {
 }
 
 // Bytes put behind the first `at`, as far as there is room; the answer is how many there are then.
-fn append(input: &mut [u8], at: usize, bytes: &[u8]) -> usize {
+fn append(input: &mut [u8], at: usize, bytes: &[u8]) -> usize
+    requires { ⌜ at ≤ length (now input) ⌝ }
+    ensures { λ r. ⌜ r ≤ length (now (input .exit)) ⌝ }
+{
     let mut next = at;
     let mut i: usize = 0;
     while i < bytes.len() {
@@ -24,7 +32,10 @@ fn append(input: &mut [u8], at: usize, bytes: &[u8]) -> usize {
     next
 }
 
-fn read_some(input: &mut [u8], at: usize) -> Progress {
+fn read_some(input: &mut [u8], at: usize) -> Progress
+    requires { ⌜ at ≤ length (now input) ⌝ }
+    ensures { λ r. ⌜ r .length ≤ length (now (input .exit)) ⌝ }
+{
     let mut chunk = io::large_buffer();
     let got = libc::read(libc::STDIN_FILENO, &mut chunk);
     if got < 0 {
@@ -44,7 +55,9 @@ fn read_some(input: &mut [u8], at: usize) -> Progress {
 }
 
 // A proved loop has to end, and nothing says that the input does, so the turns are counted down from a number that no run uses up.
-fn read_all(input: &mut [u8]) -> Progress {
+fn read_all(input: &mut [u8]) -> Progress
+    ensures { λ r. ⌜ r .length ≤ length (now (input .exit)) ⌝ }
+{
     let mut p = Progress {
         length: 0,
         done: false,
@@ -61,11 +74,18 @@ fn read_all(input: &mut [u8]) -> Progress {
     p
 }
 
-// The buffer holds a listing of 5,000 faces.
+// Writes what is printed of a file. The file is not looked at; the contract is about it.
+fn write_text(input: &[u8], text: &[u8])
+    requires { ⌜ now text ≡ printed (now input) ⌝ }
+{
+    io::write_all(libc::STDOUT_FILENO, text);
+}
+
+// The buffer holds whatever is printed.
 fn print_patch(input: &[u8]) {
     let mut out = [0u8; 220098];
     let n = patch_text::program_text(input, &mut out);
-    io::write_all(libc::STDOUT_FILENO, &out[..n]);
+    write_text(input, &out[..n]);
 }
 
 // One byte more than a file may have, so that a longer one is noticed.
@@ -75,7 +95,5 @@ fn main() {
     if p.failed {
         return;
     }
-    if p.length <= 65537 {
-        print_patch(&input[..p.length]);
-    }
+    print_patch(&input[..p.length]);
 }

@@ -56,3 +56,17 @@ unfolding refusal text
 refusal-most answer detail a d =
     let is : length (refusal answer detail) ≡ length (text "refused," ++ field answer 44) + length (field detail 10) = length-append (text "refused," ++ field answer 44) (field detail 10) in
     omega (arith, is, length-append (text "refused,") (field answer 44), field-most answer 44 a, field-most detail 10 d)
+
+-- ---- no text is empty
+pub refusal-some : (answer detail : ℕ) → 0 < length (refusal answer detail)
+unfolding refusal text
+refusal-some answer detail =
+    let is : length (refusal answer detail) ≡ length (text "refused," ++ field answer 44) + length (field detail 10) = length-append (text "refused," ++ field answer 44) (field detail 10) in
+    omega (arith, is, length-append (text "refused,") (field answer 44))
+
+pub listing-some : (c : Counts) (fs : List ℕ) → 0 < length (listing c fs)
+unfolding listing text
+listing-some c fs =
+    let is : length (listing c fs) ≡ length (text "points,faces,seeds,looks,pivots\n") + length (countsLine c) + length (text "face,a,b,c\n") + length (faceLines fs 0 (c .faces)) =
+    row (text "points,faces,seeds,looks,pivots\n") (countsLine c) (text "face,a,b,c\n") (faceLines fs 0 (c .faces)) in
+    omega (arith, is)

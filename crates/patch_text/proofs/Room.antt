@@ -1,5 +1,5 @@
 -- A buffer of 220,098 bytes holds whatever the program prints: 5,000 faces of 44 bytes each, five counts of 11 and two lines of names. Assumes nothing.
-use Prim.Native.Nat.{ℕ, zero, suc, _+_, _*_, _/_, _≤_}
+use Prim.Native.Nat.{ℕ, zero, suc, _+_, _*_, _/_, _≤_, _<_}
 use mathlib.Core.Path.{_≡_, refl, ap, ap₂, _∙_, subst}
 use mathlib.Core.Bool.{Bool, true, false, cond, _&&_}
 use mathlib.Core.List.{List, [], _∷_, _++_, map}
@@ -14,7 +14,7 @@ use Rattle.settings.specs.declared.BallPivotingConfig.{BallPivotingConfig}
 use Rattle.domain.specs.Refusals.{Check, firstRefusal, reconstructRefusal}
 use Rattle.patch.specs.View as view
 use Rattle.patch.proofs.Counts.{and-both}
-use Rattle.ball_pivoting.specs.Reconstruct.{found, radiiOf, refused, accepted, delivered, reconstructed}
+use Rattle.ball_pivoting.specs.Reconstruct.{Found, found, radiiOf, refused, accepted, delivered, reconstructed}
 use Rattle.ball_pivoting.specs.declared.Patch.{Patch}
 use Rattle.ball_pivoting.proofs.Answered.{answered-zero}
 use Rattle.ball_pivoting.proofs.Inside.{found-inside, flat-inside, found-few}
@@ -24,8 +24,8 @@ use Rattle.cloud.specs.Answers as cloud
 use Rattle.cloud.specs.declared.line.Point.{Point}
 use Rattle.cloud.proofs.Shorter.{Below, field-below}
 use Rattle.listing.specs.Listing.{refusal, listing, written, filled}
-use Rattle.listing.proofs.Lengths.{listing-most, refusal-most}
-use Rattle.patch_text.specs.Text.{countsOf, patchText, laidText, outcomeText, fileText, printed, Prints}
+use Rattle.listing.proofs.Lengths.{listing-most, listing-some, refusal-most, refusal-some}
+use Rattle.patch_text.specs.Text.{countsOf, patchText, laidText, outcomeText, fileText, printed, Prints, PrintsFile}
 use Rattle.patch_text.proofs.Told.{part-length}
 
 -- ---- a refusal's detail is a small number
@@ -202,3 +202,37 @@ prints-whole bytes out r out' long h =
     let number : r ≡ length t = rw fits at (h .bytes) in
     let held : out' ≡ t ++ drop (length t) out = rw fits at (h .holds) in
     (number, ap₂ (λ (k : ℕ) (l : List ℕ). take k l) number held ∙ take-append-seam t (drop (length t) out))
+
+-- ---- no text is empty
+cond-some : (b : Bool) (t u : List ℕ) → 0 < length t → 0 < length u → 0 < length (cond b t u)
+cond-some true t u h k = h
+cond-some false t u h k = k
+
+patch-some : (n : ℕ) (p : Patch) (f : Found) → 0 < length (patchText n p f)
+unfolding patchText
+patch-some n p f =
+    let faces : List ℕ = view.flat (f .faces) in
+    cond-some (eqb (p .answer) 0) (listing (countsOf n p) faces) (refusal (p .answer) (p .detail)) (listing-some (countsOf n p) faces) (refusal-some (p .answer) (p .detail))
+
+outcome-some : (o : cloud.Outcome) (faces words floats : ℕ) → 0 < length (outcomeText o faces words floats)
+unfolding outcomeText laidText
+outcome-some (cloud.accepted radius ps) faces words floats =
+    let xs : List Float = cloud.flat (map (λ (p : Point). p .position) ps) in
+    let ns : List Float = cloud.flat (map (λ (p : Point). p .normal) ps) in
+    patch-some (length ps) (reconstructed xs ns (defaults radius) faces words floats) (found (defaults radius) xs)
+outcome-some (cloud.refused answer detail) faces words floats = refusal-some answer detail
+
+pub printed-some : (bytes : List ℕ) → 0 < length (printed bytes)
+unfolding printed fileText
+printed-some bytes =
+    let o : cloud.Outcome = cloud.outcome bytes 1536 1536 in
+    cond-some (ltb 65536 (length bytes)) (refusal 11 0) (outcomeText o 15000 12352 2112) (refusal-some 11 0) (outcome-some o 15000 12352 2112)
+
+-- so whatever holds of a text that was printed, this holds of the file
+pub prints-file : (bytes out : List ℕ) (r : ℕ) (out' : List ℕ) → Prints (printed bytes) out r out' → PrintsFile bytes out r out'
+prints-file bytes out r out' h = record {
+  text = h;
+  number = λ long. prints-whole bytes out r out' long h .0;
+  some = λ long. omega (arith, prints-whole bytes out r out' long h .0, printed-some bytes);
+  front = λ long. prints-whole bytes out r out' long h .1;
+}

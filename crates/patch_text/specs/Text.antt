@@ -1,10 +1,10 @@
 -- What the program prints of a cloud file, from the file's bytes to the text. Definitions only.
-use Prim.Native.Nat.{ℕ}
+use Prim.Native.Nat.{ℕ, _<_, _≤_}
 use mathlib.Core.Path.{_≡_}
 use mathlib.Core.Bool.{cond}
 use mathlib.Core.List.{List, map}
 use lib.Dec.{ltb, eqb}
-use lib.ListN.{length}
+use lib.ListN.{length, take}
 use lib.Ieee.{Float}
 use Rattle.settings.specs.Settings.{defaults}
 use Rattle.patch.specs.View as patch
@@ -47,3 +47,14 @@ printed bytes = fileText bytes 1536 1536 15000 12352 2112
 pub record Prints (text out : List ℕ) (r : ℕ) (out' : List ℕ) : Type 0 where
   pub bytes : r ≡ written text out
   pub holds : out' ≡ filled text out
+
+-- the bytes that hold whatever is printed: two lines of names, 32 and 11, five counts of at most 11 and 5,000 faces of at most 44
+abbrev pub enough : ℕ
+enough = 220098
+
+-- what the program prints of a file: its text as above; and into a buffer of `enough` bytes it goes whole, is not empty, and is the first r bytes
+pub record PrintsFile (file out : List ℕ) (r : ℕ) (out' : List ℕ) : Type 0 where
+  pub text : Prints (printed file) out r out'
+  pub number : enough ≤ length out → r ≡ length (printed file)
+  pub some : enough ≤ length out → 0 < r
+  pub front : enough ≤ length out → take r out' ≡ printed file

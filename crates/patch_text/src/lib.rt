@@ -1,9 +1,9 @@
 // Makes what the program prints of a cloud file: its bytes in, the listing of the patch or a refusal out, in lent slices.
 //
-// The text is the definition `fileText` of specs/Text.antt, for all bytes and all lengths of the slices.
+// The text is the definition `fileText` of specs/Text.antt, for all bytes and all lengths of the slices; the program's is `printed`.
 ghost use lib.ListN.{length};
 ghost use Prim.Native.Nat.{_/_};
-ghost use Rattle.patch_text.specs.Text.{laidText, fileText, printed, Prints};
+ghost use Rattle.patch_text.specs.Text.{laidText, fileText, Prints, PrintsFile};
 use listing::Counts;
 use settings::BallPivotingConfig;
 
@@ -75,9 +75,9 @@ pub fn lay_text(
     )
 }
 
-// The text of the program `lay`: slices for 512 points and 5,000 faces, and work for so many points.
+// The text of the program `lay`: slices for 512 points and 5,000 faces, and work for so many points. An output of 220,098 bytes holds whatever it is.
 pub fn program_text(input: &[u8], out: &mut [u8]) -> usize
-    ensures { λ r. ⌜ Prints (printed (now (input .entry))) (now (out .entry)) r (now (out .exit)) ⌝ }
+    ensures { λ r. ⌜ PrintsFile (now (input .entry)) (now (out .entry)) r (now (out .exit)) ⌝ }
 {
     let mut points = [0.0f32; 1536];
     let mut normals = [0.0f32; 1536];

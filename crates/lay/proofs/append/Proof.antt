@@ -8,7 +8,7 @@ use Rattle.lay.proofs.append.Statement.{statement}
 use Rattle.lay.proofs.append.Tie as tie
 
 abbrev Inv-loop : tie.InvT-loop
-Inv-loop input₀ at bytes next₀ i₀ input next i = (i ≤ length bytes) × (length input ≡ length input₀)
+Inv-loop input₀ at bytes next₀ i₀ input next i = (i ≤ length bytes) × ((length input ≡ length input₀) × (next ≤ length input₀))
 
 abbrev μ-loop : tie.MeasureT-loop
 μ-loop input₀ at bytes next₀ i₀ input next i = length bytes - i

@@ -37,10 +37,6 @@ print-patch-requires c κs = search needs
 returns-2 : tie.Need-returns-2
 returns-2 c = search needs
 
--- src/main.rt:87:1
-returns-3 : tie.Need-returns-3
-returns-3 c = search needs
-
 pub main-spec : {M : Type 1} → statement M
 main-spec =
     tie.close
@@ -51,5 +47,4 @@ main-spec =
     array-share-prefix-input
     slice-aggregate-print-patch
     print-patch-requires
-    returns-2
-    returns-3)
+    returns-2)

@@ -1,4 +1,4 @@
--- The text is inside the buffer. Assumes nothing.
+-- The buffer is long enough, so what is handed on is the text, whole. Assumes nothing.
 use native.Mathlib.Omega.{arith}
 use lib.ListN.{length-take}
 use Rattle.patch_text.proofs.Laid.{prints-within}
@@ -7,7 +7,7 @@ use Rattle.lay.proofs.print_patch.Statement.{statement}
 use Rattle.lay.proofs.print_patch.Tie as tie
 use Rattle.lay.proofs.print_patch.Reads as reads
 use Rattle.lay.proofs.print_patch.Lts as lts
-use Rattle.io.proofs.write_all.Reads as write-all-reads
+use Rattle.lay.proofs.write_text.Reads as write-text-reads
 use Rattle.patch_text.proofs.program_text.Reads as program-text-reads
 
 -- src/main.rt:67:45
@@ -20,17 +20,17 @@ program-text-requires c κs = search needs
 
 -- src/main.rt:68:40
 array-share-prefix-out : tie.Need-array-share-prefix-out
-array-share-prefix-out c = prints-within (c .before .program-text .ensures)
+array-share-prefix-out c = prints-within (c .before .program-text .ensures .text)
 
 -- src/main.rt:68:40
-slice-aggregate-write-all : tie.Need-slice-aggregate-write-all
-slice-aggregate-write-all c =
-    let inside = prints-within (c .before .before .program-text .ensures) in
+slice-aggregate-write-text : tie.Need-slice-aggregate-write-text
+slice-aggregate-write-text c =
+    let inside = prints-within (c .before .before .program-text .ensures .text) in
     simp length-take (omega arith)
 
 -- src/main.rt:68:5
-write-all-requires : tie.Need-write-all-requires
-write-all-requires c κs = search needs
+write-text-requires : tie.Need-write-text-requires
+write-text-requires c κs = c .before .before .program-text .ensures .front (search needs)
 
 -- src/main.rt:65:1
 returns : tie.Need-returns
@@ -43,6 +43,6 @@ print-patch-spec =
     slice-aggregate-program-text
     program-text-requires
     array-share-prefix-out
-    slice-aggregate-write-all
-    write-all-requires
+    slice-aggregate-write-text
+    write-text-requires
     returns)

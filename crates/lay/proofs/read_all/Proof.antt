@@ -1,4 +1,5 @@
 -- The turns that are left fall, and the input keeps its length. Assumes nothing.
+use Prim.Native.Nat.{_≤_}
 use mathlib.Core.Path.{_≡_}
 use lib.ListN.{length}
 use borrow.Author.Needs.{needs}
@@ -6,7 +7,7 @@ use Rattle.lay.proofs.read_all.Statement.{statement}
 use Rattle.lay.proofs.read_all.Tie as tie
 
 abbrev Inv-loop : tie.InvT-loop
-Inv-loop input₀ p₀ turns₀ input p turns = length input ≡ length input₀
+Inv-loop input₀ p₀ turns₀ input p turns = (length input ≡ length input₀) × (p .length ≤ length input₀)
 
 abbrev μ-loop : tie.MeasureT-loop
 μ-loop input₀ p₀ turns₀ input p turns = turns

@@ -1,5 +1,6 @@
 -- The slices have the program's lengths. Assumes nothing.
 use Rattle.patch_text.specs.Text.{printed}
+use Rattle.patch_text.proofs.Room.{prints-file}
 use borrow.Author.Needs.{needs}
 use Rattle.patch_text.proofs.program_text.Statement.{statement}
 use Rattle.patch_text.proofs.program_text.Tie as tie
@@ -38,7 +39,7 @@ same-length c = search needs
 -- src/lib.rt:80:1
 returns : tie.Need-returns
 unfolding printed
-returns c = c .before .before .before .before .before .before .before .lay-text .ensures
+returns c = prints-file _ _ _ _ (c .before .before .before .before .before .before .before .lay-text .ensures)
 
 pub program-text-spec : {M : Type 1} → statement M
 program-text-spec =
