@@ -21,6 +21,9 @@
  *   11  all lines are well formed, but the points don't fit the slices
  *
  * The checks are made in this order; a not-a-number is within no bounds. At a refusal every other field is 0.
+ *
+ * A slice that stays as it was, or the part of one, does so bit for bit, but for one thing: what is proved treats all
+ * not-a-numbers as one, so of a float slice that held one it says that it holds one still, not with which payload.
  */
 #ifndef YARROWBLEAT_H
 #define YARROWBLEAT_H

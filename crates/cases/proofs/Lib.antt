@@ -1,3 +1,5 @@
--- The two tables.
+-- The tables' theorems.
 pub mod Clouds
 pub mod Starred
+pub mod Tries
+pub mod Texts

@@ -1,4 +1,3 @@
 -- Laws of the definitions, leaves first.
 pub mod Refusals
 pub mod Accepted
-pub mod Starred

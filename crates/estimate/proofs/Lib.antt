@@ -2,4 +2,3 @@ pub mod Least
 pub mod Looking
 pub mod Sampling
 pub mod Outcome
-pub mod Starred

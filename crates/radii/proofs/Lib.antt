@@ -4,4 +4,3 @@ pub mod Looking
 pub mod Densities
 pub mod Spaced
 pub mod Chosen
-pub mod Starred

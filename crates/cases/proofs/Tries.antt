@@ -1,0 +1,8 @@
+-- The cases of how many first points are tried, by computation. Assumes nothing.
+use mathlib.Core.Path.{refl}
+use Rattle.patch.specs.Search.{isSecond, isThird, thirdOf, secondOf, firstOf, numbers, searching}
+use Rattle.cases.specs.Tries.{TryCases}
+
+pub try-cases : TryCases
+unfolding isSecond isThird thirdOf secondOf firstOf numbers searching
+try-cases = record { last-try = refl; too-late = refl; used-is-no-try = refl }

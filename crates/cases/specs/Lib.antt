@@ -1,0 +1,4 @@
+-- What the crate's theorems say.
+pub mod Starred
+pub mod Tries
+pub mod Texts
