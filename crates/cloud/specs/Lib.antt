@@ -2,3 +2,4 @@
 pub mod Format
 pub mod Answers
 pub mod Ready
+pub mod Reading

@@ -1,4 +1,4 @@
--- What the inner functions require.
+-- What the inner functions require, and promise to each other.
 use Prim.Native.Nat.{ℕ, _-_, _*_, _^_, _≤_, _<_}
 use mathlib.Core.Path.{_≡_}
 use mathlib.Core.List.{List, map}
@@ -8,6 +8,9 @@ use Rattle.cloud.specs.Format.{digits, body, Lines, good, wrong}
 use Rattle.cloud.specs.Answers.{flat, over}
 use Rattle.cloud.specs.declared.line.Triple.{Triple}
 use Rattle.cloud.specs.declared.line.Point.{Point}
+use Rattle.cloud.specs.declared.number.NumberRead.{NumberRead}
+use Rattle.cloud.specs.declared.line.TripleRead.{TripleRead}
+use Rattle.cloud.specs.declared.line.PointRead.{PointRead}
 
 -- the bytes from at to end are digits, six at most
 pub record Digits (s : List ℕ) (at end : ℕ) : Type 0 where
@@ -33,3 +36,16 @@ unfoldable pub laid : (Point → Triple) → Lines → List Float → List Float
 unfolding flat over
 laid part (good ps) old = over (flat (map part ps)) old
 laid part (wrong line) old = old
+
+-- the place behind what was read, 0 where that is malformed
+unfoldable pub numberEnd : NumberRead → ℕ
+numberEnd (NumberRead.Number value next) = next
+numberEnd NumberRead.Malformed = 0
+
+unfoldable pub tripleEnd : TripleRead → ℕ
+tripleEnd (TripleRead.Numbers triple next) = next
+tripleEnd TripleRead.Malformed = 0
+
+unfoldable pub pointEnd : PointRead → ℕ
+pointEnd (PointRead.Line point next) = next
+pointEnd PointRead.Malformed = 0

@@ -14,10 +14,10 @@ ghost use mathlib.Core.Path.{_≡_};
 ghost use lib.ListN.{length, drop};
 ghost use Rattle.cloud.specs.Format.{body, under};
 ghost use Rattle.cloud.specs.Answers.{Outcome, outcome, judged, told, Answered};
+use crate::line::radius_at;
 use crate::points::Counted;
 use crate::points::count_points;
 use crate::points::store_points;
-use crate::reader::radius_of;
 
 // The answer's number, 0 where the file was accepted; the detail, the first malformed line from 1 at refusal 10; and what was read.
 #[repr(C)]
@@ -72,7 +72,7 @@ fn read_points(
 pub fn read_cloud(bytes: &[u8], points: &mut [f32], normals: &mut [f32]) -> CloudRead
     ensures { λ r. ⌜ Answered (outcome (now (bytes .entry)) (length (now (points .entry))) (length (now (normals .entry)))) (now (points .entry)) (now (normals .entry)) r (now (points .exit)) (now (normals .exit)) ⌝ }
 {
-    match radius_of(bytes) {
+    match radius_at(bytes, 0) {
         NumberRead::Number { value, next } => read_points(bytes, next, value, points, normals),
         NumberRead::Malformed => refused(10, 1),
     }

@@ -1,8 +1,10 @@
 // The lines of the file: numbers, each ended by a comma or, at the end of its line, by a line feed.
 ghost use mathlib.Core.Path.{_≡_};
-ghost use lib.ListN.{drop};
+ghost use Prim.Native.Nat.{_≤_};
+ghost use lib.ListN.{length, drop};
 ghost use Rattle.cloud.specs.Format.{field, triple, point};
 ghost use Rattle.cloud.specs.Answers.{numberMeans, tripleMeans, pointMeans};
+ghost use Rattle.cloud.specs.Ready.{numberEnd, tripleEnd, pointEnd};
 use crate::number::NumberRead;
 use crate::number::byte_is;
 use crate::number::number_at;
@@ -35,6 +37,7 @@ pub enum PointRead {
 // A number and the byte that ends it.
 pub fn field_at(s: &[u8], at: usize, end: u8) -> NumberRead
     ensures { λ r. ⌜ numberMeans (now (s .entry)) r ≡ field end (drop at (now (s .entry))) ⌝ }
+    ensures { λ r. ⌜ numberEnd r ≤ length (now (s .entry)) ⌝ }
 {
     match number_at(s, at) {
         NumberRead::Number { value, next } => {
@@ -61,6 +64,7 @@ pub fn radius_at(s: &[u8], at: usize) -> NumberRead
 // Three numbers, of which the last is ended by the byte last.
 pub fn triple_at(s: &[u8], at: usize, last: u8) -> TripleRead
     ensures { λ r. ⌜ tripleMeans (now (s .entry)) r ≡ triple last (drop at (now (s .entry))) ⌝ }
+    ensures { λ r. ⌜ tripleEnd r ≤ length (now (s .entry)) ⌝ }
 {
     let NumberRead::Number {
         value: x,
@@ -88,6 +92,7 @@ pub fn triple_at(s: &[u8], at: usize, last: u8) -> TripleRead
 // A point's line.
 pub fn point_at(s: &[u8], at: usize) -> PointRead
     ensures { λ r. ⌜ pointMeans (now (s .entry)) r ≡ point (drop at (now (s .entry))) ⌝ }
+    ensures { λ r. ⌜ pointEnd r ≤ length (now (s .entry)) ⌝ }
 {
     let TripleRead::Numbers {
         triple: position,

@@ -10,6 +10,8 @@ use crate::line::Point;
 use crate::line::PointRead;
 use crate::line::Triple;
 use crate::line::point_at;
+use crate::reader::LineRead;
+use crate::reader::line_of;
 
 // How many lines there are, or the number of the first malformed one, from 1.
 pub enum Counted {
@@ -54,14 +56,16 @@ pub fn store_points(s: &[u8], from: usize, points: &mut [f32], normals: &mut [f3
     let mut at = from;
     let mut i: usize = 0;
     while at < s.len() {
-        match point_at(s, at) {
-            PointRead::Line { point, next } => {
+        let step = line_of(s, at);
+        let read = step.read;
+        match read {
+            LineRead::Point { point } => {
                 put(points, i, point.position);
                 put(normals, i, point.normal);
                 i += 3;
-                at = next;
+                at = step.at;
             }
-            PointRead::Malformed => {
+            LineRead::Malformed => {
                 return;
             }
         }

@@ -1,51 +1,71 @@
-// A reader that holds the file's bytes and remembers how far it has read. Its functions take it apart and call those on a slice
-// and a place; a caller with a plain slice uses `radius_of`.
+// A reader of the points' lines: it holds the file's bytes and remembers how far it has read.
+//
+// `next_line` takes it apart, leaves the work to `step_at`, which takes a slice and a place, and hands it back moved on. A caller with a plain slice uses `line_of`.
 ghost use mathlib.Core.Path.{_≡_};
-ghost use lib.ListN.{drop};
-ghost use Rattle.cloud.specs.Format.{field};
-ghost use Rattle.cloud.specs.Format.{point as pointOf};
-ghost use Rattle.cloud.specs.Answers.{numberMeans, pointMeans};
+ghost use Rattle.cloud.specs.Reading.{Stepped};
+use crate::line::Point;
 use crate::line::PointRead;
 use crate::line::point_at;
-use crate::line::radius_at;
-use crate::number::NumberRead;
 
 pub struct Reader<'a> {
     pub src: &'a [u8],
     pub at: usize,
 }
 
-// At the start of the bytes.
-pub fn new<'a>(src: &'a [u8]) -> Reader<'a>
-    ensures { λ r. ⌜ (r .src ≡ src .entry) × (r .at ≡ 0) ⌝ }
-{
-    Reader { src, at: 0 }
+pub enum LineRead {
+    Point { point: Point },
+    Malformed,
 }
 
-// At another place of the same bytes, as the one after what was read.
-pub fn moved<'a>(r: Reader<'a>, at: usize) -> Reader<'a>
-    ensures { λ q. ⌜ (q .src ≡ r .entry .src) × (q .at ≡ at) ⌝ }
-{
-    Reader { src: r.src, at }
+// What was read, and the place then: behind the line, or where it was if the line is malformed.
+pub struct Step {
+    pub read: LineRead,
+    pub at: usize,
 }
 
-// The radius line at the reader's place.
-pub fn radius<'a>(r: Reader<'a>) -> NumberRead
-    ensures { λ n. ⌜ numberMeans (now (r .entry .src)) n ≡ field 10 (drop (r .entry .at) (now (r .entry .src))) ⌝ }
+// The reader, moved on, and what it read.
+pub struct Moved<'a> {
+    pub reader: Reader<'a>,
+    pub read: LineRead,
+}
+
+// The point's line at a place.
+fn step_at(s: &[u8], at: usize) -> Step
+    ensures { λ r. ⌜ Stepped (now (s .entry)) at (r .read) (r .at) ⌝ }
 {
-    radius_at(r.src, r.at)
+    match point_at(s, at) {
+        PointRead::Line { point, next } => Step {
+            read: LineRead::Point { point },
+            at: next,
+        },
+        PointRead::Malformed => Step {
+            read: LineRead::Malformed,
+            at,
+        },
+    }
 }
 
 // The point's line at the reader's place.
-pub fn point<'a>(r: Reader<'a>) -> PointRead
-    ensures { λ p. ⌜ pointMeans (now (r .entry .src)) p ≡ pointOf (drop (r .entry .at) (now (r .entry .src))) ⌝ }
+pub fn next_line<'a>(r: Reader<'a>) -> Moved<'a>
+    ensures { λ m. ⌜ (m .reader .src ≡ r .entry .src) × Stepped (now (r .entry .src)) (r .entry .at) (m .read) (m .reader .at) ⌝ }
 {
-    point_at(r.src, r.at)
+    let step = step_at(r.src, r.at);
+    Moved {
+        reader: Reader {
+            src: r.src,
+            at: step.at,
+        },
+        read: step.read,
+    }
 }
 
-// The radius line of a file.
-pub fn radius_of(src: &[u8]) -> NumberRead
-    ensures { λ n. ⌜ numberMeans (now (src .entry)) n ≡ field 10 (now (src .entry)) ⌝ }
+// What a reader at a place of the bytes reads.
+pub fn line_of(src: &[u8], at: usize) -> Step
+    ensures { λ r. ⌜ Stepped (now (src .entry)) at (r .read) (r .at) ⌝ }
 {
-    radius(new(src))
+    let m = next_line(Reader { src, at });
+    Step {
+        read: m.read,
+        at: m.reader.at,
+    }
 }

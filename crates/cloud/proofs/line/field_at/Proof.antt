@@ -5,6 +5,7 @@ use borrow.Author.Needs.{needs}
 use lib.ListN.{drop}
 use lib.Seq.{drop-drop}
 use Rattle.cloud.specs.Answers.{numberMeans}
+use Rattle.cloud.specs.Ready.{numberEnd}
 use Rattle.cloud.specs.Format.{parsed, number, field, then}
 use Rattle.cloud.proofs.Bytes.{starts-inside}
 use Rattle.cloud.proofs.Means.{number-got, number-not}
@@ -31,16 +32,21 @@ enum-told : tie.Need-enum-told
 enum-told c = search needs
 
 returns : tie.Need-returns
-unfolding numberMeans field then
-returns c = let s = c .before .before .before .before .before .before .before .args .s .now in let e = read (c .before .before .before) in rw (e, sym (c .before .byte-is .ensures) ∙ c .if1 .taken, drop-drop 1 (c .before .before .before .value .given .0 .1 .0) s)
+unfolding numberMeans numberEnd field then
+returns c =
+    let s = c .before .before .before .before .before .before .before .args .s .now in
+    let e = read (c .before .before .before) in
+    let end = sym (c .before .byte-is .ensures) ∙ c .if1 .taken in
+    let next = c .before .before .before .value .given .0 .1 .0 in
+    (rw (e, end, drop-drop 1 next s), omega (arith, starts-inside (c .before .before .before .before .before .before .before .args .end) s next end))
 
 returns-2 : tie.Need-returns-2
-unfolding numberMeans field then
-returns-2 c = let e = read (c .before .before .before) in rw (e, sym (c .before .byte-is .ensures) ∙ c .if1 .left)
+unfolding numberMeans numberEnd field then
+returns-2 c = let e = read (c .before .before .before) in (rw (e, sym (c .before .byte-is .ensures) ∙ c .if1 .left), omega arith)
 
 returns-3 : tie.Need-returns-3
-unfolding numberMeans field then
-returns-3 c = let e = number-not (c .before .before .before .before .args .s .now) _ _ (c .before .before .number-at .ensures) (c .enum-told .given .1) in rw e
+unfolding numberMeans numberEnd field then
+returns-3 c = let e = number-not (c .before .before .before .before .args .s .now) _ _ (c .before .before .number-at .ensures) (c .enum-told .given .1) in (rw e, omega arith)
 
 pub field-at-spec : {M : Type 1} → statement M
 field-at-spec =

@@ -19,7 +19,7 @@ abbrev μ-loop : tie.MeasureT-loop
 
 -- the line that was read
 read : (c : tie.After-next Inv-loop μ-loop) → point (drop (c .before .before .before .before .loop .at) (c .before .before .before .before .before .before .args .s .now)) ≡ parsed (c .next .given .0 .0) (drop (c .next .given .0 .1 .0) (c .before .before .before .before .before .before .args .s .now))
-read c = point-got (c .before .before .before .before .before .before .args .s .now) _ _ _ _ (c .before .before .point-at .ensures) (c .next .given .1)
+read c = point-got (c .before .before .before .before .before .before .args .s .now) _ _ _ _ (c .before .before .point-at .ensures .0) (c .next .given .1)
 
 loop-holds : tie.Need-loop-holds Inv-loop μ-loop
 loop-holds c = counting-start _ _
@@ -46,7 +46,7 @@ add-t9 : tie.Need-add-t9 Inv-loop μ-loop
 add-t9 c = let i = c .before .before .before .before .loop .inv .few in omega arith
 
 returns : tie.Need-returns Inv-loop μ-loop
-returns c = counting-wrong _ _ _ _ (c .before .before .before .before .loop .inv) (c .before .before .before .loop-test .taken) (point-not (c .before .before .before .before .before .before .args .s .now) _ _ (c .before .before .point-at .ensures) (c .enum-told .given .1))
+returns c = counting-wrong _ _ _ _ (c .before .before .before .before .loop .inv) (c .before .before .before .loop-test .taken) (point-not (c .before .before .before .before .before .before .args .s .now) _ _ (c .before .before .point-at .ensures .0) (c .enum-told .given .1))
 
 returns-2 : tie.Need-returns-2 Inv-loop μ-loop
 returns-2 c = counting-end _ _ _ _ (c .before .loop .inv) (c .loop-test .left)

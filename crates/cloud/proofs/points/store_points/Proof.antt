@@ -6,7 +6,7 @@ use borrow.Author.Needs.{needs}
 use lib.ListN.{length, drop}
 use Rattle.cloud.specs.Format.{parsed, point}
 use Rattle.cloud.specs.Ready.{Fitting}
-use Rattle.cloud.proofs.Means.{point-got, point-not}
+use Rattle.cloud.proofs.Means.{step-got, step-not}
 use Rattle.cloud.proofs.Shorter.{point-shorter}
 use Rattle.cloud.proofs.Stored.{Storing, storing-start, storing-room, storing-next, storing-end, storing-never}
 use Rattle.cloud.proofs.points.store_points.Statement.{statement}
@@ -20,21 +20,21 @@ abbrev μ-loop : tie.MeasureT-loop
 μ-loop s from points₀ normals₀ at₀ i₀ points normals at i = length s - at
 
 -- the line that was read
-read : (c : tie.After-point Inv-loop μ-loop) → point (drop (c .before .before .before .before .loop .at) (c .before .before .before .before .before .before .before .before .args .s .now)) ≡ parsed (c .point .given .0 .0) (drop (c .point .given .0 .1 .0) (c .before .before .before .before .before .before .before .before .args .s .now))
-read c = point-got (c .before .before .before .before .before .before .before .before .args .s .now) _ _ _ _ (c .before .before .point-at .ensures) (c .point .given .1)
+read : (c : tie.After-read Inv-loop μ-loop) → point (drop (c .before .before .before .before .loop .at) (c .before .before .before .before .before .before .before .before .args .s .now)) ≡ parsed (c .read .given .0 .0) (drop (c .before .before .line-of .result .at) (c .before .before .before .before .before .before .before .before .args .s .now))
+read c = step-got (c .before .before .before .before .before .before .before .before .args .s .now) (c .before .before .before .before .loop .at) _ _ _ (c .before .before .line-of .ensures) (c .read .given .1)
 
 -- there is room for it
-room : (c : tie.After-point Inv-loop μ-loop) → (c .before .before .before .before .loop .i + 3 ≤ length (c .before .before .before .before .before .before .before .before .args .points .now)) × (c .before .before .before .before .loop .i + 3 ≤ length (c .before .before .before .before .before .before .before .before .args .normals .now))
-room c = let f = c .before .before .before .before .before .before .before .before .pre in storing-room _ _ _ _ f _ _ _ _ (c .before .before .before .before .loop .inv .2 f) (c .before .before .before .loop-test .taken) _ (c .point .given .0 .1 .0) (read c)
+room : (c : tie.After-read Inv-loop μ-loop) → (c .before .before .before .before .loop .i + 3 ≤ length (c .before .before .before .before .before .before .before .before .args .points .now)) × (c .before .before .before .before .loop .i + 3 ≤ length (c .before .before .before .before .before .before .before .before .args .normals .now))
+room c = let f = c .before .before .before .before .before .before .before .before .pre in storing-room _ _ _ _ f _ _ _ _ (c .before .before .before .before .loop .inv .2 f) (c .before .before .before .loop-test .taken) _ (c .before .before .line-of .result .at) (read c)
 
 loop-holds : tie.Need-loop-holds Inv-loop μ-loop
 loop-holds c = (refl, refl, λ f. storing-start _ _ _ _ f)
 
-point-at-requires : tie.Need-point-at-requires Inv-loop μ-loop
-point-at-requires c κs = search needs
+line-of-requires : tie.Need-line-of-requires Inv-loop μ-loop
+line-of-requires c κs = search needs
 
-enum-known-point : tie.Need-enum-known-point Inv-loop μ-loop
-enum-known-point c = search needs
+enum-known-read : tie.Need-enum-known-read Inv-loop μ-loop
+enum-known-read c = search needs
 
 put-requires : tie.Need-put-requires Inv-loop μ-loop
 put-requires c κs = let h = room (c .before .before) .0 in let e = c .before .before .before .before .before .before .loop .inv .0 in omega arith
@@ -46,7 +46,7 @@ add-i : tie.Need-add-i Inv-loop μ-loop
 add-i c = let h = room (c .before .before .before .before .before .before .before .before .before) .0 in let g = c .before .before .before .before .before .before .before .before .before .before .before .before .before .before .before .before .before .good in omega arith
 
 loop-less : tie.Need-loop-less Inv-loop μ-loop
-loop-less c = let n = c .before .before .before .before .before .before .before .before .before .point .given in let h = point-shorter (c .before .before .before .before .before .before .before .before .before .before .before .before .before .before .before .before .before .args .s .now) (c .before .before .before .before .before .before .before .before .before .before .before .before .before .loop .at) (n .0 .1 .0) (n .0 .0) (read (c .before .before .before .before .before .before .before .before .before)) in omega arith
+loop-less c = let h = point-shorter (c .before .before .before .before .before .before .before .before .before .before .before .before .before .before .before .before .before .args .s .now) (c .before .before .before .before .before .before .before .before .before .before .before .before .before .loop .at) (c .before .before .before .before .before .before .before .before .before .before .before .line-of .result .at) (c .before .before .before .before .before .before .before .before .before .read .given .0 .0) (read (c .before .before .before .before .before .before .before .before .before)) in omega arith
 
 loop-again : tie.Need-loop-again Inv-loop μ-loop
 loop-again c =
@@ -64,7 +64,7 @@ same-length-2 : tie.Need-same-length-2 Inv-loop μ-loop
 same-length-2 c = c .before .before .before .before .loop .inv .1
 
 returns : tie.Need-returns Inv-loop μ-loop
-returns c = let f = c .before .before .before .before .before .before .before .before .pre in absurd (storing-never _ _ _ _ f _ _ _ _ (c .before .before .before .before .loop .inv .2 f) (c .before .before .before .loop-test .taken) (point-not (c .before .before .before .before .before .before .before .before .args .s .now) _ _ (c .before .before .point-at .ensures) (c .enum-told .given .1)))
+returns c = let f = c .before .before .before .before .before .before .before .before .pre in absurd (storing-never _ _ _ _ f _ _ _ _ (c .before .before .before .before .loop .inv .2 f) (c .before .before .before .loop-test .taken) (step-not (c .before .before .before .before .before .before .before .before .args .s .now) (c .before .before .before .before .loop .at) _ _ (c .before .before .line-of .ensures) (c .enum-told .given .1)))
 
 same-length-3 : tie.Need-same-length-3 Inv-loop μ-loop
 same-length-3 c = c .before .loop .inv .0
@@ -82,8 +82,8 @@ store-points-spec =
     Inv-loop
     μ-loop
     loop-holds
-    point-at-requires
-    enum-known-point
+    line-of-requires
+    enum-known-read
     put-requires
     put-requires-2
     add-i
