@@ -19,4 +19,5 @@ pub mod CutOrder
 pub mod RootExamples
 pub mod Compare
 pub mod Cuts
+pub mod CutTypes
 pub mod AcosExamples

@@ -1,4 +1,5 @@
--- An f32 quotient by a finite number above 0 keeps the order (`div-monotone`), infinities included. Assumes nothing.
+-- An f32 quotient by a finite number above 0 keeps the order (`div-monotone`), infinities included; one of unsigned numbers is unsigned
+-- (`div-unsigned`) and falls as its divisor grows (`div-antitone`). Assumes nothing.
 use mathlib.Core.Path.{_≡_, refl, sym, subst}
 use Prim.Native.Nat.{ℕ, zero, suc, _+_, _*_, _≤_, _<_}
 use native.Mathlib.Nat.{add-mul, mul-comm, mul-pos, mul-le-mul-right, mul-mul-mul-comm}
@@ -7,12 +8,13 @@ use mathlib.Core.Bool.{Bool, true, false, not}
 use lib.IntN.{ℤ}
 use lib.Dec.{T, ltb→lt, eqb·suc-zero}
 use lib.Ieee.{Float, nan, inf, fin, binary32, unlike, up, down, round, div, le, isNan}
-use lib.Ieee.Fits.{up-pos}
+use lib.Ieee.Fits.{up-pos, down-pos}
+use lib.Ieee.Order.{round-mono}
 use lib.Ieee.Scale.{finite}
-use lib.Ieee.Positive.{num, den, den-pos, positive}
+use lib.Ieee.Positive.{num, den, den-pos, positive, le→cross}
 use Rattle.numbers.specs.Rounded.{_⊘_}
-use Rattle.numbers.proofs.OrderLaws.{plus, minus, le→side, le-refl, le-right, le-top, bottom-le, top-le}
-use Rattle.numbers.proofs.RoundedOrder.{Rounds, above, under, rounds-le, rounds-number}
+use Rattle.numbers.proofs.OrderLaws.{unsigned, plus, minus, le→side, le-refl, le-right, le-top, bottom-le, top-le}
+use Rattle.numbers.proofs.RoundedOrder.{Rounds, above, under, rounds-le, rounds-number, round-unsigned}
 
 divisor-pos : (c : Float) → T (positive c) → 0 < num c
 divisor-pos nan p = absurd p
@@ -71,3 +73,38 @@ div-monotone (fin s m e) nan c p h = absurd (unfold le in h)
 div-monotone (fin s m e) (inf true) c p h = absurd (unfold le in h)
 div-monotone (fin s m e) (inf false) c p h = rw (inf-divided false c p) (le-top (fin s m e ⊘ c) (div-number (fin s m e) c p (unfold isNan in tt)))
 div-monotone (fin s m e) (fin t n d) c p h = div-finite (fin s m e) (fin t n d) c tt tt p h
+
+-- ---- of an unsigned number
+pub div-unsigned : (x c : Float) → T (finite x) → T (unsigned x) → T (positive c) → T (unsigned (x ⊘ c))
+div-unsigned nan c f u p = absurd f
+div-unsigned (inf s) c f u p = absurd f
+div-unsigned (fin true m e) c f u p = absurd u
+div-unsigned (fin false m e) nan f u p = absurd p
+div-unsigned (fin false m e) (inf t) f u p = absurd p
+div-unsigned (fin false m e) (fin true n d) f u p = absurd p
+div-unsigned (fin false m e) (fin false zero d) f u p = absurd p
+div-unsigned (fin false m e) (fin false (suc n) d) f u p =
+    rw (divided-is false m e n d) (round-unsigned binary32 (m * up e * down d) (suc n * up d * down e))
+
+pub div-antitone : (x c d : Float) → T (finite x) → T (unsigned x) → T (positive c) → T (positive d) → T (le c d)
+    → T (le (x ⊘ d) (x ⊘ c))
+div-antitone nan c d f u p q h = absurd f
+div-antitone (inf s) c d f u p q h = absurd f
+div-antitone (fin true m e) c d f u p q h = absurd u
+div-antitone (fin false m e) nan d f u p q h = absurd p
+div-antitone (fin false m e) (inf t) d f u p q h = absurd p
+div-antitone (fin false m e) (fin true n i) d f u p q h = absurd p
+div-antitone (fin false m e) (fin false zero i) d f u p q h = absurd p
+div-antitone (fin false m e) (fin false (suc n) i) nan f u p q h = absurd q
+div-antitone (fin false m e) (fin false (suc n) i) (inf t) f u p q h = absurd q
+div-antitone (fin false m e) (fin false (suc n) i) (fin true k j) f u p q h = absurd q
+div-antitone (fin false m e) (fin false (suc n) i) (fin false zero j) f u p q h = absurd q
+div-antitone (fin false m e) (fin false (suc n) i) (fin false (suc k) j) f u p q h =
+    rw (divided-is false m e n i, divided-is false m e k j)
+    (round-mono binary32 (m * up e * down j) (suc k * up j * down e) (m * up e * down i) (suc n * up i * down e)
+    (mul-pos (mul-pos (omega arith) (up-pos j)) (down-pos e)) (mul-pos (mul-pos (omega arith) (up-pos i)) (down-pos e))
+    (go (m * up e) (down e) (suc n * up i) (down i) (suc k * up j) (down j)
+    (le→cross (fin false (suc n) i) (fin false (suc k) j) p q h)))
+  where
+    go : (a e n i k j : ℕ) → n * j ≤ k * i → a * j * (n * e) ≤ a * i * (k * e)
+    go a e n i k j h = let l = mul-le-mul-right (a * e) h in omega (arith, l)

@@ -1,6 +1,6 @@
 -- The scope's plain path, `simple_triangulate`: the faces (i, a, b) with a < b < i among near points, at most 10,000. Definitions only.
 -- The Rust's candidates of i at or above i never form a face, by its own test, so only those below i stand here. It stops as soon as
--- 10,000 faces are laid, which leaves the first 10,000 of all.
+-- 10,000 faces are laid, which leaves the first 10,000 of all. Crate `plain_loop` has its loops, and proves that.
 use Prim.Native.Nat.{ℕ, _/_}
 use mathlib.Core.Bool.{Bool, cond, _&&_}
 use mathlib.Core.List.{List, [], _∷_, _++_}
