@@ -8,7 +8,7 @@ use lib.ListN.{length, drop, length-drop, drop-of-length-le}
 use Rattle.cloud.specs.Format.{Parsed, parsed, malformed, point, Lines, good, wrong, ahead, lines, body}
 use Rattle.cloud.specs.Answers.{counted}
 use Rattle.cloud.specs.declared.line.Point.{Point}
-use Rattle.cloud.specs.declared.points.Counted.{Counted}
+use Rattle.cloud.specs.declared.point_lines.Counted.{Counted}
 use Rattle.cloud.proofs.Shorter.{point-shorter}
 
 -- ---- one line of the definition

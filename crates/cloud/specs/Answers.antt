@@ -13,7 +13,7 @@ use Rattle.cloud.specs.declared.line.Triple.{Triple}
 use Rattle.cloud.specs.declared.line.Point.{Point}
 use Rattle.cloud.specs.declared.line.TripleRead.{TripleRead}
 use Rattle.cloud.specs.declared.line.PointRead.{PointRead}
-use Rattle.cloud.specs.declared.points.Counted.{Counted}
+use Rattle.cloud.specs.declared.point_lines.Counted.{Counted}
 use Rattle.cloud.specs.declared.CloudRead.{CloudRead}
 
 -- ---- the enums: a value with `next` stands for the value and the bytes s from `next` on

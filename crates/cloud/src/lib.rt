@@ -3,7 +3,7 @@
 // What the file means is the definition `file` of specs/Format.antt, and what the reader answers `outcome` of specs/Answers.antt.
 mod line;
 mod number;
-mod points;
+mod point_lines;
 pub mod reader;
 
 pub use line::Point;
@@ -15,9 +15,9 @@ ghost use lib.ListN.{length, drop};
 ghost use Rattle.cloud.specs.Format.{body, under};
 ghost use Rattle.cloud.specs.Answers.{Outcome, outcome, judged, told, Answered};
 use crate::line::radius_at;
-use crate::points::Counted;
-use crate::points::count_points;
-use crate::points::store_points;
+use crate::point_lines::Counted;
+use crate::point_lines::count_points;
+use crate::point_lines::store_points;
 
 // The answer's number, 0 where the file was accepted; the detail, the first malformed line from 1 at refusal 10; and what was read.
 #[repr(C)]

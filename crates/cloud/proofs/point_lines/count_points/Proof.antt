@@ -1,4 +1,4 @@
--- `cloud::points::count_points` meets its contract: the lines that were counted and those that are left are all. The measure is the bytes left. Assumes nothing.
+-- `cloud::point_lines::count_points` meets its contract: the lines that were counted and those that are left are all. The measure is the bytes left. Assumes nothing.
 use Prim.Native.Nat.{_-_}
 use mathlib.Core.Path.{_≡_}
 use native.Mathlib.Omega.{arith}
@@ -8,8 +8,8 @@ use Rattle.cloud.specs.Format.{parsed, point}
 use Rattle.cloud.proofs.Lines.{Counting, counting-start, counting-end, counting-wrong, counting-next}
 use Rattle.cloud.proofs.Means.{point-got, point-not}
 use Rattle.cloud.proofs.Shorter.{point-shorter}
-use Rattle.cloud.proofs.points.count_points.Statement.{statement}
-use Rattle.cloud.proofs.points.count_points.Tie as tie
+use Rattle.cloud.proofs.point_lines.count_points.Statement.{statement}
+use Rattle.cloud.proofs.point_lines.count_points.Tie as tie
 
 abbrev Inv-loop : tie.InvT-loop
 Inv-loop s from count₀ at₀ count at = Counting s from count at

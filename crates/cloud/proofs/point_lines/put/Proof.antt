@@ -1,10 +1,10 @@
--- `cloud::points::put` meets its contract: three stores are a run of stores. Assumes nothing.
+-- `cloud::point_lines::put` meets its contract: three stores are a run of stores. Assumes nothing.
 use native.Mathlib.Omega.{arith}
 use borrow.Author.Needs.{needs}
 use lib.ListN.{length-set}
 use Rattle.cloud.proofs.Stored.{put-three}
-use Rattle.cloud.proofs.points.put.Statement.{statement}
-use Rattle.cloud.proofs.points.put.Tie as tie
+use Rattle.cloud.proofs.point_lines.put.Statement.{statement}
+use Rattle.cloud.proofs.point_lines.put.Tie as tie
 
 mul-d : tie.Need-mul-d
 mul-d c = search needs

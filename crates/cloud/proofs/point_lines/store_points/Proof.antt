@@ -1,4 +1,4 @@
--- `cloud::points::store_points` meets its contract: the points stored and those left are all; a malformed line is never met. The measure is the bytes left. Assumes nothing.
+-- `cloud::point_lines::store_points` meets its contract: the points stored and those left are all; a malformed line is never met. The measure is the bytes left. Assumes nothing.
 use Prim.Native.Nat.{_+_, _-_, _≤_}
 use mathlib.Core.Path.{_≡_, refl, _∙_}
 use native.Mathlib.Omega.{arith}
@@ -9,8 +9,8 @@ use Rattle.cloud.specs.Ready.{Fitting}
 use Rattle.cloud.proofs.Means.{step-got, step-not}
 use Rattle.cloud.proofs.Shorter.{point-shorter}
 use Rattle.cloud.proofs.Stored.{Storing, storing-start, storing-room, storing-next, storing-end, storing-never}
-use Rattle.cloud.proofs.points.store_points.Statement.{statement}
-use Rattle.cloud.proofs.points.store_points.Tie as tie
+use Rattle.cloud.proofs.point_lines.store_points.Statement.{statement}
+use Rattle.cloud.proofs.point_lines.store_points.Tie as tie
 
 abbrev Inv-loop : tie.InvT-loop
 Inv-loop s from points₀ normals₀ at₀ i₀ points normals at i =
