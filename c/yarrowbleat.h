@@ -1,11 +1,17 @@
 /*
- * Yarrowbleat for C: the proved port of ball pivoting, in target/staticlib/libexports.a.
+ * Yarrowbleat for C: the proved port of ball pivoting, in libyarrowbleat.a (in the repository: libexports.a).
  *
  * A slice is a pointer and the number of its entries (not bytes); a null pointer with length 0 is an empty one. What
  * can't be checked is the caller's: a pointer is aligned and good for its length, a slice that isn't const overlaps no
- * other, a bool is 0 or 1. Nothing is allocated and nothing is kept between calls.
+ * other, a bool is 0 or 1.
  *
- * Every call of the second half answers a number, 0 if it accepts, and a detail, 0 where none is named:
+ * Nothing is allocated and nothing is kept between calls: each is a function of what it is lent, and any number of
+ * threads may call at once, as long as no slice that isn't const is lent to two of them.
+ *
+ * Call yb_check_layout() once before the rest: false says that the library is not the one of this header.
+ *
+ * Most calls of the second half answer a number, 0 if they accept, and a detail, 0 where none is named. YbAnswer has
+ * names for the numbers, yb_answer_text words:
  *
  *    1  the points slice is empty
  *    2  the points' length is not a multiple of 3, or the normals' length differs from it
@@ -38,6 +44,45 @@ extern "C" {
 #else
 #define YB_ASSERT _Static_assert
 #endif
+
+/* The version, 0.2.0, and the layout of the structs below as one number: see yb_version and yb_layout. */
+#define YB_VERSION 2000u
+#define YB_LAYOUT 1910780496u
+
+/* The answers. */
+typedef enum {
+    YB_ACCEPTED = 0,
+    YB_NO_POINTS = 1,
+    YB_LENGTHS = 2,
+    YB_TOO_MANY_POINTS = 3,
+    YB_POINT = 4,
+    YB_SETTING = 5,
+    YB_PERCENTILE = 6,
+    YB_WORK = 7,
+    YB_NO_TRIANGLE = 8,
+    YB_FACES = 9,
+    YB_LINE = 10,
+    YB_ROOM = 11
+} YbAnswer;
+
+/* An answer in words, whatever the number. */
+static inline const char *yb_answer_text(uint32_t answer) {
+    static const char *const texts[] = {
+        "accepted",
+        "there are no points",
+        "the numbers of coordinates and of normals don't belong together",
+        "there are more than 4,096 points",
+        "a coordinate or normal is outside the domain",
+        "a setting is outside its bounds",
+        "the percentile is not within 0 to 1",
+        "a work slice is too short",
+        "no triangle was found",
+        "the faces found don't fit the face slice",
+        "a line of the cloud file is malformed",
+        "the file's points don't fit the slices",
+    };
+    return answer < sizeof texts / sizeof *texts ? texts[answer] : "an answer that this version has no words for";
+}
 
 /* The most points of a cloud. */
 #define YB_MAX_POINTS 4096
@@ -100,6 +145,17 @@ typedef struct {
     float radius;
     size_t count; /* points */
 } YbCloudRead;
+
+/* ---- The library itself ---- */
+
+/* The library's version: a million times the first number, a thousand times the second, and the third. */
+uint32_t yb_version(void);
+
+/* The layout of the structs of the library, which changes whenever one of them does. */
+uint32_t yb_layout(void);
+
+/* True if the library is the one that this header was written for. */
+static inline bool yb_check_layout(void) { return yb_version() == YB_VERSION && yb_layout() == YB_LAYOUT; }
 
 /* ---- Single numbers and triangles: every input is accepted. ---- */
 
@@ -178,6 +234,17 @@ YbPatch yb_reconstruct_with_normals(const float *points, size_t points_len, cons
  */
 YbCloudRead yb_read_cloud(const uint8_t *bytes, size_t bytes_len, float *points, size_t points_len, float *normals,
                           size_t normals_len);
+
+/*
+ * Marks the points that faces reach: reached[p] becomes 1 if p is among the faces' numbers, else 0. The answer is how
+ * many were marked. Of a patch with radii that is faces + 2 * seeds.
+ *
+ * faces: three point numbers a face, as yb_reconstruct_with_normals leaves them; 3 * patch.faces entries.
+ * reached: an entry for each point. A number beyond them is skipped.
+ *
+ * Every input is accepted, and every entry is written.
+ */
+size_t yb_mark_reached(const uint32_t *faces, size_t faces_len, uint32_t *reached, size_t reached_len);
 
 /* ---- The layout that the library was built with ---- */
 

@@ -229,7 +229,28 @@ static void files(void) {
     CHECK(all(p + 3, 4, OLD) && all(n + 3, 4, OLD));
 }
 
+/* Marks: every entry is written, a number beyond the entries skipped, one that stands twice counted once. */
+static void marks(void) {
+    const uint32_t corners[] = {0, 2, 2, 4, UINT32_MAX};
+    uint32_t reached[5];
+    memset(reached, OLD, sizeof reached);
+    CHECK(yb_mark_reached(corners, 5, reached, 4) == 2);
+    CHECK(reached[0] == 1 && reached[1] == 0 && reached[2] == 1 && reached[3] == 0 && all(reached + 4, 4, OLD));
+    CHECK(yb_mark_reached(NULL, 0, reached, 4) == 0 && all(reached, 16, 0) && all(reached + 4, 4, OLD));
+    CHECK(yb_mark_reached(corners, 5, NULL, 0) == 0);
+}
+
+/* The library is the header's, and each answer has words. */
+static void library(void) {
+    CHECK(yb_check_layout() && yb_version() == YB_VERSION && yb_layout() == YB_LAYOUT);
+    for (uint32_t answer = 0; answer < 40; answer++) CHECK(*yb_answer_text(answer) != 0);
+    CHECK(strcmp(yb_answer_text(YB_NO_TRIANGLE), "no triangle was found") == 0);
+    CHECK(strcmp(yb_answer_text(YB_ROOM + 1), yb_answer_text(UINT32_MAX)) == 0);
+}
+
 int main(void) {
+    library();
+    marks();
     lengths();
     numbers();
     defaults();

@@ -11,11 +11,27 @@ ghost use Rattle.settings.specs.Settings.{defaults};
 ghost use Rattle.estimate.specs.Estimate.{Estimated};
 ghost use Rattle.cloud.specs.Answers.{Answered, outcome};
 ghost use Rattle.ball_pivoting.specs.Outcome.{Reconstructs};
+ghost use Rattle.coverage.specs.Coverage.{Marked};
+ghost use Rattle.release.specs.Release.{version, layout};
 use ball_pivoting::Patch;
 use cloud::CloudRead;
 use estimate::Estimate;
 use quality::TriangleQuality;
 use settings::BallPivotingConfig;
+
+#[no_mangle]
+pub extern "C" fn yb_version() -> u32
+    ensures { λ r. ⌜ r ≡ version ⌝ }
+{
+    release::version()
+}
+
+#[no_mangle]
+pub extern "C" fn yb_layout() -> u32
+    ensures { λ r. ⌜ r ≡ layout ⌝ }
+{
+    release::layout()
+}
 
 #[no_mangle]
 pub extern "C" fn yb_sqrt(x: f32) -> f32
@@ -165,4 +181,11 @@ pub extern "C" fn yb_read_cloud(bytes: &[u8], points: &mut [f32], normals: &mut 
     ensures { λ r. ⌜ Answered (outcome (now (bytes .entry)) (length (now (points .entry))) (length (now (normals .entry)))) (now (points .entry)) (now (normals .entry)) r (now (points .exit)) (now (normals .exit)) ⌝ }
 {
     cloud::read_cloud(bytes, points, normals)
+}
+
+#[no_mangle]
+pub extern "C" fn yb_mark_reached(faces: &[u32], reached: &mut [u32]) -> usize
+    ensures { λ r. ⌜ Marked (now (faces .entry)) (now (reached .entry)) r (now (reached .exit)) ⌝ }
+{
+    coverage::mark_reached(faces, reached)
 }

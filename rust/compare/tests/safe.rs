@@ -60,6 +60,10 @@ fn same(expected: &Found, got: &Result<Patch, Error>, points: usize) -> bool {
     let touched: HashSet<&usize> = laid.faces.iter().flatten().collect();
     let coverage = patch.coverage();
     assert_eq!((coverage.covered, coverage.scanned), (touched.len(), points));
+    assert_eq!(patch.unreached(), (0..points as u32).filter(|p| !touched.contains(&(*p as usize))).collect::<Vec<_>>());
+    if !patch.radii.is_empty() {
+        assert_eq!(coverage.covered, patch.faces.len() + 2 * patch.seeds as usize);
+    }
     patch.radii.is_empty()
 }
 

@@ -3,23 +3,27 @@
 use crate::sys;
 
 /// The fields of the old configuration that this path reads. Both lists have at most 8 entries.
+///
+/// Requests add fields: `BallPivotingConfig { radius, ..Default::default() }` goes on compiling.
 #[derive(Clone, Debug, PartialEq)]
 pub struct BallPivotingConfig {
-    /// 0.001 to 1,000.
+    /// The ball's radius, 0.001 to 1,000.
     pub radius: f32,
-    /// Each 0.001 to 1,000.
+    /// Further radii, each 0.001 to 1,000.
     pub additional_radii: Vec<f32>,
+    /// Whether radii are also taken from the cloud's density; the plain path where not.
     pub adaptive_radius: bool,
-    /// Each 0 to 1.
+    /// The percentiles at which they are, each 0 to 1.
     pub adaptive_percentiles: Vec<f32>,
-    /// 0 to 1,000,000.
+    /// The least score of a face, 0 to 1,000,000.
     pub quality_threshold: f32,
-    /// 0 to 1,000,000.
+    /// The longest edge of a face, in radii, 0 to 1,000,000.
     pub max_edge_factor: f32,
-    /// 0 to 1,000,000.
+    /// The least area of a face, 0 to 1,000,000.
     pub min_triangle_area: f32,
+    /// Whether a point's neighbours are those in the cells around it; all points where not.
     pub use_spatial_index: bool,
-    /// 0.5 to 16.
+    /// The width of a cell, in radii, 0.5 to 16.
     pub spatial_cell_factor: f32,
 }
 

@@ -2,7 +2,9 @@
 
 use std::fmt;
 
+/// A refusal. Requests add answers, so a match needs an arm for the rest.
 #[derive(Clone, Copy, Debug, PartialEq, Eq)]
+#[non_exhaustive]
 pub enum Error {
     /// 1. There are no points.
     NoPoints,
@@ -26,6 +28,34 @@ pub enum Error {
     Line(usize),
     /// 11. The file's points don't fit the point slices.
     Room,
+    /// An answer that this version of the crate has no name for.
+    Unknown {
+        /// Its number.
+        answer: u32,
+        /// Its detail.
+        detail: usize,
+    },
+}
+
+/// What each answer says, by its number; c/yarrowbleat.h has the same words.
+const TEXTS: [&str; 12] = [
+    "accepted",
+    "there are no points",
+    "the numbers of coordinates and of normals don't belong together",
+    "there are more than 4,096 points",
+    "a coordinate or normal is outside the domain",
+    "a setting is outside its bounds",
+    "the percentile is not within 0 to 1",
+    "a work slice is too short",
+    "no triangle was found",
+    "the faces found don't fit the face slice",
+    "a line of the cloud file is malformed",
+    "the file's points don't fit the slices",
+];
+
+/// An answer in words, whatever the number.
+pub fn answer_text(answer: u32) -> &'static str {
+    TEXTS.get(answer as usize).copied().unwrap_or("an answer that this version has no words for")
 }
 
 /// The settings in the order in which they are checked.
@@ -55,7 +85,7 @@ impl Error {
             9 => Error::Faces,
             10 => Error::Line(detail),
             11 => Error::Room,
-            other => unreachable!("the library has no answer {other}"),
+            answer => Error::Unknown { answer, detail },
         })
     }
 
@@ -73,6 +103,7 @@ impl Error {
             Error::Faces => 9,
             Error::Line(_) => 10,
             Error::Room => 11,
+            Error::Unknown { answer, .. } => *answer,
         }
     }
 
@@ -80,6 +111,7 @@ impl Error {
     pub fn detail(&self) -> usize {
         match self {
             Error::Point(detail) | Error::Setting(detail) | Error::Line(detail) => *detail,
+            Error::Unknown { detail, .. } => *detail,
             _ => 0,
         }
     }
@@ -87,21 +119,16 @@ impl Error {
 
 impl fmt::Display for Error {
     fn fmt(&self, f: &mut fmt::Formatter<'_>) -> fmt::Result {
+        f.write_str(answer_text(self.number()))?;
         match self {
-            Error::NoPoints => write!(f, "there are no points"),
-            Error::Lengths => write!(f, "the numbers of coordinates and of normals don't belong together"),
-            Error::TooManyPoints => write!(f, "there are more than 4,096 points"),
-            Error::Point(point) => write!(f, "point {point} has a coordinate or normal outside the domain"),
+            Error::Point(point) => write!(f, ": point {point}"),
             Error::Setting(setting) => {
                 let name = setting.checked_sub(1).and_then(|at| SETTINGS.get(at)).unwrap_or(&"unknown");
-                write!(f, "setting {setting}, {name}, is outside its bounds")
+                write!(f, ": setting {setting}, {name}")
             }
-            Error::Percentile => write!(f, "the percentile is not within 0 to 1"),
-            Error::Work => write!(f, "a work slice is too short"),
-            Error::NoTriangle => write!(f, "no triangle was found"),
-            Error::Faces => write!(f, "the faces found don't fit the face slice"),
-            Error::Line(line) => write!(f, "line {line} of the cloud file is malformed"),
-            Error::Room => write!(f, "the file's points don't fit the slices"),
+            Error::Line(line) => write!(f, ": line {line}"),
+            Error::Unknown { answer, detail } => write!(f, ": {answer}, {detail}"),
+            _ => Ok(()),
         }
     }
 }

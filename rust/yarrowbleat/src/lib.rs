@@ -1,13 +1,16 @@
 //! Ball pivoting over scanned points: the proved port, under the names of the old module.
 //!
 //! Memory is allocated here; `sys` has the calls over lent slices. Whatever is outside the domain is an [`Error`].
+//! Every call is a function of its arguments alone, so any number of threads may call at once.
+
+#![deny(missing_docs)]
 
 mod config;
 mod error;
 pub mod sys;
 
 pub use config::BallPivotingConfig;
-pub use error::Error;
+pub use error::{answer_text, Error};
 
 /// The most points of a cloud.
 pub const MAX_POINTS: usize = 4_096;
@@ -17,19 +20,25 @@ const MAX_FACES: usize = 10_000;
 
 /// The faces laid over a cloud, as point numbers from 0, and how they came about.
 #[derive(Clone, Debug, PartialEq)]
+#[non_exhaustive]
 pub struct Patch {
-    /// The cloud's points.
+    /// How many points the cloud has, n.
     pub points: usize,
+    /// The faces, F of them.
     pub faces: Vec<[u32; 3]>,
     /// The radii tried, rising; none on the plain path.
     pub radii: Vec<f32>,
+    /// How many of the faces were laid as seeds, S.
     pub seeds: u32,
+    /// Entries taken from the frontier.
     pub looks: u32,
+    /// Looks at an edge that was not processed before.
     pub pivots: u32,
 }
 
 /// How much of the wall was reached.
 #[derive(Clone, Copy, Debug, PartialEq, Eq)]
+#[non_exhaustive]
 pub struct Coverage {
     /// The points that a face touches.
     pub covered: usize,
@@ -38,17 +47,23 @@ pub struct Coverage {
 }
 
 impl Patch {
-    /// How many of the scanned points the faces touch. With radii a seed takes three points and each further face
-    /// one, so that no count is needed.
+    /// How many of the scanned points the faces touch: F + 2S of n where there are radii, since a seed takes three new
+    /// points and each further face one. On the plain path they are counted.
     pub fn coverage(&self) -> Coverage {
-        let covered = if self.radii.is_empty() { self.touched() } else { self.faces.len() + 2 * self.seeds as usize };
-        Coverage { covered, scanned: self.points }
+        Coverage { covered: self.marks().1, scanned: self.points }
     }
 
-    fn touched(&self) -> usize {
-        let mut touched = vec![false; self.points];
-        self.faces.iter().flatten().for_each(|point| touched[*point as usize] = true);
-        touched.iter().filter(|t| **t).count()
+    /// The points that no face touches, by number, rising.
+    pub fn unreached(&self) -> Vec<u32> {
+        let marks = self.marks().0;
+        (0..).zip(marks).filter(|(_, mark)| *mark == 0).map(|(point, _)| point).collect()
+    }
+
+    /// A mark for each point, 1 if a face touches it, and how many do.
+    fn marks(&self) -> (Vec<u32>, usize) {
+        let mut marks = vec![0; self.points];
+        let covered = sys::mark_reached(self.faces.as_flattened(), &mut marks);
+        (marks, covered)
     }
 }
 
@@ -95,9 +110,13 @@ pub fn ball_pivoting_from_normals(points: &[[f32; 3]], normals: &[[f32; 3]], rad
 
 /// What a cloud file holds.
 #[derive(Clone, Debug, PartialEq)]
+#[non_exhaustive]
 pub struct Cloud {
+    /// The ball's radius, the file's first line.
     pub radius: f32,
+    /// The points, in the order of their lines.
     pub points: Vec<[f32; 3]>,
+    /// A normal for each point.
     pub normals: Vec<[f32; 3]>,
 }
 

@@ -9,11 +9,17 @@ use std::mem::{offset_of, size_of};
 #[repr(C)]
 #[derive(Clone, Copy, Debug)]
 pub struct TriangleQuality {
+    /// The radius of the circle inside over that of the circle through the points.
     pub aspect_ratio: f32,
+    /// The least angle, in radians.
     pub min_angle: f32,
+    /// The largest angle, in radians.
     pub max_angle: f32,
+    /// The area.
     pub area: f32,
+    /// The longest edge over the shortest.
     pub edge_ratio: f32,
+    /// The score, made from the least angle and the two ratios.
     pub quality_score: f32,
 }
 
@@ -21,8 +27,11 @@ pub struct TriangleQuality {
 #[repr(C)]
 #[derive(Clone, Copy, Debug)]
 pub struct Estimate {
+    /// The answer's number, 0 where the call accepts.
     pub answer: u32,
+    /// The answer's detail, 0 where none is named.
     pub detail: u32,
+    /// The radius.
     pub radius: f32,
 }
 
@@ -30,16 +39,27 @@ pub struct Estimate {
 #[repr(C)]
 #[derive(Clone, Copy, Debug)]
 pub struct BallPivotingConfig {
+    /// The radius.
     pub radius: f32,
+    /// Further radii.
     pub additional_radii: [f32; 8],
+    /// How many of them count.
     pub additional_count: u32,
+    /// Whether radii are taken from the cloud's density.
     pub adaptive_radius: bool,
+    /// The percentiles of the density.
     pub adaptive_percentiles: [f32; 8],
+    /// How many of them count.
     pub percentile_count: u32,
+    /// The least score of a triangle that is laid.
     pub quality_threshold: f32,
+    /// The longest edge, in radii.
     pub max_edge_factor: f32,
+    /// The least area.
     pub min_triangle_area: f32,
+    /// Whether neighbours are looked for near by only.
     pub use_spatial_index: bool,
+    /// The width of a cell, in radii.
     pub spatial_cell_factor: f32,
 }
 
@@ -47,13 +67,21 @@ pub struct BallPivotingConfig {
 #[repr(C)]
 #[derive(Clone, Copy, Debug)]
 pub struct Patch {
+    /// The answer's number, 0 where the call accepts.
     pub answer: u32,
+    /// The answer's detail, 0 where none is named.
     pub detail: u32,
+    /// The faces laid.
     pub faces: u32,
+    /// Of these, the ones laid as seeds.
     pub seeds: u32,
+    /// Entries taken from the frontier.
     pub looks: u32,
+    /// Looks at an edge that was not processed before.
     pub pivots: u32,
+    /// The radii tried.
     pub radii_count: u32,
+    /// These radii, rising.
     pub radii: [f32; 17],
 }
 
@@ -61,9 +89,13 @@ pub struct Patch {
 #[repr(C)]
 #[derive(Clone, Copy, Debug)]
 pub struct CloudRead {
+    /// The answer's number, 0 where the call accepts.
     pub answer: u32,
+    /// The answer's detail, 0 where none is named.
     pub detail: usize,
+    /// The radius.
     pub radius: f32,
+    /// The points read.
     pub count: usize,
 }
 
@@ -77,6 +109,7 @@ macro_rules! layouts {
             const _: () = assert!(size_of::<$name>() == $size);
             $(const _: () = assert!(offset_of!($name, $field) == $at);)*
         )*
+        /// The layout of every struct.
         pub const LAYOUTS: &[Layout] = &[$((stringify!($name), $size, &[$((stringify!($field), $at)),*])),*];
     };
 }
@@ -91,10 +124,53 @@ layouts! {
     CloudRead 32: answer 0, detail 8, radius 16, count 24;
 }
 
+/// The layouts as one number, FNV-1a over their names, sizes and offsets: another number is another layout.
+pub const LAYOUT: u32 = {
+    let mut hash = 0x811c_9dc5;
+    let mut i = 0;
+    while i < LAYOUTS.len() {
+        let (name, size, fields) = LAYOUTS[i];
+        hash = hashed(hash, name, size);
+        let mut k = 0;
+        while k < fields.len() {
+            hash = hashed(hash, fields[k].0, fields[k].1);
+            k += 1;
+        }
+        i += 1;
+    }
+    hash
+};
+
+const fn hashed(mut hash: u32, name: &str, number: usize) -> u32 {
+    let (name, number) = (name.as_bytes(), (number as u32).to_le_bytes());
+    let mut i = 0;
+    while i < name.len() + 4 {
+        let byte = if i < name.len() { name[i] } else { number[i - name.len()] };
+        hash = (hash ^ byte as u32).wrapping_mul(0x0100_0193);
+        i += 1;
+    }
+    hash
+}
+
+/// The number that a text of digits is.
+const fn digits(text: &str) -> u32 {
+    let (text, mut number, mut i) = (text.as_bytes(), 0, 0);
+    while i < text.len() {
+        number = 10 * number + (text[i] - b'0') as u32;
+        i += 1;
+    }
+    number
+}
+
+// build.rs asked the library that is linked.
+const _: () = assert!(LAYOUT == digits(env!("YARROWBLEAT_LAYOUT")), "the library has other structs than this crate");
+
 mod linked {
     use super::*;
 
     extern "C" {
+        pub fn yb_version() -> u32;
+        pub fn yb_layout() -> u32;
         pub fn yb_sqrt(x: f32) -> f32;
         pub fn yb_acos(v: f32) -> f32;
         pub fn yb_cut(x: f32) -> u32;
@@ -162,48 +238,69 @@ mod linked {
             normals: *mut f32,
             normals_len: usize,
         ) -> CloudRead;
+        pub fn yb_mark_reached(faces: *const u32, faces_len: usize, reached: *mut u32, reached_len: usize) -> usize;
     }
 }
 
 // SAFETY, for all of the below: the calls read and write the slices that they are lent and nothing else;
 // each pointer comes from a slice that lives through the call, with its own length.
 
+/// The version of the library, a million times the first number, a thousand times the second, and the third.
+pub fn version() -> u32 {
+    unsafe { linked::yb_version() }
+}
+
+/// The layout of the library's structs, [`LAYOUT`].
+pub fn layout() -> u32 {
+    unsafe { linked::yb_layout() }
+}
+
+/// The nearest float to the square root; a not-a-number below zero.
 pub fn sqrt(x: f32) -> f32 {
     unsafe { linked::yb_sqrt(x) }
 }
 
+/// The arc cosine as musl has it; a not-a-number outside -1 to 1.
 pub fn acos(v: f32) -> f32 {
     unsafe { linked::yb_acos(v) }
 }
 
+/// The fraction dropped, held to a `u32`; of a not-a-number 0.
 pub fn cut(x: f32) -> u32 {
     unsafe { linked::yb_cut(x) }
 }
 
+/// The same of the least whole number that is not below `x`.
 pub fn ceil_cut(x: f32) -> u32 {
     unsafe { linked::yb_ceil_cut(x) }
 }
 
+/// The lesser; where one is a not-a-number, the other.
 pub fn min(a: f32, b: f32) -> f32 {
     unsafe { linked::yb_min(a, b) }
 }
 
+/// The greater; where one is a not-a-number, the other.
 pub fn max(a: f32, b: f32) -> f32 {
     unsafe { linked::yb_max(a, b) }
 }
 
+/// `v` held to `lo` .. `hi`; a not-a-number is passed on.
 pub fn clamp(v: f32, lo: f32, hi: f32) -> f32 {
     unsafe { linked::yb_clamp(v, lo, hi) }
 }
 
+/// The radius of the circle through three points.
 pub fn compute_circumradius(c: &[f32; 9]) -> f32 {
     unsafe { linked::yb_compute_circumradius(c[0], c[1], c[2], c[3], c[4], c[5], c[6], c[7], c[8]) }
 }
 
+/// The measures of the triangle of three points.
 pub fn compute_triangle_quality(c: &[f32; 9]) -> TriangleQuality {
     unsafe { linked::yb_compute_triangle_quality(c[0], c[1], c[2], c[3], c[4], c[5], c[6], c[7], c[8]) }
 }
 
+/// Whether a triangle with these measures is laid at this radius, under these three settings.
 pub fn is_triangle_acceptable(
     quality: TriangleQuality,
     radius: f32,
@@ -214,10 +311,12 @@ pub fn is_triangle_acceptable(
     unsafe { linked::yb_is_triangle_acceptable(quality, radius, min_triangle_area, quality_threshold, max_edge_factor) }
 }
 
+/// The default settings at a radius.
 pub fn default_config(radius: f32) -> BallPivotingConfig {
     unsafe { linked::yb_default_config(radius) }
 }
 
+/// A radius that suits the cloud, over lent work slices.
 pub fn estimate_optimal_radius(points: &[f32], percentile: f32, words: &mut [u32], floats: &mut [f32]) -> Estimate {
     unsafe {
         linked::yb_estimate_optimal_radius(
@@ -232,6 +331,7 @@ pub fn estimate_optimal_radius(points: &[f32], percentile: f32, words: &mut [u32
     }
 }
 
+/// Lays a patch of triangles over the cloud, over a lent face slice and lent work slices.
 pub fn reconstruct_with_normals(
     points: &[f32],
     normals: &[f32],
@@ -257,6 +357,7 @@ pub fn reconstruct_with_normals(
     }
 }
 
+/// Reads a cloud file into two lent slices.
 pub fn read_cloud(bytes: &[u8], points: &mut [f32], normals: &mut [f32]) -> CloudRead {
     unsafe {
         linked::yb_read_cloud(
@@ -268,4 +369,9 @@ pub fn read_cloud(bytes: &[u8], points: &mut [f32], normals: &mut [f32]) -> Clou
             normals.len(),
         )
     }
+}
+
+/// Marks the points that faces have with 1, the others with 0; the answer is how many are marked.
+pub fn mark_reached(faces: &[u32], reached: &mut [u32]) -> usize {
+    unsafe { linked::yb_mark_reached(faces.as_ptr(), faces.len(), reached.as_mut_ptr(), reached.len()) }
 }

@@ -18,6 +18,33 @@ fn with(change: impl Fn(&mut BallPivotingConfig)) -> Result<Patch, Error> {
     reconstruct_with_normals(&TRIANGLE, &TRIANGLE, &config)
 }
 
+fn covered(patch: &Patch) -> (usize, usize) {
+    (patch.coverage().covered, patch.coverage().scanned)
+}
+
+/// A number that the crate has no name for is an error like the others.
+#[test]
+fn unknown_answers() {
+    for answer in [12, 1000, u32::MAX] {
+        assert_eq!(told(Error::check(answer, 7)), (answer, 7));
+    }
+    assert!(Error::check(12, 7).unwrap_err().to_string().ends_with("no words for: 12, 7"));
+    assert_eq!(Error::check(0, 7), Ok(()));
+}
+
+/// Marks over slices of any length: each number below it counts once, a number beyond it not at all.
+#[test]
+fn marks() {
+    let mark = |faces: &[u32], entries: usize| {
+        let mut reached = vec![7; entries];
+        (sys::mark_reached(faces, &mut reached), reached)
+    };
+    assert_eq!(mark(&[], 0), (0, vec![]));
+    assert_eq!(mark(&[], 2), (0, vec![0, 0]));
+    assert_eq!(mark(&[0, 2, 2, 4, u32::MAX], 4), (2, vec![1, 0, 1, 0]));
+    assert_eq!(mark(&[0, 1, 2], 0), (0, vec![]));
+}
+
 #[test]
 fn lengths() {
     let lay = |p: &[[f32; 3]], n: &[[f32; 3]]| told(ball_pivoting_from_normals(p, n, 1.0));
@@ -60,7 +87,7 @@ fn settings() {
     assert_eq!(told(with(|c| c.min_triangle_area = f32::INFINITY)), (5, 6));
     assert_eq!(told(with(|c| c.spatial_cell_factor = 0.4)), (5, 7));
     let text = with(|c| c.spatial_cell_factor = 0.4).unwrap_err().to_string();
-    assert_eq!(text, "setting 7, spatial_cell_factor, is outside its bounds");
+    assert_eq!(text, "a setting is outside its bounds: setting 7, spatial_cell_factor");
 }
 
 #[test]
@@ -68,7 +95,7 @@ fn files() {
     assert_eq!(told(read_cloud(b"")), (10, 1));
     assert_eq!(told(read_cloud(b"1\n0,0,0,0,0,1\nnan,0,0,0,0,1\n")), (10, 3));
     let cloud = read_cloud(b"0.5\n1,2,3,4,5,6\n").unwrap();
-    assert_eq!(cloud, Cloud { radius: 0.5, points: vec![[1.0, 2.0, 3.0]], normals: vec![[4.0, 5.0, 6.0]] });
+    assert_eq!((cloud.radius, cloud.points, cloud.normals), (0.5, vec![[1.0, 2.0, 3.0]], vec![[4.0, 5.0, 6.0]]));
     assert_eq!(read_cloud(b"2\n").unwrap().points.len(), 0);
 }
 
@@ -97,7 +124,7 @@ fn accepted() {
     assert_eq!(estimate_optimal_radius(&TRIANGLE[..2], 0.5), Ok(2.5));
     let patch = ball_pivoting_from_normals(&TRIANGLE, &TRIANGLE, 1.0).unwrap();
     assert_eq!((patch.faces.as_slice(), patch.seeds, patch.looks, patch.pivots), (&[[0, 1, 2]][..], 1, 3, 3));
-    assert_eq!(patch.coverage(), Coverage { covered: 3, scanned: 3 });
+    assert_eq!((covered(&patch), patch.unreached()), ((3, 3), vec![]));
 }
 
 /// The plain path stops at 10,000 faces, which the face slice holds; it touches the first points only.
@@ -108,5 +135,6 @@ fn most_faces() {
     let patch = reconstruct_with_normals(&points, &points, &config).unwrap();
     assert_eq!((patch.faces.len(), patch.radii.len(), patch.seeds), (10_000, 0, 0));
     let last = *patch.faces.iter().flatten().max().unwrap() as usize;
-    assert_eq!(patch.coverage(), Coverage { covered: last + 1, scanned: 100 });
+    assert_eq!(covered(&patch), (last + 1, 100));
+    assert_eq!(patch.unreached(), (last as u32 + 1..100).collect::<Vec<_>>());
 }

@@ -1,10 +1,12 @@
 //! The C header and the Rust declarations have the structs and functions of the Rattle source, by its text.
 
-use yarrowbleat::sys::LAYOUTS;
+use std::collections::BTreeSet;
+use yarrowbleat::sys::{self, LAYOUTS};
 
 const HEADER: &str = include_str!("../../../c/yarrowbleat.h");
 const SYS: &str = include_str!("../src/sys.rs");
 const EXPORTS: &str = include_str!("../../../crates/exports/src/lib.rt");
+const RELEASE: &str = include_str!("../../../crates/release/src/lib.rt");
 const STRUCTS: [(&str, &str); 5] = [
     ("TriangleQuality", include_str!("../../../crates/quality/src/lib.rt")),
     ("Estimate", include_str!("../../../crates/estimate/src/lib.rt")),
@@ -21,9 +23,15 @@ fn between<'a>(text: &'a str, before: &str, after: &str) -> &'a str {
 
 /// Without comments, and with any white space as one blank, none after an open bracket or before a closed one.
 fn plain(text: &str) -> String {
-    let lines = text.lines().map(|line| line.split("/*").next().unwrap());
+    let starts = text.split("/*").enumerate().map(|(at, part)| if at == 0 { part } else { after(part, "*/") });
+    let text = starts.collect::<String>();
+    let lines = text.lines().map(|line| line.split("//").next().unwrap());
     let text = lines.flat_map(str::split_whitespace).collect::<Vec<_>>().join(" ");
     text.replace("( ", "(").replace(", )", ")").replace(",)", ")")
+}
+
+fn after<'a>(text: &'a str, mark: &str) -> &'a str {
+    text.split_once(mark).expect("an end").1
 }
 
 /// The names and types of a list `a: A, b: B` of Rattle's.
@@ -123,19 +131,54 @@ fn rust_parameter((name, kind): &(&str, &str)) -> String {
 #[test]
 fn functions() {
     let (header, sys) = (plain(HEADER), plain(SYS));
-    let mut count = 0;
+    let mut names = BTreeSet::new();
     for item in EXPORTS.split("pub extern \"C\" fn ").skip(1) {
         let (name, rest) = item.split_once('(').unwrap();
         let (list, rest) = rest.split_once(") -> ").unwrap();
         let result = rest.split_whitespace().next().unwrap();
         let parameters = pairs(list);
         let join = |of: fn(&(&str, &str)) -> String| parameters.iter().map(of).collect::<Vec<_>>().join(", ");
-        let c = format!("{} {name}({});", c_type(result), join(c_parameter));
+        let none = if parameters.is_empty() { "void" } else { "" };
+        let c = format!("{} {name}({}{none});", c_type(result), join(c_parameter));
         assert!(header.contains(&c), "the header lacks {c}");
         let rust = format!("pub fn {name}({}) -> {result};", join(rust_parameter));
         assert!(sys.contains(&rust), "sys.rs lacks {rust}");
-        count += 1;
+        names.insert(name);
     }
-    assert_eq!(count, sys.matches("pub fn yb_").count());
-    assert_eq!(count, header.matches(" yb_").count());
+    assert_eq!(names.len(), sys.matches("pub fn yb_").count());
+    // What the header names beside them it defines itself.
+    let in_line = header.split("static inline ").skip(1).filter_map(|item| item.split('(').next()?.split("yb_").nth(1));
+    let named = header.split("yb_").skip(1).filter_map(|item| item.split_once('(')).map(|(name, _)| name);
+    let known = names.iter().filter_map(|name| name.strip_prefix("yb_")).chain(in_line);
+    assert_eq!(named.collect::<BTreeSet<_>>(), known.collect::<BTreeSet<_>>());
+}
+
+/// The number that a function of crate `release` returns.
+fn returned(name: &str) -> u32 {
+    between(RELEASE, &format!("≡ {name} ⌝ }}\n{{\n"), "\n}").trim().parse().unwrap()
+}
+
+/// The version and the layout are stated in crate `release`; header, crate and library have the same.
+#[test]
+fn version_and_layout() {
+    let defined = |name: &str| between(HEADER, &format!("#define {name} "), "u\n").parse::<u32>().unwrap();
+    let version = env!("CARGO_PKG_VERSION").split('.').fold(0, |sum, part| 1000 * sum + part.parse::<u32>().unwrap());
+    assert_eq!([version, defined("YB_VERSION"), sys::version()], [returned("version"); 3]);
+    let layout = sys::LAYOUT;
+    assert_eq!(layout, returned("layout"), "crates/release (src, specs, must-fail) has to state the layout {layout}");
+    assert_eq!([layout, layout], [defined("YB_LAYOUT"), sys::layout()]);
+}
+
+/// The header's words for the answers are the crate's.
+#[test]
+fn answers() {
+    let texts = between(HEADER, "texts[] = {", "};").lines().filter_map(|line| line.trim().strip_prefix('"'));
+    let texts: Vec<_> = texts.map(|line| line.trim_end_matches("\",")).collect();
+    let unknown = between(HEADER, "? texts[answer] : \"", "\"");
+    for answer in 0..20 {
+        assert_eq!(*texts.get(answer).unwrap_or(&unknown), yarrowbleat::answer_text(answer as u32));
+    }
+    let names = between(HEADER, "/* The answers. */\ntypedef enum {", "} YbAnswer;");
+    let numbers = names.split(',').map(|entry| entry.rsplit(' ').next().unwrap().trim().parse::<usize>().unwrap());
+    assert_eq!(numbers.collect::<Vec<_>>(), (0..texts.len()).collect::<Vec<_>>());
 }

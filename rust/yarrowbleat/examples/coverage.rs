@@ -1,9 +1,9 @@
-//! Reads a cloud file, lays a patch over it, and says how much of the wall was reached.
+//! Reads a cloud file, lays a patch over it, and says how much of the wall was reached, and which points were not.
 
 use std::error::Error;
 use std::io::Read;
 
-fn lay() -> Result<(), Box<dyn Error>> {
+fn coverage() -> Result<(), Box<dyn Error>> {
     let mut bytes = Vec::new();
     match std::env::args().nth(1) {
         Some(path) => bytes = std::fs::read(path)?,
@@ -14,11 +14,13 @@ fn lay() -> Result<(), Box<dyn Error>> {
     let reached = patch.coverage();
     println!("faces: {}", patch.faces.len());
     println!("reached: {} of {} points", reached.covered, reached.scanned);
+    let unreached: String = patch.unreached().iter().map(|point| format!(" {point}")).collect();
+    println!("not reached:{unreached}");
     Ok(())
 }
 
 fn main() {
-    if let Err(error) = lay() {
+    if let Err(error) = coverage() {
         eprintln!("refused: {error}");
         std::process::exit(1);
     }

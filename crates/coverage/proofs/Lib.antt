@@ -1,0 +1,3 @@
+-- The laws of marks, and examples.
+pub mod Marks
+pub mod Examples
