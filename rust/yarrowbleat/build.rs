@@ -68,7 +68,7 @@ fn build(root: &Path, archive: &Path) {
         Ok(status) if status.success() => {}
         Ok(_) => fail("`rt staticlib exports` failed: the library would be older than its sources"),
         Err(error) => fail(&format!(
-            "the library is missing or older than its sources, and `rt` can't be run ({error}); {VARIABLE} names another"
+            "the library is missing or older than its sources, and `rt` can't be run ({error}): {VARIABLE} may name one"
         )),
     }
     // What was proved before is not built again: the library is then as new as its sources are.
