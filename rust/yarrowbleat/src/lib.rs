@@ -5,6 +5,11 @@
 
 #![deny(missing_docs)]
 
+/// The README's program, tried with the documentation.
+#[cfg(doctest)]
+#[doc = include_str!("../README.md")]
+struct Readme;
+
 mod config;
 mod error;
 pub mod sys;
