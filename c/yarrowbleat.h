@@ -237,7 +237,7 @@ YbCloudRead yb_read_cloud(const uint8_t *bytes, size_t bytes_len, float *points,
 
 /*
  * Marks the points that faces reach: reached[p] becomes 1 if p is among the faces' numbers, else 0. The answer is how
- * many were marked. Of a patch with radii that is faces + 2 * seeds.
+ * many were marked. Of a patch with radii that is faces + 2 * seeds, which is proved (marks-of-patch of crate exports).
  *
  * faces: three point numbers a face, as yb_reconstruct_with_normals leaves them; 3 * patch.faces entries.
  * reached: an entry for each point. A number beyond them is skipped.

@@ -22,7 +22,8 @@ fn main() { unsafe { println!("{} {}", yb_version(), yb_layout()) } }
 fn main() {
     println!("cargo:rerun-if-env-changed={VARIABLE}");
     let archive = match env::var_os(VARIABLE) {
-        Some(path) => PathBuf::from(path),
+        Some(path) if Path::new(&path).is_absolute() => PathBuf::from(path),
+        Some(path) => fail(&format!("{VARIABLE}={}: an absolute path is wanted", path.to_string_lossy())),
         None => from_sources(&Path::new(&cargo("CARGO_MANIFEST_DIR")).join("../..")),
     };
     println!("cargo:rerun-if-changed={}", archive.display());

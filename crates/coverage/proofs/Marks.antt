@@ -37,7 +37,7 @@ marks-before xs q p (suc n) h =
     let one = mark-other xs p q (λ (e : p ≡ q). omega arith) in
     rw (one, rest)
 
-marks-set : (xs : List ℕ) (p n k : ℕ) → set (marks xs p n) k 1 ≡ marks (xs ++ ((p + k) ∷ [])) p n
+pub marks-set : (xs : List ℕ) (p n k : ℕ) → set (marks xs p n) k 1 ≡ marks (xs ++ ((p + k) ∷ [])) p n
 unfolding marks
 marks-set xs p zero k = refl
 marks-set xs p (suc n) zero =
@@ -49,12 +49,12 @@ marks-set xs p (suc n) (suc k) =
     let rest = marks-set xs (suc p) n k in
     rw (one, rest, e)
 
-marks-none : (p n : ℕ) → replicate n 0 ≡ marks [] p n
+pub marks-none : (p n : ℕ) → replicate n 0 ≡ marks [] p n
 unfolding mark marks any
 marks-none p zero = refl
 marks-none p (suc n) = ap (λ (t : List ℕ). 0 ∷ t) (marks-none (suc p) n)
 
-count-none : (n : ℕ) → count (eqb 1) (replicate n 0) ≡ 0
+pub count-none : (n : ℕ) → count (eqb 1) (replicate n 0) ≡ 0
 count-none zero = refl
 count-none (suc n) = let ih = count-none n in omega arith
 

@@ -1,0 +1,2 @@
+-- The law that ties two calls.
+pub mod Reach
