@@ -49,14 +49,28 @@ fn text(path: &str, patch: &Patch, options: &Options) -> String {
     }
 }
 
-/// Tells a terminal how far the work is, on one line that is gone in the end.
-fn progress(done: usize, all: usize, refused: usize) {
-    let step = (all / 100).max(1);
-    if all < MANY || (done % step != 0 && done != all) || !std::io::stderr().is_terminal() {
-        return;
+/// Tells a terminal how far the work is, on one line that makes way for what is printed.
+struct Progress {
+    all: usize,
+    shown: bool,
+}
+
+impl Progress {
+    fn new(all: usize) -> Self {
+        Self { all, shown: all >= MANY && std::io::stderr().is_terminal() }
     }
-    let end = if done == all { "\r\x1b[K" } else { "" };
-    let _ = write!(std::io::stderr(), "\r\x1b[K{done} of {all} files, {refused} not laid{end}");
+
+    fn clear(&self) {
+        if self.shown {
+            let _ = write!(std::io::stderr(), "\r\x1b[K");
+        }
+    }
+
+    fn show(&self, done: usize, failed: usize) {
+        if self.shown && done < self.all {
+            let _ = write!(std::io::stderr(), "{done} of {} files, {failed} not laid", self.all);
+        }
+    }
 }
 
 pub fn run(words: &[String]) -> Result<(), Failure> {
@@ -66,8 +80,11 @@ pub fn run(words: &[String]) -> Result<(), Failure> {
     }
     let given = Given::from(&options)?;
     let (all, mut status, mut failed) = (options.files.len(), 0, 0);
+    let progress = Progress::new(all);
     for (done, path) in (1..).zip(&options.files) {
-        match laid(path, &given) {
+        let result = laid(path, &given);
+        progress.clear();
+        match result {
             Ok((_, patch)) => files::print(&text(path, &patch, &options))?,
             Err(failure) if all == 1 => return Err(failure),
             Err(failure) => {
@@ -76,7 +93,7 @@ pub fn run(words: &[String]) -> Result<(), Failure> {
                 failed += 1;
             }
         }
-        progress(done, all, failed);
+        progress.show(done, failed);
     }
     if failed == 0 {
         return Ok(());

@@ -181,7 +181,7 @@ pub fn read(bytes: &[u8]) -> Result<Vec<[f64; 6]>, String> {
     let (lines, at) = header(bytes)?;
     let (format, elements) = elements(&lines)?;
     let mut body = Body { bytes, at, format };
-    for element in &elements {
+    for element in elements.iter().filter(|element| !element.properties.is_empty()) {
         let vertex = element.name == "vertex";
         let has = |name: &&str| element.properties.iter().any(|p| p.name == **name && p.list.is_none());
         if let Some(missing) = NAMES.iter().find(|name| vertex && !has(name)) {

@@ -219,6 +219,7 @@ fn bad_scans() {
         (ascii.replace("ascii", "binary_little_endian"), "its vertex 0 of 2 is missing or no number"),
         (ascii.replace("vertex 2", "vertex 99999999999"), "its vertex 0 of 99999999999 is missing"),
         (ascii.replace("vertex 2", "face 0"), "it has no vertices"),
+        ("ply\nformat ascii 1.0\nelement face 99999999999999\nend_header\n".into(), "it has no vertices"),
         (ascii.replace("format ascii 1.0\n", ""), "the header has no format"),
         (ascii.replace("float x", "real x"), "the header has an unknown type, real"),
         ("ply\nformat ascii 1.0\n".into(), "the header has no end"),
