@@ -1,4 +1,5 @@
--- The starred cases of the scope's edges of the domain: one table over the definitions. `starred-cases` of proofs/Starred.antt is its theorem.
+-- The starred cases of the scope's edges of the domain: one table over the definitions.
+-- `starred-cases` of proofs/Starred.antt is its theorem.
 use Prim.Native.Nat.{ℕ, zero, suc, _*_}
 use mathlib.Core.Path.{_≡_}
 use mathlib.Core.Bool.{true}
@@ -9,7 +10,8 @@ use Rattle.numbers.specs.Rounded.{f32}
 use Rattle.ranges.specs.Range.{firstOutside, firstBadPoint, farthest, percentileInside}
 use Rattle.settings.specs.Settings.{firstBadSetting, defaults}
 use Rattle.settings.specs.declared.BallPivotingConfig.{BallPivotingConfig}
-use Rattle.domain.specs.Refusals.{Check, check, refusal, firstRefusal, sizeChecks, pointCheck, settingCheck, roomy, estimateRefusal, reconstructRefusal}
+use Rattle.domain.specs.Refusals.{Check, check, refusal, firstRefusal, sizeChecks, pointCheck, settingCheck, roomy}
+use Rattle.domain.specs.Refusals.{estimateRefusal, reconstructRefusal}
 use Rattle.estimate.specs.Estimate.{optimalRadius, estimate, estimateOf}
 use Rattle.radii.specs.Radii.{sampleCount, dedup}
 use Rattle.patch.specs.Lay.{face}
@@ -51,11 +53,17 @@ equal-points = replicate 9 (f32 0x3f800000)
 -- the checks behind 1 to 3, for 4,096 points: those of the main call, and those of the estimate
 abbrev pub laterChecks : List Float → List Float → BallPivotingConfig → ℕ → ℕ → List Check
 laterChecks points normals s words floats =
-    pointCheck 4096 (firstBadPoint points normals) ∷ settingCheck (firstBadSetting s) ∷ check (roomy 4096 words floats) 7 0 ∷ []
+    pointCheck 4096 (firstBadPoint points normals)
+    ∷ settingCheck (firstBadSetting s)
+    ∷ check (roomy 4096 words floats) 7 0
+    ∷ []
 
 abbrev pub laterChecksOfEstimate : List Float → Float → ℕ → ℕ → List Check
 laterChecksOfEstimate points percentile words floats =
-    pointCheck 4096 (firstOutside farthest points) ∷ check (percentileInside percentile) 6 0 ∷ check (roomy 4096 words floats) 7 0 ∷ []
+    pointCheck 4096 (firstOutside farthest points)
+    ∷ check (percentileInside percentile) 6 0
+    ∷ check (roomy 4096 words floats) 7 0
+    ∷ []
 
 pub record StarredCases : Type 0 where
   -- no points, three normal numbers: 1
@@ -72,16 +80,17 @@ pub record StarredCases : Type 0 where
       → length points ≡ 3 * 4096 → length normals ≡ length points
       → reconstructRefusal points normals s words floats ≡ firstRefusal (laterChecks points normals s words floats)
   pub most-points-estimate : (points : List Float) (percentile : Float) (words floats : ℕ) → length points ≡ 3 * 4096
-      → estimateRefusal points percentile words floats ≡ firstRefusal (laterChecksOfEstimate points percentile words floats)
+      → estimateRefusal points percentile words floats
+      ≡ firstRefusal (laterChecksOfEstimate points percentile words floats)
   -- 4,097 get 3
   pub too-many-points : (points normals : List Float) (s : BallPivotingConfig) (room words floats : ℕ)
       → length points ≡ 3 * 4097 → length normals ≡ length points
       → reconstructed points normals s room words floats ≡ refused 3 0
-  pub too-many-points-estimate : (points : List Float) (percentile : Float) (words floats : ℕ) → length points ≡ 3 * 4097
-      → estimateOf points percentile words floats ≡ estimate 3 0 (f32 0)
+  pub too-many-points-estimate : (points : List Float) (percentile : Float) (words floats : ℕ)
+      → length points ≡ 3 * 4097 → estimateOf points percentile words floats ≡ estimate 3 0 (f32 0)
   -- coordinate 10,000 passes; the next f32 up gets 4, with its point's number
-  pub farthest-passes : reconstructRefusal (second-at (f32 0x461c4000)) (second-at (f32 0)) (defaults (f32 0x3f800000)) 112 72
-      ≡ refusal 0 0
+  pub farthest-passes :
+      reconstructRefusal (second-at (f32 0x461c4000)) (second-at (f32 0)) (defaults (f32 0x3f800000)) 112 72 ≡ refusal 0 0
   pub farther-refused : (s : BallPivotingConfig) (room words floats : ℕ)
       → reconstructed (second-at (f32 0x461c4001)) (second-at (f32 0)) s room words floats ≡ refused 4 1
   pub farthest-passes-estimate : estimateRefusal (second-at (f32 0x461c4000)) (f32 0x3f000000) 112 72 ≡ refusal 0 0

@@ -1,4 +1,5 @@
--- How many first points a search for a seed tries: 1,000 that are unused. Cases over made-up decisions; `try-cases` of proofs/Tries.antt is their theorem.
+-- How many first points a search for a seed tries: 1,000 that are unused. Cases over made-up decisions.
+-- `try-cases` of proofs/Tries.antt is their theorem.
 use Prim.Native.Nat.{ℕ, _+_}
 use mathlib.Core.Path.{_≡_}
 use mathlib.Core.Bool.{true, false, cond}
@@ -7,7 +8,8 @@ use mathlib.Core.Option.{none, some}
 use lib.Dec.{ltb}
 use Rattle.patch.specs.Search.{Floats, searching}
 
--- the points below n have no neighbours; n, n + 1 and n + 2 are neighbours of each other, and whatever is asked of any three is true
+-- the points below n have no neighbours; n, n + 1 and n + 2 are neighbours of each other, and whatever is asked of any
+-- three is true
 abbrev pub alone : ℕ → Floats ℕ
 alone n = record {
   near = λ r i. cond (ltb i n) [] (n ∷ (n + 1) ∷ (n + 2) ∷ []);

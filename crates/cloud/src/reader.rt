@@ -1,6 +1,7 @@
 // A reader of the points' lines: it holds the file's bytes and remembers how far it has read.
 //
-// `next_line` takes it apart, leaves the work to `step_at`, which takes a slice and a place, and hands it back moved on. A caller with a plain slice uses `line_of`.
+// `next_line` takes it apart, leaves the work to `step_at`, which takes a slice and a place, and hands it back moved on.
+// A caller with a plain slice uses `line_of`.
 ghost use mathlib.Core.Path.{_≡_};
 ghost use Rattle.cloud.specs.Reading.{Stepped};
 use crate::line::Point;

@@ -1,7 +1,7 @@
 // Lays a patch over the cloud file on standard input and prints its listing, or why there is none.
 //
-// What is printed is made by `patch_text::program_text`; here is only the reading and the writing. Whatever was read, what is written is `printed` of it, whole:
-// `write_text` asks for that, and nothing else writes.
+// What is printed is made by `patch_text::program_text`; here is only the reading and the writing. Whatever was read,
+// what is written is `printed` of it, whole: `write_text` asks for that, and nothing else writes.
 ghost use mathlib.Core.Path.{_≡_};
 ghost use Prim.Native.Nat.{_≤_};
 ghost use lib.ListN.{length};

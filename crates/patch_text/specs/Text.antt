@@ -48,11 +48,13 @@ pub record Prints (text out : List ℕ) (r : ℕ) (out' : List ℕ) : Type 0 whe
   pub bytes : r ≡ written text out
   pub holds : out' ≡ filled text out
 
--- the bytes that hold whatever is printed: two lines of names, 32 and 11, five counts of at most 11 and 5,000 faces of at most 44
+-- the bytes that hold whatever is printed: two lines of names, 32 and 11, five counts of at most 11 and 5,000 faces of at
+-- most 44
 abbrev pub enough : ℕ
 enough = 220098
 
--- what the program prints of a file: its text as above; and into a buffer of `enough` bytes it goes whole, is not empty, and is the first r bytes
+-- what the program prints of a file: its text as above; and into a buffer of `enough` bytes it goes whole, is not empty,
+-- and is the first r bytes
 pub record PrintsFile (file out : List ℕ) (r : ℕ) (out' : List ℕ) : Type 0 where
   pub text : Prints (printed file) out r out'
   pub number : enough ≤ length out → r ≡ length (printed file)

@@ -1,6 +1,7 @@
 // Makes what the program prints of a cloud file: its bytes in, the listing of the patch or a refusal out, in lent slices.
 //
-// The text is the definition `fileText` of specs/Text.antt, for all bytes and all lengths of the slices; the program's is `printed`.
+// The text is the definition `fileText` of specs/Text.antt, for all bytes and all lengths of the slices; the program's
+// is `printed`.
 ghost use lib.ListN.{length};
 ghost use Prim.Native.Nat.{_/_};
 ghost use Rattle.patch_text.specs.Text.{laidText, fileText, Prints, PrintsFile};
@@ -75,7 +76,8 @@ pub fn lay_text(
     )
 }
 
-// The text of the program `lay`: slices for 512 points and 5,000 faces, and work for so many points. An output of 220,098 bytes holds whatever it is.
+// The text of the program `lay`: slices for 512 points and 5,000 faces, and work for so many points. An output of
+// 220,098 bytes holds whatever it is.
 pub fn program_text(input: &[u8], out: &mut [u8]) -> usize
     ensures { λ r. ⌜ PrintsFile (now (input .entry)) (now (out .entry)) r (now (out .exit)) ⌝ }
 {
