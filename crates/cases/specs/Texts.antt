@@ -1,4 +1,5 @@
--- Whole files and what the program prints of them, from the bytes to the text; the Rust gives the same.
+-- Whole files and what the program prints of them, from the bytes to the text. They stand in tests/lay-cases too, where
+-- the Rust is held to the same.
 -- `text-cases` of proofs/Texts.antt is the theorem.
 use mathlib.Core.Path.{_≡_}
 use mathlib.Core.List.{List, [], _++_}
