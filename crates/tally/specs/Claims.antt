@@ -1,0 +1,40 @@
+-- What is proved of tallies and figures, over the definitions that the calls' contracts name. Definitions only.
+use mathlib.Core.Path.{_≡_}
+use mathlib.Core.Bool.{true}
+use mathlib.Core.List.{List}
+use Prim.Native.Nat.{ℕ, _+_, _≤_, _<_}
+use lib.ListN.{length}
+use Rattle.tally.specs.declared.SeasonPatch.{SeasonPatch}
+use Rattle.tally.specs.declared.Tally.{Tally}
+use Rattle.tally.specs.declared.Figures.{Figures}
+use Rattle.tally.specs.Checks.{maxPatches, enterable, sound}
+use Rattle.tally.specs.Tallies.{addedTo}
+use Rattle.tally.specs.Working.{noFigures, figuresOf}
+use Rattle.tally.specs.Season.{Each, Figured, Empty, after, entered, Reordered, Alike}
+
+-- one addition
+pub record Additions : Type 0 where
+  -- a refusal changes nothing in the tally
+  pub unchanged : (t : Tally) (p : SeasonPatch) → (addedTo t p .answer ≡ 0 → ⊥) → addedTo t p .tally ≡ t
+  -- an accepted addition never makes a tally that 24 refuses
+  pub taken-again : (t : Tally) (p : SeasonPatch) → addedTo t p .answer ≡ 0 → sound (addedTo t p .tally) ≡ true
+
+-- a tally that began empty and was changed by additions only, refused ones among them
+pub record Seasons : Type 0 where
+  -- its figures are those worked out from the list of patches entered
+  pub figures : (t : Tally) (calls : List SeasonPatch) → Empty t → 0 < length (entered t calls)
+      → Figured (entered t calls) (figuresOf (after t calls))
+  -- and there are no others
+  pub only : (ps : List SeasonPatch) (f g : Figures) → Figured ps f → Figured ps g → f ≡ g
+  -- with none entered it is empty
+  pub empty : (t : Tally) (calls : List SeasonPatch) → Empty t → length (entered t calls) ≡ 0
+      → figuresOf (after t calls) ≡ noFigures 21
+  -- it is never refused with 24
+  pub taken : (t : Tally) (calls : List SeasonPatch) → Empty t → sound (after t calls) ≡ true
+  -- in any order of entry the figures are the same but for which of two equally covered patches is named
+  pub any-order : (t u : Tally) (calls others : List SeasonPatch) → Empty t → Empty u
+      → Reordered (entered t calls) (entered u others) → 0 < length (entered t calls)
+      → Alike (figuresOf (after t calls)) (figuresOf (after u others))
+  -- all patches that 20 lets through are entered, as long as there is room
+  pub all : (ps : List SeasonPatch) (t : Tally) → sound t ≡ true → Each (λ p. enterable p ≡ true) ps
+      → t .patches + length ps ≤ maxPatches → entered t ps ≡ ps
