@@ -25,8 +25,13 @@
  *    9  the faces found don't fit the face slice
  *   10  a line of the cloud file is malformed; detail: the first such line, from 1
  *   11  all lines are well formed, but the points don't fit the slices
+ *   19  the tally is full: it has 100,000 patches
+ *   20  a season's patch has no points, more than 4,096, more covered than scanned or more than 10,000 faces
+ *   21  figures are asked of an empty tally
+ *   24  no season can have left the tally, see YbTally
  *
- * The checks are made in this order; a not-a-number is within no bounds. At a refusal every other field is 0.
+ * The checks are made in this order, but for a tally's, whose calls name theirs and have no detail; a not-a-number is
+ * within no bounds. At a refusal every other field is 0.
  *
  * A slice that stays as it was, or the part of one, does so bit for bit, but for one thing: what is proved treats all
  * not-a-numbers as one, so of a float slice that held one it says that it holds one still, not with which payload.
@@ -62,26 +67,34 @@ typedef enum {
     YB_NO_TRIANGLE = 8,
     YB_FACES = 9,
     YB_LINE = 10,
-    YB_ROOM = 11
+    YB_ROOM = 11,
+    YB_TALLY_FULL = 19,
+    YB_SEASON_PATCH = 20,
+    YB_TALLY_EMPTY = 21,
+    YB_TALLY = 24
 } YbAnswer;
 
 /* An answer in words, whatever the number. */
 static inline const char *yb_answer_text(uint32_t answer) {
-    static const char *const texts[] = {
-        "accepted",
-        "there are no points",
-        "the numbers of coordinates and of normals don't belong together",
-        "there are more than 4,096 points",
-        "a coordinate or normal is outside the domain",
-        "a setting is outside its bounds",
-        "the percentile is not within 0 to 1",
-        "a work slice is too short",
-        "no triangle was found",
-        "the faces found don't fit the face slice",
-        "a line of the cloud file is malformed",
-        "the file's points don't fit the slices",
-    };
-    return answer < sizeof texts / sizeof *texts ? texts[answer] : "an answer that this version has no words for";
+    switch (answer) {
+    case YB_ACCEPTED: return "accepted";
+    case YB_NO_POINTS: return "there are no points";
+    case YB_LENGTHS: return "the numbers of coordinates and of normals don't belong together";
+    case YB_TOO_MANY_POINTS: return "there are more than 4,096 points";
+    case YB_POINT: return "a coordinate or normal is outside the domain";
+    case YB_SETTING: return "a setting is outside its bounds";
+    case YB_PERCENTILE: return "the percentile is not within 0 to 1";
+    case YB_WORK: return "a work slice is too short";
+    case YB_NO_TRIANGLE: return "no triangle was found";
+    case YB_FACES: return "the faces found don't fit the face slice";
+    case YB_LINE: return "a line of the cloud file is malformed";
+    case YB_ROOM: return "the file's points don't fit the slices";
+    case YB_TALLY_FULL: return "the tally has 100,000 patches";
+    case YB_SEASON_PATCH: return "the patch's counts can't be entered";
+    case YB_TALLY_EMPTY: return "the tally is empty";
+    case YB_TALLY: return "no season can have left this tally";
+    default: return "an answer that this version has no words for";
+    }
 }
 
 /* The most points of a cloud. */
@@ -145,6 +158,49 @@ typedef struct {
     float radius;
     size_t count; /* points */
 } YbCloudRead;
+
+/* What is entered of a patch: a number of the caller's own, the cloud's points, those that a face touches, faces. */
+typedef struct {
+    uint32_t number;
+    uint32_t scanned; /* 1 to 4,096 */
+    uint32_t covered; /* at most scanned */
+    uint32_t faces;   /* at most 10,000 */
+} YbSeasonPatch;
+
+/*
+ * The sums over a season's patches. All zeros is an empty tally. With patches = 0 best and worst may hold anything.
+ * 24 refuses a tally with more than 100,000 patches, with a sum above its patches times 10,000 (faces), 10,000 squared
+ * (face_squares) or 4,096 (scanned, covered), with scanned below patches or below covered, with faces squared above
+ * patches times face_squares, or, unless patches is 0, with a best or worst that 20 would refuse.
+ */
+typedef struct {
+    uint64_t patches;
+    uint64_t faces;
+    uint64_t face_squares;
+    uint64_t scanned;
+    uint64_t covered;
+    YbSeasonPatch best;
+    YbSeasonPatch worst;
+} YbTally;
+
+/* A fraction in lowest terms: no number above 1 divides both, and 0 is 0/1. At a refusal both are 0. */
+typedef struct {
+    uint64_t numerator;
+    uint64_t denominator;
+} YbFraction;
+
+/* The figures of a season. */
+typedef struct {
+    uint32_t answer;
+    uint64_t patches;
+    YbFraction mean;     /* of the face counts */
+    YbFraction variance; /* (patches * face_squares - faces * faces) / (patches * patches) */
+    YbFraction coverage; /* covered / scanned */
+    YbSeasonPatch best;  /* of equally covered ones the earlier */
+    YbSeasonPatch worst;
+    YbFraction best_coverage;
+    YbFraction worst_coverage;
+} YbFigures;
 
 /* ---- The library itself ---- */
 
@@ -246,6 +302,17 @@ YbCloudRead yb_read_cloud(const uint8_t *bytes, size_t bytes_len, float *points,
  */
 size_t yb_mark_reached(const uint32_t *faces, size_t faces_len, uint32_t *reached, size_t reached_len);
 
+/* ---- Seasons ---- */
+
+/*
+ * Adds a patch to the tally, where it is. Answers 0, 24, 20 or 19, tried in this order; a refusal changes nothing.
+ * Coverages are compared as fractions: only a strictly better or worse patch takes the place of best or worst.
+ */
+uint32_t yb_tally_add(YbTally *tally, YbSeasonPatch patch);
+
+/* The figures of the tally. Answers 0, 24 or 21, tried in this order; at a refusal every other field is 0. */
+YbFigures yb_tally_figures(const YbTally *tally);
+
 /* ---- The layout that the library was built with ---- */
 
 #define YB_SIZE(type, size) YB_ASSERT(sizeof(type) == (size), "the size of " #type)
@@ -292,6 +359,36 @@ YB_AT(YbCloudRead, answer, 0);
 YB_AT(YbCloudRead, detail, 8);
 YB_AT(YbCloudRead, radius, 16);
 YB_AT(YbCloudRead, count, 24);
+
+YB_SIZE(YbSeasonPatch, 16);
+YB_AT(YbSeasonPatch, number, 0);
+YB_AT(YbSeasonPatch, scanned, 4);
+YB_AT(YbSeasonPatch, covered, 8);
+YB_AT(YbSeasonPatch, faces, 12);
+
+YB_SIZE(YbTally, 72);
+YB_AT(YbTally, patches, 0);
+YB_AT(YbTally, faces, 8);
+YB_AT(YbTally, face_squares, 16);
+YB_AT(YbTally, scanned, 24);
+YB_AT(YbTally, covered, 32);
+YB_AT(YbTally, best, 40);
+YB_AT(YbTally, worst, 56);
+
+YB_SIZE(YbFraction, 16);
+YB_AT(YbFraction, numerator, 0);
+YB_AT(YbFraction, denominator, 8);
+
+YB_SIZE(YbFigures, 128);
+YB_AT(YbFigures, answer, 0);
+YB_AT(YbFigures, patches, 8);
+YB_AT(YbFigures, mean, 16);
+YB_AT(YbFigures, variance, 32);
+YB_AT(YbFigures, coverage, 48);
+YB_AT(YbFigures, best, 64);
+YB_AT(YbFigures, worst, 80);
+YB_AT(YbFigures, best_coverage, 96);
+YB_AT(YbFigures, worst_coverage, 112);
 
 #undef YB_SIZE
 #undef YB_AT

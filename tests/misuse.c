@@ -245,7 +245,55 @@ static void library(void) {
     CHECK(yb_check_layout() && yb_version() == YB_VERSION && yb_layout() == YB_LAYOUT);
     for (uint32_t answer = 0; answer < 40; answer++) CHECK(*yb_answer_text(answer) != 0);
     CHECK(strcmp(yb_answer_text(YB_NO_TRIANGLE), "no triangle was found") == 0);
-    CHECK(strcmp(yb_answer_text(YB_ROOM + 1), yb_answer_text(UINT32_MAX)) == 0);
+    CHECK(strcmp(yb_answer_text(25), yb_answer_text(UINT32_MAX)) == 0);
+}
+
+/* True if the tally gets this answer from both calls, no figures, and stays as it is. */
+static bool damaged(YbTally tally, uint32_t answer) {
+    const YbSeasonPatch patch = {1, 1, 1, 1};
+    YbTally before = tally;
+    YbFigures f = yb_tally_figures(&tally);
+    const size_t rest = offsetof(YbFigures, patches);
+    bool told = f.answer == answer && all((const char *)&f + rest, sizeof f - rest, 0);
+    return told && yb_tally_add(&tally, patch) == answer && memcmp(&before, &tally, sizeof tally) == 0;
+}
+
+/* The tally's refusals in their order, and a season of three patches, two of them equally covered. */
+static void tallies(void) {
+    const YbSeasonPatch season[] = {{7, 4, 2, 3}, {8, 2, 1, 5}, {9, 4, 3, 4}};
+    const YbSeasonPatch bad[] = {{1, 0, 0, 0}, {1, 4097, 0, 0}, {1, 5, 6, 0}, {1, 1, 0, 10001}};
+    YbTally t;
+    memset(&t, 0, sizeof t);
+    memset(&t.best, OLD, sizeof t.best + sizeof t.worst);
+    CHECK(yb_tally_figures(&t).answer == 21);
+    for (int i = 0; i < 3; i++) CHECK(yb_tally_add(&t, season[i]) == 0);
+    YbTally before = t;
+    for (int i = 0; i < 4; i++) CHECK(yb_tally_add(&t, bad[i]) == 20 && memcmp(&before, &t, sizeof t) == 0);
+    YbFigures f = yb_tally_figures(&t);
+    CHECK(f.answer == 0 && f.patches == 3 && f.mean.numerator == 4 && f.mean.denominator == 1);
+    CHECK(f.variance.numerator == 2 && f.variance.denominator == 3);
+    CHECK(f.coverage.numerator == 3 && f.coverage.denominator == 5);
+    CHECK(f.best.number == 9 && f.best_coverage.numerator == 3 && f.best_coverage.denominator == 4);
+    CHECK(f.worst.number == 7 && f.worst_coverage.numerator == 1 && f.worst_coverage.denominator == 2);
+
+    t = before, t.patches = 100001;
+    CHECK(damaged(t, 24));
+    t = before, t.faces = 13;
+    CHECK(damaged(t, 24));
+    t = before, t.face_squares = 300000001;
+    CHECK(damaged(t, 24));
+    t = before, t.scanned = 2;
+    CHECK(damaged(t, 24));
+    t = before, t.covered = 11;
+    CHECK(damaged(t, 24));
+    t = before, t.best.scanned = 0;
+    CHECK(damaged(t, 24) && yb_tally_add(&t, bad[0]) == 24);
+    t = before, t.worst.faces = 10001;
+    CHECK(damaged(t, 24));
+    memset(&t, 0xff, sizeof t);
+    CHECK(damaged(t, 24));
+    t = before, t.patches = t.scanned = 100000;
+    CHECK(yb_tally_add(&t, season[0]) == 19 && yb_tally_add(&t, bad[0]) == 20 && yb_tally_figures(&t).answer == 0);
 }
 
 int main(void) {
@@ -259,6 +307,7 @@ int main(void) {
     choices();
     estimates();
     files();
+    tallies();
     printf("misuse: %d failures\n", failures);
     return failures != 0;
 }

@@ -13,11 +13,16 @@ ghost use Rattle.cloud.specs.Answers.{Answered, outcome};
 ghost use Rattle.ball_pivoting.specs.Outcome.{Reconstructs};
 ghost use Rattle.coverage.specs.Coverage.{Marked};
 ghost use Rattle.release.specs.Release.{version, layout};
+ghost use Rattle.tally.specs.Tallies.{addedTo};
+ghost use Rattle.tally.specs.Working.{figuresOf};
 use ball_pivoting::Patch;
 use cloud::CloudRead;
 use estimate::Estimate;
 use quality::TriangleQuality;
 use settings::BallPivotingConfig;
+use tally::Figures;
+use tally::SeasonPatch;
+use tally::Tally;
 
 #[no_mangle]
 pub extern "C" fn yb_version() -> u32
@@ -188,4 +193,22 @@ pub extern "C" fn yb_mark_reached(faces: &[u32], reached: &mut [u32]) -> usize
     ensures { λ r. ⌜ Marked (now (faces .entry)) (now (reached .entry)) r (now (reached .exit)) ⌝ }
 {
     coverage::mark_reached(faces, reached)
+}
+
+// Adds a patch to a lent tally, where it is.
+#[no_mangle]
+pub extern "C" fn yb_tally_add(tally: &mut Tally, patch: SeasonPatch) -> u32
+    ensures { λ r. ⌜ (r ≡ addedTo (now (tally .entry)) patch .answer)
+        × (now (tally .exit) ≡ addedTo (now (tally .entry)) patch .tally) ⌝ }
+{
+    let next = tally::added(*tally, patch);
+    *tally = next.tally;
+    next.answer
+}
+
+#[no_mangle]
+pub extern "C" fn yb_tally_figures(tally: &Tally) -> Figures
+    ensures { λ r. ⌜ r ≡ figuresOf (now (tally .entry)) ⌝ }
+{
+    tally::figures_of(*tally)
 }

@@ -28,6 +28,14 @@ pub enum Error {
     Line(usize),
     /// 11. The file's points don't fit the point slices.
     Room,
+    /// 19. The tally has 100,000 patches.
+    TallyFull,
+    /// 20. A season's patch has no points, more than 4,096, more covered than scanned or more than 10,000 faces.
+    SeasonPatch,
+    /// 21. The tally is empty.
+    TallyEmpty,
+    /// 24. No season can have left this tally.
+    Tally,
     /// An answer that this version of the crate has no name for.
     Unknown {
         /// Its number.
@@ -37,25 +45,27 @@ pub enum Error {
     },
 }
 
-/// What each answer says, by its number; c/yarrowbleat.h has the same words.
-const TEXTS: [&str; 12] = [
-    "accepted",
-    "there are no points",
-    "the numbers of coordinates and of normals don't belong together",
-    "there are more than 4,096 points",
-    "a coordinate or normal is outside the domain",
-    "a setting is outside its bounds",
-    "the percentile is not within 0 to 1",
-    "a work slice is too short",
-    "no triangle was found",
-    "the faces found don't fit the face slice",
-    "a line of the cloud file is malformed",
-    "the file's points don't fit the slices",
-];
-
-/// An answer in words, whatever the number.
+/// An answer in words, whatever the number; c/yarrowbleat.h has the same.
 pub fn answer_text(answer: u32) -> &'static str {
-    TEXTS.get(answer as usize).copied().unwrap_or("an answer that this version has no words for")
+    match answer {
+        0 => "accepted",
+        1 => "there are no points",
+        2 => "the numbers of coordinates and of normals don't belong together",
+        3 => "there are more than 4,096 points",
+        4 => "a coordinate or normal is outside the domain",
+        5 => "a setting is outside its bounds",
+        6 => "the percentile is not within 0 to 1",
+        7 => "a work slice is too short",
+        8 => "no triangle was found",
+        9 => "the faces found don't fit the face slice",
+        10 => "a line of the cloud file is malformed",
+        11 => "the file's points don't fit the slices",
+        19 => "the tally has 100,000 patches",
+        20 => "the patch's counts can't be entered",
+        21 => "the tally is empty",
+        24 => "no season can have left this tally",
+        _ => "an answer that this version has no words for",
+    }
 }
 
 /// The settings in the order in which they are checked.
@@ -85,6 +95,10 @@ impl Error {
             9 => Error::Faces,
             10 => Error::Line(detail),
             11 => Error::Room,
+            19 => Error::TallyFull,
+            20 => Error::SeasonPatch,
+            21 => Error::TallyEmpty,
+            24 => Error::Tally,
             answer => Error::Unknown { answer, detail },
         })
     }
@@ -103,6 +117,10 @@ impl Error {
             Error::Faces => 9,
             Error::Line(_) => 10,
             Error::Room => 11,
+            Error::TallyFull => 19,
+            Error::SeasonPatch => 20,
+            Error::TallyEmpty => 21,
+            Error::Tally => 24,
             Error::Unknown { answer, .. } => *answer,
         }
     }

@@ -13,6 +13,7 @@ struct Readme;
 mod config;
 mod error;
 pub mod sys;
+pub mod tally;
 
 pub use config::BallPivotingConfig;
 pub use error::{answer_text, Error};

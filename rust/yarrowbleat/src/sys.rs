@@ -99,6 +99,52 @@ pub struct CloudRead {
     pub count: usize,
 }
 
+/// What is entered of a patch: the number that its caller gave, and its counts.
+#[repr(C)]
+#[derive(Clone, Copy, Debug, Default, PartialEq, Eq)]
+pub struct SeasonPatch {
+    pub number: u32,
+    pub scanned: u32,
+    pub covered: u32,
+    pub faces: u32,
+}
+
+/// The sums over a season's patches; all zeros is an empty tally.
+#[repr(C)]
+#[derive(Clone, Copy, Debug, Default, PartialEq, Eq)]
+pub struct Tally {
+    pub patches: u64,
+    pub faces: u64,
+    pub face_squares: u64,
+    pub scanned: u64,
+    pub covered: u64,
+    pub best: SeasonPatch,
+    pub worst: SeasonPatch,
+}
+
+/// A fraction in lowest terms.
+#[repr(C)]
+#[derive(Clone, Copy, Debug, Default, PartialEq, Eq)]
+pub struct Fraction {
+    pub numerator: u64,
+    pub denominator: u64,
+}
+
+/// The figures of a season; zeros but for the answer at a refusal.
+#[repr(C)]
+#[derive(Clone, Copy, Debug, Default, PartialEq, Eq)]
+pub struct Figures {
+    pub answer: u32,
+    pub patches: u64,
+    pub mean: Fraction,
+    pub variance: Fraction,
+    pub coverage: Fraction,
+    pub best: SeasonPatch,
+    pub worst: SeasonPatch,
+    pub best_coverage: Fraction,
+    pub worst_coverage: Fraction,
+}
+
 /// A struct's name, its size, and each field with its offset.
 pub type Layout = (&'static str, usize, &'static [(&'static str, usize)]);
 
@@ -122,6 +168,11 @@ layouts! {
         use_spatial_index 92, spatial_cell_factor 96;
     Patch 96: answer 0, detail 4, faces 8, seeds 12, looks 16, pivots 20, radii_count 24, radii 28;
     CloudRead 32: answer 0, detail 8, radius 16, count 24;
+    SeasonPatch 16: number 0, scanned 4, covered 8, faces 12;
+    Tally 72: patches 0, faces 8, face_squares 16, scanned 24, covered 32, best 40, worst 56;
+    Fraction 16: numerator 0, denominator 8;
+    Figures 128: answer 0, patches 8, mean 16, variance 32, coverage 48, best 64, worst 80, best_coverage 96,
+        worst_coverage 112;
 }
 
 /// The layouts as one number, FNV-1a over their names, sizes and offsets: another number is another layout.
@@ -239,11 +290,13 @@ mod linked {
             normals_len: usize,
         ) -> CloudRead;
         pub fn yb_mark_reached(faces: *const u32, faces_len: usize, reached: *mut u32, reached_len: usize) -> usize;
+        pub fn yb_tally_add(tally: *mut Tally, patch: SeasonPatch) -> u32;
+        pub fn yb_tally_figures(tally: *const Tally) -> Figures;
     }
 }
 
-// SAFETY, for all of the below: the calls read and write the slices that they are lent and nothing else;
-// each pointer comes from a slice that lives through the call, with its own length.
+// SAFETY, for all of the below: the calls read and write the slices and structs that they are lent and nothing else;
+// each pointer comes from a slice that lives through the call, with its own length, or from a reference.
 
 /// The version of the library, a million times the first number, a thousand times the second, and the third.
 pub fn version() -> u32 {
@@ -374,4 +427,14 @@ pub fn read_cloud(bytes: &[u8], points: &mut [f32], normals: &mut [f32]) -> Clou
 /// Marks the points that faces have with 1, the others with 0; the answer is how many are marked.
 pub fn mark_reached(faces: &[u32], reached: &mut [u32]) -> usize {
     unsafe { linked::yb_mark_reached(faces.as_ptr(), faces.len(), reached.as_mut_ptr(), reached.len()) }
+}
+
+/// Adds a patch to a tally, where it is; the answer is 0, 24, 20 or 19.
+pub fn tally_add(tally: &mut Tally, patch: SeasonPatch) -> u32 {
+    unsafe { linked::yb_tally_add(tally, patch) }
+}
+
+/// The figures of a tally; the answer is 0, 24 or 21.
+pub fn tally_figures(tally: &Tally) -> Figures {
+    unsafe { linked::yb_tally_figures(tally) }
 }

@@ -1,18 +1,22 @@
 //! The C header and the Rust declarations have the structs and functions of the Rattle source, by its text.
 
-use std::collections::BTreeSet;
+use std::collections::{BTreeMap, BTreeSet};
 use yarrowbleat::sys::{self, LAYOUTS};
 
 const HEADER: &str = include_str!("../../../c/yarrowbleat.h");
 const SYS: &str = include_str!("../src/sys.rs");
 const EXPORTS: &str = include_str!("../../../crates/exports/src/lib.rt");
 const RELEASE: &str = include_str!("../../../crates/release/src/lib.rt");
-const STRUCTS: [(&str, &str); 5] = [
+const STRUCTS: [(&str, &str); 9] = [
     ("TriangleQuality", include_str!("../../../crates/quality/src/lib.rt")),
     ("Estimate", include_str!("../../../crates/estimate/src/lib.rt")),
     ("BallPivotingConfig", include_str!("../../../crates/settings/src/lib.rt")),
     ("Patch", include_str!("../../../crates/ball_pivoting/src/lib.rt")),
     ("CloudRead", include_str!("../../../crates/cloud/src/lib.rt")),
+    ("SeasonPatch", include_str!("../../../crates/tally/src/lib.rt")),
+    ("Tally", include_str!("../../../crates/tally/src/lib.rt")),
+    ("Fraction", include_str!("../../../crates/fractions/src/lib.rt")),
+    ("Figures", include_str!("../../../crates/tally/src/lib.rt")),
 ];
 
 /// What stands between two marks, from the first place where the one before it stands.
@@ -49,12 +53,29 @@ fn room(kind: &str) -> (usize, usize) {
     match kind {
         "bool" => (1, 1),
         "u32" | "f32" => (4, 4),
-        "usize" => (8, 8),
-        array => {
-            let count = array.strip_prefix("[f32; ").and_then(|r| r.strip_suffix(']')).expect("a known type");
-            (4 * count.parse::<usize>().unwrap(), 4)
-        }
+        "usize" | "u64" => (8, 8),
+        other => match other.strip_prefix("[f32; ").and_then(|r| r.strip_suffix(']')) {
+            Some(count) => (4 * count.parse::<usize>().unwrap(), 4),
+            None => {
+                let (_, source) = STRUCTS.iter().find(|(name, _)| *name == other).expect("a known type");
+                let (size, align, _) = layout(source, other);
+                (size, align)
+            }
+        },
     }
+}
+
+/// Size and alignment of a struct, and the offsets of its fields.
+fn layout(source: &'static str, name: &str) -> (usize, usize, Vec<(&'static str, usize)>) {
+    let (mut end, mut widest) = (0, 1);
+    let mut offsets = Vec::new();
+    for (field, kind) in fields(source, name) {
+        let (size, align) = room(kind);
+        let at = usize::next_multiple_of(end, align);
+        offsets.push((field, at));
+        (end, widest) = (at + size, widest.max(align));
+    }
+    (end.next_multiple_of(widest), widest, offsets)
 }
 
 /// The fields of the Rattle source lie where Rust and C are held to.
@@ -63,15 +84,7 @@ fn layouts() {
     assert_eq!(LAYOUTS.len(), STRUCTS.len());
     let mut asserts = String::new();
     for ((name, source), (rust_name, rust_size, rust_fields)) in STRUCTS.iter().zip(LAYOUTS) {
-        let (mut end, mut widest) = (0, 1);
-        let mut offsets = Vec::new();
-        for (field, kind) in fields(source, name) {
-            let (size, align) = room(kind);
-            let at = usize::next_multiple_of(end, align);
-            offsets.push((field, at));
-            (end, widest) = (at + size, widest.max(align));
-        }
-        let size = end.next_multiple_of(widest);
+        let (size, _, offsets) = layout(source, name);
         assert_eq!((*name, size, offsets.as_slice()), (*rust_name, *rust_size, *rust_fields));
         asserts += &format!("YB_SIZE(Yb{name}, {size});\n");
         offsets.iter().for_each(|(field, at)| asserts += &format!("YB_AT(Yb{name}, {field}, {at});\n"));
@@ -102,6 +115,7 @@ fn c_type(kind: &str) -> String {
     match kind {
         "f32" => "float".into(),
         "u32" => "uint32_t".into(),
+        "u64" => "uint64_t".into(),
         "u8" => "uint8_t".into(),
         "usize" => "size_t".into(),
         "bool" => "bool".into(),
@@ -114,7 +128,11 @@ fn c_parameter((name, kind): &(&str, &str)) -> String {
     match (kind.strip_prefix("&mut ["), kind.strip_prefix("&[")) {
         (Some(of), _) => slice(of.trim_end_matches(']'), ""),
         (_, Some(of)) => slice(of.trim_end_matches(']'), "const "),
-        _ => format!("{} {name}", c_type(kind)),
+        _ => match (kind.strip_prefix("&mut "), kind.strip_prefix('&')) {
+            (Some(of), _) => format!("{} *{name}", c_type(of)),
+            (_, Some(of)) => format!("const {} *{name}", c_type(of)),
+            _ => format!("{} {name}", c_type(kind)),
+        },
     }
 }
 
@@ -123,7 +141,11 @@ fn rust_parameter((name, kind): &(&str, &str)) -> String {
     match (kind.strip_prefix("&mut ["), kind.strip_prefix("&[")) {
         (Some(of), _) => slice(of, "mut"),
         (_, Some(of)) => slice(of, "const"),
-        _ => format!("{name}: {kind}"),
+        _ => match (kind.strip_prefix("&mut "), kind.strip_prefix('&')) {
+            (Some(of), _) => format!("{name}: *mut {of}"),
+            (_, Some(of)) => format!("{name}: *const {of}"),
+            _ => format!("{name}: {kind}"),
+        },
     }
 }
 
@@ -172,13 +194,15 @@ fn version_and_layout() {
 /// The header's words for the answers are the crate's.
 #[test]
 fn answers() {
-    let texts = between(HEADER, "texts[] = {", "};").lines().filter_map(|line| line.trim().strip_prefix('"'));
-    let texts: Vec<_> = texts.map(|line| line.trim_end_matches("\",")).collect();
-    let unknown = between(HEADER, "? texts[answer] : \"", "\"");
-    for answer in 0..20 {
-        assert_eq!(*texts.get(answer).unwrap_or(&unknown), yarrowbleat::answer_text(answer as u32));
-    }
     let names = between(HEADER, "/* The answers. */\ntypedef enum {", "} YbAnswer;");
-    let numbers = names.split(',').map(|entry| entry.rsplit(' ').next().unwrap().trim().parse::<usize>().unwrap());
-    assert_eq!(numbers.collect::<Vec<_>>(), (0..texts.len()).collect::<Vec<_>>());
+    let mut words = BTreeMap::new();
+    for entry in names.split(',') {
+        let (name, number) = entry.trim().split_once(" = ").unwrap();
+        words.insert(number.parse::<u32>().unwrap(), between(HEADER, &format!("case {name}: return \""), "\";"));
+    }
+    assert_eq!(words.len(), HEADER.matches("case YB_").count());
+    let unknown = between(HEADER, "default: return \"", "\";");
+    for answer in (0..40).chain([u32::MAX]) {
+        assert_eq!(*words.get(&answer).unwrap_or(&unknown), yarrowbleat::answer_text(answer));
+    }
 }
