@@ -103,9 +103,13 @@ pub struct CloudRead {
 #[repr(C)]
 #[derive(Clone, Copy, Debug, Default, PartialEq, Eq)]
 pub struct SeasonPatch {
+    /// The caller's own number.
     pub number: u32,
+    /// The cloud's points.
     pub scanned: u32,
+    /// Of these, the ones that a face touches.
     pub covered: u32,
+    /// The faces.
     pub faces: u32,
 }
 
@@ -113,12 +117,19 @@ pub struct SeasonPatch {
 #[repr(C)]
 #[derive(Clone, Copy, Debug, Default, PartialEq, Eq)]
 pub struct Tally {
+    /// How many patches were entered.
     pub patches: u64,
+    /// The sum of the face counts.
     pub faces: u64,
+    /// The sum of the squared face counts.
     pub face_squares: u64,
+    /// The sum of the clouds' points.
     pub scanned: u64,
+    /// The sum of the points that a face touches.
     pub covered: u64,
+    /// The best covered patch, the earlier of equal ones.
     pub best: SeasonPatch,
+    /// The worst covered patch, the earlier of equal ones.
     pub worst: SeasonPatch,
 }
 
@@ -126,7 +137,9 @@ pub struct Tally {
 #[repr(C)]
 #[derive(Clone, Copy, Debug, Default, PartialEq, Eq)]
 pub struct Fraction {
+    /// The part above the line.
     pub numerator: u64,
+    /// The part below it.
     pub denominator: u64,
 }
 
@@ -134,14 +147,23 @@ pub struct Fraction {
 #[repr(C)]
 #[derive(Clone, Copy, Debug, Default, PartialEq, Eq)]
 pub struct Figures {
+    /// The answer's number, 0 where the call accepts.
     pub answer: u32,
+    /// How many patches were entered.
     pub patches: u64,
+    /// The mean of the face counts.
     pub mean: Fraction,
+    /// Their variance.
     pub variance: Fraction,
+    /// The part of all scanned points that is covered.
     pub coverage: Fraction,
+    /// The best covered patch, the earlier of equal ones.
     pub best: SeasonPatch,
+    /// The worst covered patch, the earlier of equal ones.
     pub worst: SeasonPatch,
+    /// The best patch's coverage.
     pub best_coverage: Fraction,
+    /// The worst patch's coverage.
     pub worst_coverage: Fraction,
 }
 

@@ -29,15 +29,21 @@ pub struct Tally {
 /// The figures of a season. Of equally covered patches the earlier one is named.
 #[derive(Clone, Copy, Debug, PartialEq, Eq)]
 pub struct Figures {
+    /// How many patches were entered.
     pub patches: u64,
-    /// Mean and variance of the face counts.
+    /// The mean of the face counts.
     pub mean: Fraction,
+    /// Their variance.
     pub variance: Fraction,
     /// The part of all scanned points that is covered.
     pub coverage: Fraction,
+    /// The best covered patch, the earlier of equal ones.
     pub best: SeasonPatch,
+    /// The worst covered patch, the earlier of equal ones.
     pub worst: SeasonPatch,
+    /// The best patch's coverage.
     pub best_coverage: Fraction,
+    /// The worst patch's coverage.
     pub worst_coverage: Fraction,
 }
 
@@ -62,6 +68,7 @@ impl Tally {
         Error::check(sys::tally_add(&mut self.sums, patch), 0)
     }
 
+    /// The figures of what was added.
     pub fn figures(&self) -> Result<Figures, Error> {
         let f = sys::tally_figures(&self.sums);
         Error::check(f.answer, 0)?;
