@@ -264,7 +264,8 @@ static void tallies(void) {
     const YbSeasonPatch bad[] = {{1, 0, 0, 0}, {1, 4097, 0, 0}, {1, 5, 6, 0}, {1, 1, 0, 10001}};
     YbTally t;
     memset(&t, 0, sizeof t);
-    memset(&t.best, OLD, sizeof t.best + sizeof t.worst);
+    memset(&t.best, OLD, sizeof t.best);
+    memset(&t.worst, OLD, sizeof t.worst);
     CHECK(yb_tally_figures(&t).answer == 21);
     for (int i = 0; i < 3; i++) CHECK(yb_tally_add(&t, season[i]) == 0);
     YbTally before = t;

@@ -1,5 +1,5 @@
 -- Lowest terms: they are what they are called, no other fraction is, and equal fractions have the same. Assumes nothing.
-use mathlib.Core.Path.{_≡_, refl, sym, ap, subst, _∙_}
+use mathlib.Core.Path.{_≡_, sym, ap, subst, _∙_}
 use Prim.Native.Nat.{ℕ, _*_, _/_, _<_, _∣_}
 use native.Mathlib.Nat.{dvd-mul-right, div-mul-cancel, mul-dvd-mul-right, dvd-of-mul-dvd-mul-right, eq-one-of-dvd-one, pos-of-dvd-of-pos, one-mul, mul-comm, mul-div-mul-left, div-one}
 use native.Mathlib.Omega.{arith}

@@ -6,11 +6,10 @@ use Rattle.fractions.specs.declared.Fraction.{Fraction}
 use Rattle.fractions.specs.Terms.{euclid, greatest, lowest}
 use Rattle.tally.specs.declared.SeasonPatch.{SeasonPatch}
 use Rattle.tally.specs.declared.Tally.{Tally}
-use Rattle.tally.specs.declared.Figures.{Figures}
 use Rattle.tally.specs.Checks.{enterable, within, sound}
 use Rattle.tally.specs.Tallies.{better, bestOf, worstOf, summed, withPatch, addedTo}
 use Rattle.tally.specs.Working.{coverageOf, varianceOf, noFigures, soundFigures, figuresOf}
-use Rattle.tally.specs.Season.{after}
+use Rattle.tally.specs.Season.{Empty, after}
 
 -- number, scanned, covered, faces
 abbrev patch : ℕ → ℕ → ℕ → ℕ → SeasonPatch
@@ -130,6 +129,9 @@ abbrev three : List SeasonPatch
 three = patch 7 4 2 3 ∷ patch 8 2 1 5 ∷ patch 9 4 3 4 ∷ []
 
 pub record SeasonCases : Type 0 where
+  -- a season begins with zeros, or with anything as best and worst
+  pub begins : Empty none
+  pub begins-with-ends : Empty (tally 0 0 0 0 0 b bad)
   -- whatever stood in an empty tally, the first patch is both; of 1/2 and 2/4 the earlier one stays
   pub equal : after (tally 0 0 0 0 0 b bad) (patch 8 2 1 5 ∷ patch 7 4 2 3 ∷ []) ≡ tally 2 8 34 6 3 (patch 8 2 1 5) (patch 8 2 1 5)
   pub worked : figuresOf (after none three) ≡ record {
@@ -158,4 +160,10 @@ pub record SeasonCases : Type 0 where
 
 pub season-cases : SeasonCases
 unfolding after addedTo sound within enterable withPatch summed bestOf worstOf better figuresOf soundFigures noFigures varianceOf coverageOf lowest greatest euclid
-season-cases = record { equal = refl; worked = refl; zeros = refl }
+season-cases = record {
+  begins = record { patches = refl; taken = refl };
+  begins-with-ends = record { patches = refl; taken = refl };
+  equal = refl;
+  worked = refl;
+  zeros = refl;
+}

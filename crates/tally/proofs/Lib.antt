@@ -3,4 +3,5 @@ pub mod Told
 pub mod Additions
 pub mod Ahead
 pub mod Seasons
+pub mod Terms
 pub mod Cases

@@ -1,14 +1,13 @@
 -- The theorems about a season: its figures are those of the list of patches entered, in any order but for which of two equally covered ones is named. Assumes nothing.
 use mathlib.Core.Path.{_≡_, refl, sym, ap, subst, _∙_}
 use mathlib.Core.Bool.{Bool, true, false, cond}
-use mathlib.Core.Logic.{_⊎_, inl, inr, ⊎-elim}
+use mathlib.Core.Logic.{⊎-elim}
 use mathlib.Core.List.{List, [], _∷_, _++_, append-assoc, append-nil}
 use Prim.Native.Nat.{ℕ, _+_, _*_, _≤_, _<_}
 use native.Mathlib.Omega.{arith}
 use borrow.Author.Tests.{eq-eqb, ne-eqb, eqb-true, eqb-false}
 use lib.Dec.{eqb}
 use lib.ListN.{length, length-append}
-use Rattle.fractions.specs.declared.Fraction.{Fraction}
 use Rattle.fractions.specs.Terms.{lowest}
 use Rattle.fractions.proofs.LowestTerms.{lowest-same}
 use Rattle.tally.specs.Checks.{maxPatches, enterable, sound, Enterable}

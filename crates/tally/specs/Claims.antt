@@ -2,8 +2,9 @@
 use mathlib.Core.Path.{_≡_}
 use mathlib.Core.Bool.{true}
 use mathlib.Core.List.{List}
-use Prim.Native.Nat.{ℕ, _+_, _≤_, _<_}
+use Prim.Native.Nat.{_+_, _*_, _-_, _≤_, _<_}
 use lib.ListN.{length}
+use Rattle.fractions.specs.Terms.{Lowest}
 use Rattle.tally.specs.declared.SeasonPatch.{SeasonPatch}
 use Rattle.tally.specs.declared.Tally.{Tally}
 use Rattle.tally.specs.declared.Figures.{Figures}
@@ -18,6 +19,20 @@ pub record Additions : Type 0 where
   pub unchanged : (t : Tally) (p : SeasonPatch) → (addedTo t p .answer ≡ 0 → ⊥) → addedTo t p .tally ≡ t
   -- an accepted addition never makes a tally that 24 refuses
   pub taken-again : (t : Tally) (p : SeasonPatch) → addedTo t p .answer ≡ 0 → sound (addedTo t p .tally) ≡ true
+
+-- the fractions of a tally's figures are in lowest terms, and the variance's difference is not below zero
+pub record InLowestTerms (t : Tally) (f : Figures) : Type 0 where
+  pub mean : Lowest (t .faces) (t .patches) (f .mean)
+  pub spread : t .faces * t .faces ≤ t .patches * t .«face_squares»
+  pub variance :
+      Lowest (t .patches * t .«face_squares» - t .faces * t .faces) (t .patches * t .patches) (f .variance)
+  pub coverage : Lowest (t .covered) (t .scanned) (f .coverage)
+  pub best-coverage : Lowest (f .best .covered) (f .best .scanned) (f .«best_coverage»)
+  pub worst-coverage : Lowest (f .worst .covered) (f .worst .scanned) (f .«worst_coverage»)
+
+-- the figures of any tally that has some
+pub record Given : Type 0 where
+  pub lowest-terms : (t : Tally) → figuresOf t .answer ≡ 0 → InLowestTerms t (figuresOf t)
 
 -- a tally that began empty and was changed by additions only, refused ones among them
 pub record Seasons : Type 0 where

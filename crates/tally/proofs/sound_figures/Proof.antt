@@ -1,7 +1,6 @@
 -- `tally::sound_figures` meets its contract. Assumes nothing.
 use native.Mathlib.Omega.{arith}
 use borrow.Author.Needs.{needs}
-use Prim.Native.Nat.{_≤_}
 use Rattle.tally.proofs.Told.{squares-fit, faces-fit, product, square-some}
 use Rattle.tally.specs.Working.{soundFigures, varianceOf}
 use Rattle.tally.proofs.sound_figures.Statement.{statement}
