@@ -1,5 +1,11 @@
 //! What the program `lay` prints, a second time: the independent reader, the published code, and the listing.
 
+mod defaults;
+mod files;
+
+pub use defaults::defaults;
+pub use files::files;
+
 use cloudcheck::reader::read_cloud;
 use expect::Found;
 use generate::{clouds, Random};

@@ -1,0 +1,133 @@
+//! The list of changes to the published Rust, and how they are applied: one alone, or all of them into one text, in which a number decides
+//! which one is in force, so that a single build serves them all.
+//!
+//! tests/mutants.txt has a block of lines for each change, parted by empty lines; a line that begins with # is a comment.
+//!
+//! - `name: NAME`
+//! - `in: TEXT`: the change stands between this text and the end of the function that it begins; without it anywhere.
+//! - `old: TEXT` and `new: TEXT`: what stands there, once, and what is put in its place; several pairs are applied in turn.
+//! - `by: STEP, STEP`: the comparisons that have to notice it, each of them; without it any one will do.
+//! - `same: REASON`: why no comparison can notice it.
+
+/// The file that is changed.
+pub const CHANGED: &str = "rust/oracle/src/ball_pivoting.rs";
+
+/// The list.
+pub const LIST: &str = "tests/mutants.txt";
+
+#[derive(Clone, Debug, Default)]
+pub struct Change {
+    pub name: String,
+    pub within: String,
+    pub pairs: Vec<(String, String)>,
+    pub by: Vec<String>,
+    pub same: Option<String>,
+}
+
+fn line(change: &mut Change, line: &str) -> Result<(), String> {
+    let (key, value) = line.split_once(':').ok_or_else(|| format!("no key: {line}"))?;
+    let value = value.strip_prefix(' ').unwrap_or(value).to_string();
+    match key {
+        "name" => change.name = value,
+        "in" => change.within = value,
+        "old" => change.pairs.push((value, String::new())),
+        "new" => change.pairs.last_mut().ok_or_else(|| format!("nothing old before: {line}"))?.1 = value,
+        "by" => change.by = value.split(", ").map(str::to_string).collect(),
+        "same" => change.same = Some(value),
+        _ => return Err(format!("unknown key: {line}")),
+    }
+    Ok(())
+}
+
+/// The changes of the list.
+pub fn changes(list: &str) -> Result<Vec<Change>, String> {
+    let mut changes = vec![Change::default()];
+    for text in list.lines().filter(|text| !text.starts_with('#')) {
+        let last = changes.last_mut().expect("never empty");
+        match text {
+            "" if last.name.is_empty() => {}
+            "" => changes.push(Change::default()),
+            _ => line(last, text)?,
+        }
+    }
+    changes.retain(|change| !change.name.is_empty());
+    Ok(changes)
+}
+
+/// Where the function that begins at a place ends: after the first line that closes what stands in its column.
+fn end_of(text: &str, start: usize) -> usize {
+    let column = start - text[..start].rfind('\n').map_or(0, |at| at + 1);
+    let close = format!("\n{}}}\n", " ".repeat(column));
+    text[start..].find(&close).map_or(text.len(), |at| start + at + close.len())
+}
+
+fn only(text: &str, part: &str) -> Result<usize, String> {
+    let mut found = text.match_indices(part);
+    match (found.next(), found.next()) {
+        (Some((at, _)), None) => Ok(at),
+        (None, _) => Err(format!("this does not stand there: {part}")),
+        _ => Err(format!("this stands there more than once: {part}")),
+    }
+}
+
+/// Begin and end of the body, both braces included, of the function that begins with a text.
+fn body(text: &str, function: &str) -> Result<(usize, usize), String> {
+    let start = only(text, function)?;
+    let end = end_of(text, start);
+    let open = text[start..end].find(" {\n").ok_or_else(|| format!("no body: {function}"))?;
+    Ok((start + open + 1, end - 1))
+}
+
+impl Change {
+    /// Whether it stands in one function, and so can be one of many in one text.
+    pub fn is_local(&self) -> bool {
+        !self.within.is_empty()
+    }
+
+    /// The changed body, or the changed text where no function is named.
+    fn changed(&self, part: &str) -> Result<String, String> {
+        let mut part = part.to_string();
+        for (old, new) in &self.pairs {
+            let at = only(&part, old).map_err(|e| format!("{}: {e}", self.name))?;
+            part.replace_range(at..at + old.len(), new);
+        }
+        Ok(part)
+    }
+
+    /// The text with this change alone.
+    pub fn apply(&self, text: &str) -> Result<String, String> {
+        if !self.is_local() {
+            return self.changed(text);
+        }
+        let (start, end) = body(text, &self.within)?;
+        Ok(format!("{}{}{}", &text[..start], self.changed(&text[start..end])?, &text[end..]))
+    }
+}
+
+/// The text with every local change, each under the number of its place in the list, from 1; 0 is the text as it was.
+/// `crate::mutant()` gives the number.
+pub fn apply_all(text: &str, changes: &[Change]) -> Result<String, String> {
+    let mut out = text.to_string();
+    let mut functions: Vec<&str> = changes.iter().filter(|c| c.is_local()).map(|c| c.within.as_str()).collect();
+    functions.sort();
+    functions.dedup();
+    for function in functions {
+        let (start, end) = body(text, function)?;
+        let published = &text[start..end];
+        let mut arms = String::new();
+        for (i, change) in changes.iter().enumerate().filter(|(_, change)| change.within == function) {
+            arms += &format!("{} => {}\n", i + 1, change.changed(published)?);
+        }
+        let (start, end) = body(&out, function)?;
+        out.replace_range(start..end, &format!("{{ match crate::mutant() {{\n{arms}_ => {published}\n}}\n    }}"));
+    }
+    Ok(out)
+}
+
+/// What the changed crate needs beside that: the number, from the environment.
+pub const CHOICE: &str = "
+pub(crate) fn mutant() -> u32 {
+    static NUMBER: std::sync::OnceLock<u32> = std::sync::OnceLock::new();
+    *NUMBER.get_or_init(|| std::env::var(\"MUTANT\").map_or(0, |number| number.parse().expect(\"a number\")))
+}
+";

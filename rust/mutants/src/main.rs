@@ -1,0 +1,100 @@
+//! mutants [NAME..]: changes the published Rust in one place at a time and says which of the gate's comparisons notices.
+//! mutants search NAME COUNT SEED: the first difference in full, of more cases.
+//!
+//! The port stays as it is; a difference between it and the changed Rust shows that an input tells the two apart. Wants
+//! what the gate makes: target/staticlib, target/bin/lay and target/examples.
+
+mod steps;
+mod tree;
+
+use mutants::{apply_all, changes, Change, CHANGED, LIST};
+use std::path::Path;
+use std::process::{exit, Command};
+use steps::{Step, STEPS};
+
+/// What the comparisons say of a change: a line, and whether it is as the list has it.
+fn judged(root: &Path, change: &Change) -> (String, bool) {
+    let wanted = |step: &&Step| change.by.is_empty() || change.by.iter().any(|name| name == step.name);
+    let seen = |step: &Step| step.notices(root).map(|case| format!("{} {case}", step.name).trim_end().to_string());
+    let steps: Vec<&Step> = STEPS.iter().filter(wanted).collect();
+    if change.by.is_empty() {
+        let first = steps.iter().find_map(|step| seen(step));
+        return match (first, &change.same) {
+            (Some(text), None) => (text, true),
+            (Some(text), Some(_)) => (format!("SEEN, though it is listed as the same: {text}"), false),
+            (None, Some(reason)) => (format!("the same: {reason}"), true),
+            (None, None) => ("NONE".to_string(), false),
+        };
+    }
+    let all: Vec<Option<String>> = steps.iter().map(|step| seen(step)).collect();
+    let missed =
+        steps.iter().zip(&all).filter(|(_, seen)| seen.is_none()).map(|(step, _)| format!("NOT {}", step.name));
+    let text: Vec<String> = all.iter().flatten().cloned().chain(missed).collect();
+    (text.join("; "), all.len() == change.by.len() && all.iter().all(Option::is_some))
+}
+
+/// The programs with one change in force: those that stand in one function are all in one build, and a number in the environment tells which.
+fn prepare(root: &Path, published: &str, changes: &[Change], at: usize, built: &mut bool) -> Result<(), String> {
+    let change = &changes[at];
+    if !change.is_local() || !*built {
+        let text = if change.is_local() { apply_all(published, changes)? } else { change.apply(published)? };
+        tree::build(root, &text).map_err(|e| format!("{}: {e}", change.name))?;
+        *built = change.is_local();
+    }
+    std::env::set_var("MUTANT", (at + 1).to_string());
+    Ok(())
+}
+
+fn all(root: &Path, published: &str, changes: &[Change], chosen: &[usize]) -> Result<bool, String> {
+    let (mut noticed, mut same, mut wrong, mut built) = (0, 0, 0, false);
+    for &at in chosen {
+        let change = &changes[at];
+        prepare(root, published, changes, at, &mut built)?;
+        let (text, good) = judged(root, change);
+        println!("{}: {text}", change.name);
+        match (good, &change.same) {
+            (false, _) => wrong += 1,
+            (true, Some(_)) => same += 1,
+            (true, None) => noticed += 1,
+        }
+    }
+    println!(
+        "mutants: {} changes, {noticed} noticed, {same} the same for a reason, {wrong} not as listed",
+        chosen.len()
+    );
+    Ok(wrong == 0)
+}
+
+/// Runs the comparisons over other cases than the gate's; prints what differs.
+fn search(root: &Path, published: &str, changes: &[Change], at: usize, words: &[String]) -> Result<bool, String> {
+    prepare(root, published, changes, at, &mut false)?;
+    for what in ["triangles", "estimate", "reconstruct"] {
+        let mut command = Command::new(tree::program(root, "compare"));
+        command.arg(what).args(words).current_dir(root).status().map_err(|e| e.to_string())?;
+    }
+    Ok(true)
+}
+
+fn run(words: &[String]) -> Result<bool, String> {
+    let root = Path::new(env!("CARGO_MANIFEST_DIR")).join("../..").canonicalize().map_err(|e| e.to_string())?;
+    let read = |name: &str| std::fs::read_to_string(root.join(name)).map_err(|e| format!("{name}: {e}"));
+    let (published, list) = (read(CHANGED)?, changes(&read(LIST)?)?);
+    tree::make(&root).map_err(|e| e.to_string())?;
+    let named = |name: &String| list.iter().position(|c| c.name == *name).ok_or_else(|| format!("no change {name}"));
+    match words {
+        [] => all(&root, &published, &list, &(0..list.len()).collect::<Vec<_>>()),
+        [first, name, rest @ ..] if first == "search" => search(&root, &published, &list, named(name)?, rest),
+        names => all(&root, &published, &list, &names.iter().map(named).collect::<Result<Vec<_>, _>>()?),
+    }
+}
+
+fn main() {
+    let words: Vec<String> = std::env::args().skip(1).collect();
+    match run(&words) {
+        Ok(good) => exit(i32::from(!good)),
+        Err(text) => {
+            eprintln!("{text}");
+            exit(2);
+        }
+    }
+}
