@@ -2,15 +2,15 @@
 
 use crate::{bits, line};
 use expect::{Lent, BUDGET};
-use generate::{case, Case};
+use generate::{case, fixed_count, Case};
 use oracle::Settings;
 
 const SEED: u64 = 2_026;
 const MAX_WORDS: usize = 4_096;
 
-/// Mostly small clouds: what is left of the first cases, a larger one now and then.
+/// Mostly small clouds: the fixed ones that the program `replay` has room for, and a larger one now and then.
 fn cases(count: usize) -> impl Iterator<Item = Case> {
-    let small = |number: u64| if number < 30 || number % 40 == 0 { 1_200 } else { 90 };
+    let small = |number: u64| if number < fixed_count() || number % 40 == 0 { 1_200 } else { 90 };
     (0..)
         .map(move |number| (number, case(SEED, number)))
         .filter(move |(number, case)| case.points.len() <= small(*number))

@@ -1,7 +1,7 @@
 //! Answers on single numbers and triangles.
 
 use crate::{bits, line};
-use generate::numbers::{edges, limits, number, radius, triangle};
+use generate::numbers::{edges, just_passed, limits, number, radius, triangle};
 use generate::Random;
 use oracle::TriangleQuality;
 
@@ -22,14 +22,17 @@ fn measures(q: &TriangleQuality) -> [u32; 6] {
 fn triangles(out: &mut String) {
     for case in 0..800 {
         let random = &mut Random::new(SEED, 100 + case);
-        let corners = triangle(random);
+        let corners = triangle(random, case);
         let places = corners.map(f32::to_bits);
         let quality = oracle::quality(&corners);
         out.push_str(&line(5, &[&places[..], &measures(&quality)].concat()));
-        let (radius, limits) = (radius(random, quality.area, quality.edge_ratio), limits(random));
-        let passes = oracle::acceptable(&quality, radius, &limits);
-        let given = [radius, limits.min_triangle_area, limits.quality_threshold, limits.max_edge_factor].map(bits);
-        out.push_str(&line(6, &[&measures(&quality)[..], &given, &[u32::from(passes)]].concat()));
+        let drawn = (radius(random, quality.area, quality.edge_ratio), limits(random));
+        let passed = just_passed(quality.area, quality.edge_ratio, quality.quality_score);
+        for (radius, limits) in if case % 10 == 0 { vec![drawn, passed] } else { vec![drawn] } {
+            let passes = oracle::acceptable(&quality, radius, &limits);
+            let given = [radius, limits.min_triangle_area, limits.quality_threshold, limits.max_edge_factor].map(bits);
+            out.push_str(&line(6, &[&measures(&quality)[..], &given, &[u32::from(passes)]].concat()));
+        }
         out.push_str(&line(9, &[&places[..], &[bits(oracle::circumradius(&corners))]].concat()));
     }
 }

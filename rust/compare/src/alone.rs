@@ -72,8 +72,8 @@ pub fn selftest() -> Report {
         let seen = run().different;
         report.check("differences", faults as u32, seen as u32, || format!("fault at {place:?}"));
     };
-    // From case 30 on, past the large fixed clouds.
-    let (count, seed, first) = (90, 5, 30);
+    // Past the large fixed clouds.
+    let (count, seed, first) = (90, 6, generate::fixed_count());
     found("", 0, &|| numbers::numbers(&Mirror::new(""), count, seed));
     found("", 0, &|| triangles::triangles(&Mirror::new(""), count, seed, first));
     found("", 0, &|| clouds::estimate(&Mirror::new(""), count, seed, first));

@@ -4,6 +4,7 @@ use crate::report::{Report, Same};
 use crate::sides::Side;
 use expect::{bits, Estimate, Lent, Patch, BUDGET};
 use generate::{case, old_word, Case};
+use oracle::Skip;
 
 /// Slices of these lengths with recognisable contents.
 pub fn lend(faces: usize, words: usize, floats: usize) -> Lent {
@@ -97,25 +98,42 @@ pub fn estimate(side: &dyn Side, count: u64, seed: u64, first: u64) -> Report {
     report
 }
 
+/// What the reconstruction gives on one case.
+struct Called {
+    answer: u32,
+    unlike: Option<String>,
+}
+
+fn call(side: &dyn Side, case: &Case) -> Result<Called, Skip> {
+    let work = [case.words, case.floats];
+    let found = expect::find(&case.points, &case.normals, &case.settings, work, BUDGET)?;
+    let mut expected_lent = lend(case.face_words(found.need()), case.words, case.floats);
+    let mut lent = expected_lent.clone();
+    let expected = found.deliver(&mut expected_lent);
+    let got = side.reconstruct(case, &mut lent);
+    let unlike = unlike_patch(&expected, &got).or_else(|| unlike_slices(&expected_lent, &lent));
+    Ok(Called { answer: expected.answer, unlike })
+}
+
+/// What differs on one case.
+pub fn unlike_call(side: &dyn Side, case: &Case) -> Result<Option<String>, Skip> {
+    call(side, case).map(|called| called.unlike)
+}
+
 pub fn reconstruct(side: &dyn Side, count: u64, seed: u64, first: u64) -> Report {
     let mut report = Report::new("reconstruct");
     for number in first..first + count {
         let case = case(seed, number);
-        let work = [case.words, case.floats];
-        let found = match expect::find(&case.points, &case.normals, &case.settings, work, BUDGET) {
-            Ok(found) => found,
+        let called = match call(side, &case) {
+            Ok(called) => called,
             Err(why) => {
                 report.skip(why);
                 continue;
             }
         };
-        let mut expected_lent = lend(case.face_words(found.need()), case.words, case.floats);
-        let mut lent = expected_lent.clone();
-        let expected = found.deliver(&mut expected_lent);
-        let got = side.reconstruct(&case, &mut lent);
         report.compared += 1;
-        note_answer(&mut report, expected.answer);
-        if let Some(text) = unlike_patch(&expected, &got).or_else(|| unlike_slices(&expected_lent, &lent)) {
+        note_answer(&mut report, called.answer);
+        if let Some(text) = called.unlike {
             report.differs(|| format!("{text}\n{}", describe(&case, number, seed)));
         }
     }

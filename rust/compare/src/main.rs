@@ -6,6 +6,7 @@ mod alone;
 mod clouds;
 mod numbers;
 mod report;
+mod shrink;
 mod sides;
 mod triangles;
 
@@ -17,6 +18,7 @@ const USAGE: &str = "usage:
   compare triangles COUNT SEED [FIRST]    circumradius, quality, acceptance
   compare estimate COUNT SEED [FIRST]     the radius estimate on generated clouds
   compare reconstruct COUNT SEED [FIRST]  the reconstruction on generated clouds
+  compare shrink NUMBER SEED              the smallest cloud left of a case on which the two differ
   compare oracle COUNT SEED [FIRST]       needs no port: what must hold of the oracle's counts
   compare selftest                        needs no port: a turned bit is found";
 
@@ -24,6 +26,9 @@ fn main() {
     let words: Vec<String> = std::env::args().skip(1).collect();
     let command = words.first().map_or("", String::as_str);
     let numbers: Vec<u64> = words.iter().skip(1).filter_map(|w| w.parse().ok()).collect();
+    if let ("shrink", [number, seed]) = (command, numbers.as_slice()) {
+        std::process::exit(i32::from(!shrink::shrink(&Linked, *number, *seed)));
+    }
     let report = match (command, numbers.as_slice()) {
         ("numbers", [count, seed]) => numbers::numbers(&Linked, *count, *seed),
         ("roots", [step]) if *step > 0 => numbers::roots(&Linked, *step),

@@ -2,7 +2,7 @@
 
 use crate::report::Report;
 use crate::sides::{measures, published, Side};
-use generate::numbers::{limits, number, radius, triangle};
+use generate::numbers::{just_passed, limits, number, radius, triangle};
 use generate::Random;
 use port::Quality;
 
@@ -18,7 +18,7 @@ pub fn triangles(side: &dyn Side, count: u64, seed: u64, first: u64) -> Report {
     let mut report = Report::new("triangles");
     for case in first..first + count {
         let random = &mut Random::new(seed, case);
-        let corners = triangle(random);
+        let corners = triangle(random, case);
         let context = || format!("case {case} of seed {seed}, coordinates {:08x?}", corners.map(f32::to_bits));
         let quality = measures(&oracle::quality(&corners));
         report.check("circumradius", oracle::circumradius(&corners), side.circumradius(&corners), context);
@@ -34,11 +34,15 @@ pub fn triangles(side: &dyn Side, count: u64, seed: u64, first: u64) -> Report {
             report.check(name, expected, got, context);
         }
         let quality = judged(random, quality);
-        let (radius, limits) = (radius(random, quality.area, quality.edge_ratio), limits(random));
-        let expected = oracle::acceptable(&published(&quality), radius, &limits);
-        let got = side.acceptable(quality, radius, &limits);
-        report.note(if expected { "acceptable" } else { "unacceptable" });
-        report.check("acceptable", expected, got, || format!("{quality:?} at {radius:?}, {limits:?}"));
+        let drawn = (radius(random, quality.area, quality.edge_ratio), limits(random));
+        let passed = just_passed(quality.area, quality.edge_ratio, quality.quality_score);
+        for (radius, limits) in [drawn, passed] {
+            let expected = oracle::acceptable(&published(&quality), radius, &limits);
+            let got = side.acceptable(quality, radius, &limits);
+            report.note(if expected { "acceptable" } else { "unacceptable" });
+            let context = || format!("case {case} of seed {seed}, {quality:?} at {radius:?}, {limits:?}");
+            report.check("acceptable", expected, got, context);
+        }
     }
     report
 }

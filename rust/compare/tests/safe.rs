@@ -9,7 +9,10 @@ use yarrowbleat::{BallPivotingConfig, Error, Patch};
 
 /// Cases of a seed, those past the large fixed clouds, whose slices are whole points.
 fn cases(count: u64) -> impl Iterator<Item = Case> {
-    (30..30 + count).map(|number| case(11, number)).filter(|c| c.points.len() % 3 == 0 && c.normals.len() % 3 == 0)
+    let first = generate::fixed_count();
+    (first..first + count)
+        .map(|number| case(11, number))
+        .filter(|c| c.points.len() % 3 == 0 && c.normals.len() % 3 == 0)
 }
 
 fn threes(slice: &[f32]) -> Vec<[f32; 3]> {

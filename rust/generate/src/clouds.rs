@@ -13,7 +13,7 @@ pub struct Cloud {
 pub const LIMIT: f32 = 10_000.0;
 
 /// The point of the unit circle at this part of a turn, by arithmetic alone.
-fn turn(part: f64) -> (f64, f64) {
+pub(crate) fn turn(part: f64) -> (f64, f64) {
     let eighths = part * 8.0;
     let whole = eighths.floor();
     let t = (eighths - whole) * 0.414_213_562_373_095;
@@ -151,6 +151,22 @@ fn sizes(random: &mut Random) -> Cloud {
     Cloud { kind: "sizes", points: points.collect(), spacing: f64::from(high) }
 }
 
+/// Points some ten-thousandths apart, and one at a far corner: cells are as wide as a coordinate's rounding there, or narrower.
+fn far(random: &mut Random) -> Cloud {
+    let count = random.whole(4, 24);
+    let step = random.pick(&[1e-4, 2.5e-4, 4e-4]);
+    let place = [0; 3].map(|_| random.pick(&[0.0, 0.0, 1_000.0, 6_384.0]));
+    let flat_axis = random.percent(50);
+    let mut points: Vec<[f64; 3]> = Vec::new();
+    for _ in 0..count {
+        let [x, y, z] = place.map(|x| x + step * random.within(-5.0, 5.0));
+        points.push([x, y, if flat_axis { place[2] } else { z }]);
+    }
+    let corner = [0, 1, 2].map(|i| if random.percent(60) { -f64::from(LIMIT) } else { place[i] });
+    points.insert(random.below(count), corner);
+    Cloud { kind: "far", points: flat(points), spacing: random.pick(&[3e-4, 5e-4, 1e-3]) }
+}
+
 /// A cloud of any kind; those of a scan's kinds also scaled and moved.
 pub fn cloud(random: &mut Random) -> Cloud {
     let size = size(random);
@@ -162,7 +178,8 @@ pub fn cloud(random: &mut Random) -> Cloud {
         55..=61 => line(random, size),
         62..=64 => equal(random, size),
         65..=74 => clusters(random, size),
-        75..=93 => return tiny(random),
+        75..=88 => return tiny(random),
+        89..=93 => return far(random),
         _ => return sizes(random),
     };
     if random.percent(60) {

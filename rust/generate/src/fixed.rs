@@ -1,11 +1,11 @@
 //! The scope's own cases, and some that no seed is sure to bring.
 
 use crate::clouds::{bell, LIMIT};
-use crate::{work_lengths, Case, Random};
+use crate::{pins, work_lengths, Case, Random};
 use oracle::Settings;
 
 /// A case with just enough work and room for a few faces more than are found.
-fn plain(kind: &'static str, points: Vec<f32>, settings: Settings) -> Case {
+pub(crate) fn plain(kind: &'static str, points: Vec<f32>, settings: Settings) -> Case {
     let (words, floats) = work_lengths(points.len() / 3);
     let normals = vec![1.0; points.len()];
     Case { kind, normals, points, settings, percentile: 0.5, words, floats, slack: 7 }
@@ -57,7 +57,7 @@ pub fn cases() -> Vec<Case> {
         case
     };
     let with_percentile = |percentile: f32| Case { percentile, ..listing.clone() };
-    vec![
+    let mut cases = vec![
         listing.clone(),
         Case { points: vec![], ..listing.clone() },
         Case { points: vec![0.0; 4], normals: vec![1.0; 4], ..listing.clone() },
@@ -75,12 +75,8 @@ pub fn cases() -> Vec<Case> {
         minute(8.5e-22),
         minute(3e-23),
         minute(1e-38),
-        wall(60),
-        wall(150),
-        wall(350),
-        wall(1_999),
-        wall(2_000),
-        wall(4_096),
-        wall(4_097),
-    ]
+    ];
+    cases.extend(pins::cases());
+    cases.extend([60, 150, 199, 200, 350, 1_999, 2_000, 4_096, 4_097].map(wall));
+    cases
 }

@@ -4,6 +4,7 @@ pub mod clouds;
 mod damage;
 mod fixed;
 pub mod numbers;
+mod pins;
 mod random;
 mod settings;
 
@@ -37,10 +38,19 @@ pub fn work_lengths(points: usize) -> (usize, usize) {
     (24 * points + 64, 4 * points + 64)
 }
 
+fn fixed_cases() -> &'static [Case] {
+    static FIXED: OnceLock<Vec<Case>> = OnceLock::new();
+    FIXED.get_or_init(fixed::cases)
+}
+
+/// How many cases of each seed are the fixed ones.
+pub fn fixed_count() -> u64 {
+    fixed_cases().len() as u64
+}
+
 /// Case `number` of a seed, the fixed ones first.
 pub fn case(seed: u64, number: u64) -> Case {
-    static FIXED: OnceLock<Vec<Case>> = OnceLock::new();
-    match FIXED.get_or_init(fixed::cases).get(number as usize) {
+    match fixed_cases().get(number as usize) {
         Some(case) => case.clone(),
         None => drawn(seed, number),
     }

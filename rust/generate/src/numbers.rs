@@ -37,8 +37,36 @@ fn place(random: &mut Random, kind: usize, scale: f32) -> [f32; 3] {
     })
 }
 
+/// A corner at the origin and two along the axes.
+const fn corner(x: f32, y: f32) -> [f32; 9] {
+    [0.0, 0.0, 0.0, x, 0.0, 0.0, 0.0, y, 0.0]
+}
+
+/// Triangles at which something changes: an area and a shortest edge of just 1e-10 and a little beside it, none at all, and
+/// coordinates that no point of a cloud has.
+pub const EDGE_TRIANGLES: [[f32; 9]; 12] = [
+    corner(2e-10, 1.0),
+    corner(1.999_5e-10, 1.0),
+    corner(2.000_5e-10, 1.0),
+    corner(1e-10, 4.0),
+    corner(1.000_5e-10, 4.0),
+    corner(0.999_5e-10, 4.0),
+    corner(0.0, 0.0),
+    corner(0.0, 1.0),
+    corner(f32::NAN, 1.0),
+    corner(f32::INFINITY, 1.0),
+    corner(1e15, 1e15),
+    corner(f32::MAX, f32::MAX),
+];
+
+/// The limits at which these measures just pass, and the radius that goes with them.
+pub fn just_passed(area: f32, edge_ratio: f32, quality_score: f32) -> (f32, Limits) {
+    let limits = Limits { min_triangle_area: area, quality_threshold: quality_score, max_edge_factor: 1.0 };
+    (edge_ratio * area.sqrt(), limits)
+}
+
 /// Nine coordinates: any triangle, one with equal points, with points in a line, or a needle.
-pub fn triangle(random: &mut Random) -> [f32; 9] {
+fn drawn(random: &mut Random) -> [f32; 9] {
     let kind = random.pick(&[0, 0, 0, 0, 1, 2, 3]);
     let least = random.pick(&[1e-2, 1e-2, 1e-12]);
     let scale = random.sized(least, LIMIT);
@@ -61,6 +89,11 @@ pub fn triangle(random: &mut Random) -> [f32; 9] {
         out[i] = x.clamp(-LIMIT, LIMIT);
     }
     out
+}
+
+/// Triangle `number`, those at the edges first.
+pub fn triangle(random: &mut Random, number: u64) -> [f32; 9] {
+    EDGE_TRIANGLES.get(number as usize).copied().unwrap_or_else(|| drawn(random))
 }
 
 /// The settings of the acceptance test.

@@ -3,9 +3,13 @@
 use crate::random::Random;
 use oracle::Settings;
 
+/// Often such that points on whole coordinates lie at just one or two radii.
 fn radius(random: &mut Random, spacing: f64) -> f32 {
-    let radius =
-        if random.percent(85) { (spacing * random.within(0.8, 3.0)) as f32 } else { random.sized(0.001, 1_000.0) };
+    let radius = match random.below(20) {
+        0..=11 => (spacing * random.within(0.8, 3.0)) as f32,
+        12..=16 => spacing as f32 * random.pick(&[0.5, 1.0, 1.0, 1.5, 2.0, 2.5]),
+        _ => random.sized(0.001, 1_000.0),
+    };
     radius.clamp(0.001, 1_000.0)
 }
 

@@ -65,12 +65,23 @@ fn all(root: &Path, published: &str, changes: &[Change], chosen: &[usize]) -> Re
     Ok(wrong == 0)
 }
 
-/// Runs the comparisons over other cases than the gate's; prints what differs.
+/// Runs the comparisons over other cases than the gate's; prints what differs, and the smallest cloud that is left of it.
 fn search(root: &Path, published: &str, changes: &[Change], at: usize, words: &[String]) -> Result<bool, String> {
     prepare(root, published, changes, at, &mut false)?;
-    for what in ["triangles", "estimate", "reconstruct"] {
+    let compare = |words: &[&str]| {
         let mut command = Command::new(tree::program(root, "compare"));
-        command.arg(what).args(words).current_dir(root).status().map_err(|e| e.to_string())?;
+        let out = command.args(words).current_dir(root).output().map_err(|e| e.to_string())?;
+        Ok::<String, String>(String::from_utf8_lossy(&out.stdout).into_owned())
+    };
+    for what in ["triangles", "estimate", "reconstruct"] {
+        let mut all = vec![what];
+        all.extend(words.iter().map(String::as_str));
+        let said = compare(&all)?;
+        println!("{said}");
+        let number = said.split("case ").nth(1).and_then(|rest| rest.split(' ').next());
+        if let (Some(number), "reconstruct", Some(seed)) = (number, what, words.get(1)) {
+            println!("{}", compare(&["shrink", number, seed])?);
+        }
     }
     Ok(true)
 }

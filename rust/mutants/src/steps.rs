@@ -12,7 +12,7 @@ pub struct Step {
 }
 
 /// Seconds after which a program that the change has made endless is ended; that is a difference.
-const SECONDS: &str = "100";
+const SECONDS: &str = "900";
 
 struct Ran {
     good: bool,

@@ -1,0 +1,151 @@
+//! Clouds that stand at the edge of one decision each: were it made otherwise, the result would be another. The list of
+//! changes in tests/mutants.txt says which decisions.
+
+use crate::clouds::turn;
+use crate::fixed::plain;
+use crate::Case;
+use oracle::Settings;
+
+/// A radius and no others, all triangles with an area taken.
+fn one_radius(radius: f32) -> Settings {
+    let mut settings = Settings::at_radius(radius);
+    settings.set_additional(&[]);
+    settings.set_percentiles(&[]);
+    settings.quality_threshold = 0.0;
+    settings.min_triangle_area = 0.0;
+    settings
+}
+
+/// The same without a spatial index: neighbours come in the order of their numbers.
+fn by_number(radius: f32) -> Settings {
+    Settings { use_spatial_index: false, ..one_radius(radius) }
+}
+
+/// The plain path.
+fn no_radii(radius: f32) -> Settings {
+    Settings { adaptive_radius: false, ..one_radius(radius) }
+}
+
+/// A triangle with right angle, then `alone` points that have no neighbour, then a larger one.
+fn tries(alone: usize, with_small: bool) -> Case {
+    let corner = |x: f32, edge: f32| [x, 0.0, 0.0, x + edge, 0.0, 0.0, x, edge, 0.0];
+    let mut points: Vec<f32> = if with_small { corner(-9_000.0, 1.0).to_vec() } else { vec![] };
+    points.extend((0..alone).flat_map(|i| [(i % 40) as f32 * 100.0, (i / 40) as f32 * 100.0 + 100.0, 0.0]));
+    points.extend(corner(9_000.0, 4.0));
+    let mut settings = one_radius(1.0);
+    settings.set_additional(&[3.0]);
+    plain("first points", points, settings)
+}
+
+/// Two points on one place, two at a distance, and a triangle, none near another: the first two radii are 0 and twice that distance.
+fn radii_apart(distance: f32) -> Case {
+    let mut points = vec![0.0; 6];
+    points.extend([0.0, 100.0, 0.0, distance, 100.0, 0.0]);
+    points.extend([0.0, 0.0, 100.0, 0.001, 0.0, 100.0, 0.0, 0.001, 100.0]);
+    let mut settings = one_radius(0.001);
+    settings.set_percentiles(&[0.0, 0.5]);
+    plain("radii apart", points, settings)
+}
+
+/// An edge of 6, a third point of the seed, and one at just the radius of 5 from both ends.
+fn pivot_at_the_radius() -> Case {
+    let points = vec![0.0, 0.0, 0.0, 6.0, 0.0, 0.0, 3.0, -2.0, 0.0, 3.0, 4.0, 0.0];
+    plain("pivot at the radius", points, by_number(5.0))
+}
+
+/// An edge of just two radii, and a point so near its middle that it lies at a radius from both ends.
+fn pivot_over_two_radii() -> Case {
+    let points = vec![0.0, 0.0, 0.0, 2.0, 0.0, 0.0, 1.0, -1.0, 0.0, 1.0, 1e-4, 0.0];
+    plain("pivot over two radii", points, by_number(1.0))
+}
+
+/// Points on a line: each triangle has no area and a score of 0, and none is a pivot.
+fn pivot_without_a_score() -> Case {
+    let points = vec![0.0, 0.0, 0.0, 1.0, 0.0, 0.0, 0.5, 0.0, 0.0, 0.25, 0.0, 0.0];
+    plain("pivot without a score", points, by_number(1.0))
+}
+
+/// A seed, and two points over its first edge, one the other's mirror image.
+fn pivots_of_equal_score() -> Case {
+    let points = vec![0.0, 0.0, 0.0, 1.0, 0.0, 0.0, 0.5, -0.75, 0.0, 0.5, 0.5, 0.5, 0.5, 0.5, -0.5];
+    plain("pivots of equal score", points, by_number(1.0))
+}
+
+/// Three points of which those with these two numbers lie at two radii from each other.
+fn seed_over_two_radii(order: [usize; 3]) -> Case {
+    let places = [[0.0, 0.0, 0.0], [2.0, 0.0, 0.0], [1.0, 1.0, 0.0]];
+    plain("seed over two radii", order.iter().flat_map(|i| places[*i]).collect(), by_number(1.0))
+}
+
+/// A point at -10,000 is the least corner, so that taking it off rounds the others by more than a cell.
+fn far(factor: f32, points: &[[f32; 3]]) -> Case {
+    let settings = Settings { spatial_cell_factor: factor, ..one_radius(0.001) };
+    plain("far corner", points.iter().flatten().copied().collect(), settings)
+}
+
+/// A seed of three points, and one that lies within a radius of the first edge, two cells away from its middle.
+fn pivot_out_of_range() -> Case {
+    let seed = [[0.000_48, 0.0, 0.0], [0.000_48, 0.000_24, 0.0], [0.000_3, 0.000_1, 0.0]];
+    far(1.0, &[[-10_000.0, 0.0, 0.0], seed[0], seed[1], seed[2], [0.001_466, 0.000_12, 0.0]])
+}
+
+/// A point that the first end of an edge has in its range and the edge's middle has not.
+fn pivot_in_range_of_the_first_end() -> Case {
+    let seed = [[6383.9995, 1000.0004, 6384.0], [6383.9995, 999.9993, 6384.0005], [6383.999, 999.99915, 6384.0]];
+    far(0.5, &[seed[0], seed[1], [-10_000.0, 1_000.0, -10_000.0], [6383.9985, 999.9995, 6384.0005], seed[2]])
+}
+
+/// A zigzag: how many neighbours a sample has depends on how many cells three radii are.
+fn samples(factor: f32) -> Case {
+    let points = (0..10).flat_map(|i| [i as f32, (i % 2) as f32 * 0.5, 0.0]);
+    let mut settings = Settings { spatial_cell_factor: factor, ..one_radius(1.0) };
+    settings.set_percentiles(&[0.0, 0.5, 1.0]);
+    plain("samples", points.collect(), settings)
+}
+
+/// The third point tried, with these distances from the other two along the axes.
+fn plain_corner(radius: f32, x: f32, y: f32) -> Case {
+    plain("plain path", vec![x, 0.0, 0.0, 0.0, y, 0.0, 0.0, 0.0, 0.0], no_radii(radius))
+}
+
+/// Edges of 5, 5 and 8: a circumradius of 200 / 48, which is one and a half times 2.7777777 as an f32.
+fn plain_circumradius(radius: f32) -> Case {
+    plain("plain path", vec![-4.0, -3.0, 0.0, 4.0, -3.0, 0.0, 0.0, 0.0, 0.0], no_radii(radius))
+}
+
+/// Points on a circle: every three make a face, more than are taken.
+fn plain_circle(points: usize) -> Case {
+    let places = (0..points).flat_map(|i| {
+        let (c, s) = turn(i as f64 / points as f64);
+        [c as f32, s as f32, 0.0]
+    });
+    plain("plain path", places.collect(), no_radii(1.0))
+}
+
+pub fn cases() -> Vec<Case> {
+    vec![
+        tries(999, false),
+        tries(1_000, false),
+        tries(999, true),
+        radii_apart(5e-7),
+        radii_apart(5.002e-7),
+        radii_apart(4.998e-7),
+        pivot_at_the_radius(),
+        pivot_over_two_radii(),
+        pivot_without_a_score(),
+        pivots_of_equal_score(),
+        seed_over_two_radii([0, 1, 2]),
+        seed_over_two_radii([0, 2, 1]),
+        seed_over_two_radii([2, 0, 1]),
+        pivot_out_of_range(),
+        pivot_in_range_of_the_first_end(),
+        samples(1.499_7),
+        samples(1.5),
+        plain_corner(1.0, 2.0, 1.0),
+        plain_corner(1.0, 1e-6, 1.0),
+        plain_corner(1.0, 1.0005e-6, 1.0),
+        plain_circumradius(2.777_777_7),
+        plain_circumradius(2.6),
+        plain_circle(41),
+    ]
+}
