@@ -44,7 +44,7 @@ const fn corner(x: f32, y: f32) -> [f32; 9] {
 
 /// Triangles at which something changes: an area and a shortest edge of just 1e-10 and a little beside it, none at all, and
 /// coordinates that no point of a cloud has.
-pub const EDGE_TRIANGLES: [[f32; 9]; 12] = [
+pub const EDGE_TRIANGLES: [[f32; 9]; 13] = [
     corner(2e-10, 1.0),
     corner(1.999_5e-10, 1.0),
     corner(2.000_5e-10, 1.0),
@@ -57,6 +57,8 @@ pub const EDGE_TRIANGLES: [[f32; 9]; 12] = [
     corner(f32::INFINITY, 1.0),
     corner(1e15, 1e15),
     corner(f32::MAX, f32::MAX),
+    // The circumradius is finite, four times as much is not.
+    [0.0, 0.0, 0.0, 1e12, 0.0, 0.0, 5e11, 6e-16, 0.0],
 ];
 
 /// The limits at which these measures just pass, and the radius that goes with them.

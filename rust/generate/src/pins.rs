@@ -85,14 +85,35 @@ fn far(factor: f32, points: &[[f32; 3]]) -> Case {
 
 /// A seed of three points, and one that lies within a radius of the first edge, two cells away from its middle.
 fn pivot_out_of_range() -> Case {
-    let seed = [[0.000_48, 0.0, 0.0], [0.000_48, 0.000_24, 0.0], [0.000_3, 0.000_1, 0.0]];
-    far(1.0, &[[-10_000.0, 0.0, 0.0], seed[0], seed[1], seed[2], [0.001_466, 0.000_12, 0.0]])
+    let seed = [[0.002_436, 0.0, 0.0], [0.002_436, 0.000_24, 0.0], [0.002_26, 0.000_1, 0.0]];
+    far(1.0, &[[-10_000.0, 0.0, 0.0], seed[0], seed[1], seed[2], [0.003_423, 0.000_12, 0.0]])
 }
 
 /// A point that the first end of an edge has in its range and the edge's middle has not.
 fn pivot_in_range_of_the_first_end() -> Case {
     let seed = [[6383.9995, 1000.0004, 6384.0], [6383.9995, 999.9993, 6384.0005], [6383.999, 999.99915, 6384.0]];
     far(0.5, &[seed[0], seed[1], [-10_000.0, 1_000.0, -10_000.0], [6383.9985, 999.9995, 6384.0005], seed[2]])
+}
+
+/// The same cloud with the seed's first two points in the other order.
+fn pivot_in_range_of_the_second_end() -> Case {
+    let mut case = pivot_in_range_of_the_first_end();
+    for i in 0..3 {
+        case.points.swap(i, i + 3);
+    }
+    case
+}
+
+/// Three points, of which the last has the others in its range, but not the first the second.
+fn seed_out_of_range() -> Case {
+    let near = [[0.002_436, 0.0, 0.0], [0.004_4, 0.0, 0.0], [0.003_4, 0.000_5, 0.0]];
+    far(1.0, &[[-10_000.0, 0.0, 0.0], near[0], near[1], near[2]])
+}
+
+/// Three points within two radii, none of them in another's range: no sample has a neighbour, and the plain path is taken.
+fn no_density() -> Case {
+    let (near, far_off) = (9_999.0 + 1.0 / 1_024.0, 9_999.0 + 3.0 / 1_024.0);
+    far(0.6, &[[-10_000.0, -10_000.0, 0.0], [far_off, near, 0.0], [near, far_off, 0.0], [near, near, 0.0]])
 }
 
 /// A zigzag: how many neighbours a sample has depends on how many cells three radii are.
@@ -139,9 +160,13 @@ pub fn cases() -> Vec<Case> {
         seed_over_two_radii([2, 0, 1]),
         pivot_out_of_range(),
         pivot_in_range_of_the_first_end(),
+        pivot_in_range_of_the_second_end(),
+        seed_out_of_range(),
+        no_density(),
         samples(1.499_7),
         samples(1.5),
         plain_corner(1.0, 2.0, 1.0),
+        plain_corner(1.0, 2.5, 1.0),
         plain_corner(1.0, 1e-6, 1.0),
         plain_corner(1.0, 1.0005e-6, 1.0),
         plain_circumradius(2.777_777_7),

@@ -13,21 +13,34 @@ const RADIUS: f64 = 0.02;
 
 /// A wall in rings with jitter, in one of several sizes, so that each default decides something in some file: points
 /// some 0.05 to 0.4 apart, where the additional radii count, and some 0.0002 apart, where the least area does. Points are
-/// missing here and there.
+/// missing, more so towards the lip, so that the percentiles count; some were scanned twice, which makes triangles of
+/// little quality.
 pub fn drawn(seed: u64, number: u64) -> String {
     let random = &mut Random::new(seed, number);
-    let size = random.whole(12, 160);
+    let size = random.whole(20, 220);
     let cloud = clouds::bell(random, size);
     let apart = random.pick(&[0.000_15, 0.000_25, 0.02, 0.05, 0.1, 0.15, 0.2, 0.3, 0.4, 1.0]) * random.within(0.7, 1.4);
-    let kept = random.pick(&[100, 100, 80, 50]);
-    let radius = (apart * random.within(0.8, 2.5)).max(RADIUS);
-    let mut out = format!("{radius:.6}\n");
-    for p in cloud.points.chunks_exact(3).filter(|_| random.percent(kept)) {
-        let away = p[0].hypot(p[1]).max(0.001);
-        let [x, y, z] = [p[0], p[1], p[2]].map(|x| f64::from(x) * apart / cloud.spacing);
-        writeln!(out, "{x:.6},{y:.6},{z:.6},{:.6},{:.6},0", p[0] / away, p[1] / away).expect("to a string");
+    let (shoulder, lip) = (random.pick(&[100, 90, 60]), random.pick(&[100, 60, 25]));
+    let twice = random.pick(&[0, 0, 8, 25]);
+    let count = cloud.points.len() / 3;
+    let mut out = format!("{:.6}\n", (apart * random.within(0.8, 2.5)).max(RADIUS));
+    for (i, p) in cloud.points.chunks_exact(3).enumerate() {
+        let point = [p[0], p[1], p[2]].map(|x| f64::from(x) * apart / cloud.spacing);
+        if random.percent(if 3 * i < 2 * count { shoulder } else { lip }) {
+            write_point(&mut out, point);
+        }
+        if random.percent(twice) {
+            let near = apart * random.within(0.02, 0.08);
+            write_point(&mut out, point.map(|x| x + random.within(-near, near)));
+        }
     }
     out
+}
+
+/// A line of the file, with a normal that points away from the axis.
+fn write_point(out: &mut String, [x, y, z]: [f64; 3]) {
+    let away = x.hypot(y).max(RADIUS * 1e-6);
+    writeln!(out, "{x:.6},{y:.6},{z:.6},{:.6},{:.6},0", x / away, y / away).expect("to a string");
 }
 
 fn lay(file: &str) -> Vec<u8> {
