@@ -61,6 +61,7 @@ pub fn cases() -> Vec<Case> {
         listing.clone(),
         Case { points: vec![], ..listing.clone() },
         Case { points: vec![0.0; 4], normals: vec![1.0; 4], ..listing.clone() },
+        Case { points: vec![0.0; 3 * 4_097 + 1], normals: vec![1.0; 3 * 4_097 + 1], ..listing.clone() },
         with_x(LIMIT),
         with_x(beyond),
         with_x(-LIMIT),

@@ -89,18 +89,19 @@ fn pivot_out_of_range() -> Case {
     far(1.0, &[[-10_000.0, 0.0, 0.0], seed[0], seed[1], seed[2], [0.003_423, 0.000_12, 0.0]])
 }
 
-/// A point that the first end of an edge has in its range and the edge's middle has not.
-fn pivot_in_range_of_the_first_end() -> Case {
+/// A point that an edge's middle has in its range and the first end has not.
+fn pivot_out_of_range_of_the_first_end() -> Case {
     let seed = [[6383.9995, 1000.0004, 6384.0], [6383.9995, 999.9993, 6384.0005], [6383.999, 999.99915, 6384.0]];
     far(0.5, &[seed[0], seed[1], [-10_000.0, 1_000.0, -10_000.0], [6383.9985, 999.9995, 6384.0005], seed[2]])
 }
 
-/// The same cloud with the seed's first two points in the other order.
-fn pivot_in_range_of_the_second_end() -> Case {
-    let mut case = pivot_in_range_of_the_first_end();
-    for i in 0..3 {
-        case.points.swap(i, i + 3);
-    }
+/// A point that an edge's middle has in its range and the second end has not.
+fn pivot_out_of_range_of_the_second_end() -> Case {
+    let seed =
+        [[-0.000_652_377_26, 6384.0005, 0.0], [-0.000_188_009_92, 6384.0, 0.0], [-0.000_109_749_82, 6383.999, 0.0]];
+    let mut case =
+        far(0.5, &[seed[0], seed[1], seed[2], [0.000_699_986_3, 6384.0005, 0.0], [-10_000.0, -10_000.0, 0.0]]);
+    case.settings.radius = 0.001_382_709_4;
     case
 }
 
@@ -159,8 +160,8 @@ pub fn cases() -> Vec<Case> {
         seed_over_two_radii([0, 2, 1]),
         seed_over_two_radii([2, 0, 1]),
         pivot_out_of_range(),
-        pivot_in_range_of_the_first_end(),
-        pivot_in_range_of_the_second_end(),
+        pivot_out_of_range_of_the_first_end(),
+        pivot_out_of_range_of_the_second_end(),
         seed_out_of_range(),
         no_density(),
         samples(1.499_7),

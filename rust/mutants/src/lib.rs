@@ -4,13 +4,15 @@
 //! tests/mutants.txt has a block of lines for each change, parted by empty lines; a line that begins with # is a comment.
 //!
 //! - `name: NAME`
+//! - `file: PATH`: the file that is changed; without it the published one.
 //! - `in: TEXT`: the change stands between this text and the end of the function that it begins; without it anywhere.
 //! - `old: TEXT` and `new: TEXT`: what stands there, once, and what is put in its place; several pairs are applied in turn.
 //! - `by: STEP, STEP`: the comparisons that have to notice it, each of them; without it any one will do.
 //! - `same: REASON`: why no comparison can notice it.
 
-/// The file that is changed.
-pub const CHANGED: &str = "rust/oracle/src/ball_pivoting.rs";
+/// The files that are changed, the published one first, and how each asks for the number of the change that is in force.
+pub const CHANGED: [(&str, &str); 2] =
+    [("rust/oracle/src/ball_pivoting.rs", "crate::mutant()"), ("rust/expect/src/checks.rs", "oracle::mutant()")];
 
 /// The list.
 pub const LIST: &str = "tests/mutants.txt";
@@ -18,6 +20,7 @@ pub const LIST: &str = "tests/mutants.txt";
 #[derive(Clone, Debug, Default)]
 pub struct Change {
     pub name: String,
+    pub file: String,
     pub within: String,
     pub pairs: Vec<(String, String)>,
     pub by: Vec<String>,
@@ -29,6 +32,7 @@ fn line(change: &mut Change, line: &str) -> Result<(), String> {
     let value = value.strip_prefix(' ').unwrap_or(value).to_string();
     match key {
         "name" => change.name = value,
+        "file" => change.file = value,
         "in" => change.within = value,
         "old" => change.pairs.push((value, String::new())),
         "new" => change.pairs.last_mut().ok_or_else(|| format!("nothing old before: {line}"))?.1 = value,
@@ -51,13 +55,17 @@ pub fn changes(list: &str) -> Result<Vec<Change>, String> {
         }
     }
     changes.retain(|change| !change.name.is_empty());
+    for change in changes.iter_mut().filter(|change| change.file.is_empty()) {
+        change.file = CHANGED[0].0.to_string();
+    }
     Ok(changes)
 }
 
-/// Where the function that begins at a place ends: after the first line that closes what stands in its column.
+/// Where the function that begins at a place ends: after the first line that closes what its line begins.
 fn end_of(text: &str, start: usize) -> usize {
-    let column = start - text[..start].rfind('\n').map_or(0, |at| at + 1);
-    let close = format!("\n{}}}\n", " ".repeat(column));
+    let line = text[..start].rfind('\n').map_or(0, |at| at + 1);
+    let blanks = text[line..].bytes().take_while(|b| *b == b' ').count();
+    let close = format!("\n{}}}\n", " ".repeat(blanks));
     text[start..].find(&close).map_or(text.len(), |at| start + at + close.len())
 }
 
@@ -104,29 +112,29 @@ impl Change {
     }
 }
 
-/// The text with every local change, each under the number of its place in the list, from 1; 0 is the text as it was.
-/// `crate::mutant()` gives the number.
-pub fn apply_all(text: &str, changes: &[Change]) -> Result<String, String> {
+/// The text of a file with every local change of it, each under the number of its place in the list, from 1; 0 is the text as it was.
+pub fn apply_all(text: &str, (file, number): (&str, &str), changes: &[Change]) -> Result<String, String> {
     let mut out = text.to_string();
-    let mut functions: Vec<&str> = changes.iter().filter(|c| c.is_local()).map(|c| c.within.as_str()).collect();
+    let here = |change: &Change| change.file == file && change.is_local();
+    let mut functions: Vec<&str> = changes.iter().filter(|c| here(c)).map(|c| c.within.as_str()).collect();
     functions.sort();
     functions.dedup();
     for function in functions {
         let (start, end) = body(text, function)?;
         let published = &text[start..end];
         let mut arms = String::new();
-        for (i, change) in changes.iter().enumerate().filter(|(_, change)| change.within == function) {
+        for (i, change) in changes.iter().enumerate().filter(|(_, c)| here(c) && c.within == function) {
             arms += &format!("{} => {}\n", i + 1, change.changed(published)?);
         }
         let (start, end) = body(&out, function)?;
-        out.replace_range(start..end, &format!("{{ match crate::mutant() {{\n{arms}_ => {published}\n}}\n    }}"));
+        out.replace_range(start..end, &format!("{{ match {number} {{\n{arms}_ => {published}\n}}\n    }}"));
     }
     Ok(out)
 }
 
-/// What the changed crate needs beside that: the number, from the environment.
+/// What crate `oracle` needs beside that: the number, from the environment.
 pub const CHOICE: &str = "
-pub(crate) fn mutant() -> u32 {
+pub fn mutant() -> u32 {
     static NUMBER: std::sync::OnceLock<u32> = std::sync::OnceLock::new();
     *NUMBER.get_or_init(|| std::env::var(\"MUTANT\").map_or(0, |number| number.parse().expect(\"a number\")))
 }

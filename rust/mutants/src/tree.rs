@@ -1,6 +1,6 @@
 //! The copy of rust/ in which the Rust is changed and built, below target/, so that the repository stays as it is.
 
-use mutants::{CHANGED, CHOICE};
+use mutants::CHOICE;
 use std::fs;
 use std::io;
 use std::path::{Path, PathBuf};
@@ -39,13 +39,15 @@ pub fn make(root: &Path) -> io::Result<()> {
     ["crates", "tests", "c", "target/staticlib"].iter().try_for_each(|name| link(root, name))
 }
 
-/// Builds the comparisons with this text in place of the published one.
-pub fn build(root: &Path, text: &str) -> Result<(), String> {
+/// Builds the comparisons with these texts in place of the files.
+pub fn build(root: &Path, texts: &[(String, String)]) -> Result<(), String> {
     let tree = root.join(TREE);
-    let library = Path::new(CHANGED).with_file_name("lib.rs");
-    let lines = fs::read_to_string(root.join(&library)).map_err(|e| e.to_string())? + CHOICE;
+    let library = "rust/oracle/src/lib.rs";
+    let lines = fs::read_to_string(root.join(library)).map_err(|e| e.to_string())? + CHOICE;
     fs::write(tree.join(library), lines).map_err(|e| e.to_string())?;
-    fs::write(tree.join(CHANGED), text).map_err(|e| e.to_string())?;
+    for (file, text) in texts {
+        fs::write(tree.join(file), text).map_err(|e| e.to_string())?;
+    }
     let out = Command::new("cargo")
         .arg("--config")
         .arg(tree.join("rust/.cargo/config.toml"))
