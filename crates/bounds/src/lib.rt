@@ -17,11 +17,11 @@ pub struct Interval {
     pub hi: f32,
 }
 
-// A number such that each square above it has a root above r.
+// A number such that each square above it has a root above r. It is a guess, which is tested; the sum is for radii whose square is lost to rounding.
 pub fn square_limit(r: f32) -> f32
     ensures { λ t. ⌜ Limit r t ⌝ }
 {
-    let t = r * r * 1.000001;
+    let t = r * r * 1.000001 + 1e-44;
     if t >= 0.0 {
         if numbers::sqrt(t) > r {
             return t;
