@@ -2,7 +2,7 @@
 use Prim.Native.Nat.{ℕ, _+_, _*_, _≤_, _<_}
 use mathlib.Core.Path.{_≡_, refl, sym, ap, _∙_, subst}
 use mathlib.Core.Logic.{_⊎_, inl, inr, ⊎-elim, _≢_}
-use mathlib.Core.Bool.{Bool, true, false, not, _&&_}
+use mathlib.Core.Bool.{Bool, true, false, not, _&&_, _||_}
 use mathlib.Core.List.{List, []}
 use mathlib.Core.Option.{none}
 use native.Mathlib.Omega.{arith}
@@ -32,50 +32,46 @@ use Rattle.sifting.proofs.Only.{and-false}
 use Rattle.nearby.proofs.Narrowing.{out-of-reach, in-reach}
 use Rattle.seed.specs.Found.{withFirst}
 use Rattle.seed.specs.Judged.{Fruitless, Judged}
-use Rattle.seed.specs.Barren.{Barren, AllBarren, BarrenFrom, Stands, Later}
+use Rattle.seed.specs.Barren.{Barren, AllBarren, isOther, isLeft, BarrenFrom, Stands, Left, AllLeftBarren, KnownFrom}
 use Rattle.seed.proofs.LeftOut.{close-far}
 use Rattle.seed.proofs.State.{Seeking}
 use Rattle.seed.proofs.Points.{below-next}
 use Rattle.seed.proofs.Nothing.{first-around, completes-third, refused-fruitless, listed-place, close-second}
 
--- ---- the loop of `keep_later` at the m-th point
+-- ---- the loop of `keep_left` at the m-th point
 
--- k comes after point i and is unused
-abbrev later : Scene → ℕ → List ℕ → ℕ → Bool
-later s i w k = ltb i k && unused (usedIn s w) k
-
-pub record Leaving (s : Scene) (i : ℕ) (w₀ w : List ℕ) (found kept m : ℕ) : Type 0 where
+pub record Leaving (s : Scene) (lo i : ℕ) (w₀ w : List ℕ) (found kept m : ℕ) : Type 0 where
   pub same : length w ≡ length w₀
   pub most : kept ≤ m
   pub inside : m ≤ found
   pub below : (x : ℕ) → x < kept → getD w (4 * s .n + x) 0 < s .n
   pub unread : drop (4 * s .n + m) w ≡ drop (4 * s .n + m) w₀
-  pub complete : (x : ℕ) → x < m → later s i w₀ (getD w₀ (4 * s .n + x) 0) ≡ true → Stands s w kept (getD w₀ (4 * s .n + x) 0)
+  pub complete : (x : ℕ) → x < m → isLeft s lo i w₀ (getD w₀ (4 * s .n + x) 0) ≡ true → Stands s w kept (getD w₀ (4 * s .n + x) 0)
   pub others : Kept s w₀ w
 
-module _ {s : Scene} {i : ℕ} {w₀ : List ℕ} {found : ℕ} where
-  pub later-start : Leaving s i w₀ w₀ found 0 0
-  later-start = record { same = refl; most = omega arith; inside = omega arith; below = λ x h. absurd (omega arith); unread = refl; complete = λ x h. absurd (omega arith); others = kept-self s w₀ }
+module _ {s : Scene} {lo i : ℕ} {w₀ : List ℕ} {found : ℕ} where
+  pub left-start : Leaving s lo i w₀ w₀ found 0 0
+  left-start = record { same = refl; most = omega arith; inside = omega arith; below = λ x h. absurd (omega arith); unread = refl; complete = λ x h. absurd (omega arith); others = kept-self s w₀ }
 
-  module _ (long : 24 * s .n + 64 ≤ length w₀) (points : Listed s w₀ found) {w : List ℕ} {kept m : ℕ} (k : Leaving s i w₀ w found kept m) where
-    pub later-end : found ≤ m → Later s i w₀ w found kept
-    later-end h = record {
+  module _ (long : 24 * s .n + 64 ≤ length w₀) (points : Listed s w₀ found) {w : List ℕ} {kept m : ℕ} (k : Leaving s lo i w₀ w found kept m) where
+    pub left-end : found ≤ m → Left s lo i w₀ w found kept
+    left-end h = record {
       listed = record { most = omega (arith, k .most, k .inside, points .most); below = k .below };
-      complete = λ j p t. subst (Stands s w kept) (p .1 .1) (k .complete (p .0) (omega (arith, p .1 .0)) (ap (later s i w₀) (p .1 .1) ∙ t));
+      complete = λ j p t. subst (Stands s w kept) (p .1 .1) (k .complete (p .0) (omega (arith, p .1 .0)) (ap (isLeft s lo i w₀) (p .1 .1) ∙ t));
       kept = k .others;
     }
 
-    later-word : getD w (4 * s .n + m) 0 ≡ getD w₀ (4 * s .n + m) 0
-    later-word = word-same w₀ w (4 * s .n + m) (k .unread)
+    left-word : getD w (4 * s .n + m) 0 ≡ getD w₀ (4 * s .n + m) 0
+    left-word = word-same w₀ w (4 * s .n + m) (k .unread)
 
-    pub later-below : m < found → getD w (4 * s .n + m) 0 < s .n
-    later-below h = subst (λ (j : ℕ). j < s .n) (sym later-word) (points .below m h)
+    pub left-below : m < found → getD w (4 * s .n + m) 0 < s .n
+    left-below h = subst (λ (j : ℕ). j < s .n) (sym left-word) (points .below m h)
 
-    test-is : {b : Bool} → b ≡ later s i w (getD w (4 * s .n + m) 0) → later s i w₀ (getD w₀ (4 * s .n + m) 0) ≡ b
-    test-is e = sym (e ∙ ap (λ (l : List ℕ). ltb i (getD w (4 * s .n + m) 0) && unused (take (s .n) l) (getD w (4 * s .n + m) 0)) (k .others .after) ∙ ap (later s i w₀) later-word)
+    test-is : {b : Bool} → b ≡ isLeft s lo i w (getD w (4 * s .n + m) 0) → isLeft s lo i w₀ (getD w₀ (4 * s .n + m) 0) ≡ b
+    test-is e = sym (e ∙ ap (λ (l : List ℕ). isOther lo i (getD w (4 * s .n + m) 0) && unused (take (s .n) l) (getD w (4 * s .n + m) 0)) (k .others .after) ∙ ap (isLeft s lo i w₀) left-word)
 
-    pub later-skip : {b : Bool} → m < found → b ≡ later s i w (getD w (4 * s .n + m) 0) → b ≡ false → Leaving s i w₀ w found kept (m + 1)
-    later-skip h e t = record {
+    pub left-skip : {b : Bool} → m < found → b ≡ isLeft s lo i w (getD w (4 * s .n + m) 0) → b ≡ false → Leaving s lo i w₀ w found kept (m + 1)
+    left-skip h e t = record {
       same = k .same;
       most = omega (arith, k .most);
       inside = omega arith;
@@ -95,16 +91,16 @@ module _ {s : Scene} {i : ℕ} {w₀ : List ℕ} {found : ℕ} where
     stored-old : (x : ℕ) → x < kept → getD stored (4 * s .n + x) 0 ≡ getD w (4 * s .n + x) 0
     stored-old x h = getD-set-other w (4 * s .n + kept) (4 * s .n + x) (getD w (4 * s .n + m) 0) 0 (λ e. omega arith)
 
-    pub later-take : m < found → Leaving s i w₀ stored found (kept + 1) (m + 1)
-    later-take h = record {
+    pub left-take : m < found → Leaving s lo i w₀ stored found (kept + 1) (m + 1)
+    left-take h = record {
       same = length-set w (4 * s .n + kept) (getD w (4 * s .n + m) 0) ∙ k .same;
       most = omega (arith, k .most);
       inside = omega arith;
-      below = below-next (λ x l. subst (λ (j : ℕ). j < s .n) (sym (stored-old x l)) (k .below x l)) (subst (λ (j : ℕ). j < s .n) (sym (stored-new h)) (later-below h));
+      below = below-next (λ x l. subst (λ (j : ℕ). j < s .n) (sym (stored-old x l)) (k .below x l)) (subst (λ (j : ℕ). j < s .n) (sym (stored-new h)) (left-below h));
       unread = drop-set-lt (4 * s .n + (m + 1)) w (4 * s .n + kept) (getD w (4 * s .n + m) 0) (omega (arith, k .most)) ∙ drop-more w₀ w (4 * s .n + m) (4 * s .n + (m + 1)) (omega arith) (k .unread);
       complete = below-next
           (λ x l t. let p = k .complete x l t in (p .0, (omega (arith, p .1 .0), stored-old (p .0) (p .1 .0) ∙ p .1 .1)))
-          (λ t. (kept, (omega arith, stored-new h ∙ later-word)));
+          (λ t. (kept, (omega arith, stored-new h ∙ left-word)));
       others = kept-on (k .others) (record {
         before = take-set-le (4 * s .n) w (4 * s .n + kept) (getD w (4 * s .n + m) 0) (omega arith);
         after = drop-set-lt (5 * s .n) w (4 * s .n + kept) (getD w (4 * s .n + m) 0) (omega (arith, k .most, points .most));
@@ -157,31 +153,12 @@ pub refused-barren : {s : Scene} {pts : List Float} {r : Float} {l : Limits} {i 
 refused-barren {s} {pts} {r} {i = i} {j = j} {k = k} g hi hj hk (distant h) = barren-round (far-barren s pts r j k i (far-apart pts j k (g .limits) h) (far-apart pts k j (g .limits) (rw (squared-turned (pointAt pts k) (pointAt pts j)) h)))
 refused-barren g hi hj hk (each a b c) = record { first = refused-fruitless g hi hj hk a; second = refused-fruitless g hj hi hk b; third = refused-fruitless g hk hi hj c }
 
--- ---- the points after i that were gathered are enough
+-- ---- the points that were gathered are enough
 
-pub barren-from : {s : Scene} {pts : List Float} {r : Float} {l : Limits} {i : ℕ} {w u v : List ℕ} {found c : ℕ} → Judged s pts r l → i < s .n → Kept s w u
-    → ((k : ℕ) → k < s .n → unused (usedIn s w) k ≡ true → isWithin pts (pointAt pts i) (l .far) k ≡ true → 1 ≤ count (eqb k) (listed s u found))
-    → Later s i u v found c → AllBarren s pts r v (neighborsAt (s .n)) c i → BarrenFrom s pts r (usedIn s w) i
-barren-from {s} {pts} {r} {l} {i} {w} {u} {v} {found} {c} g hi kept near x all j k hj hk ij ik ne uj uk = ⊎-elim
-    (λ (tj : inReach pts (usedIn s w) (pointAt pts i) (l .far) j ≡ true). ⊎-elim
-    (λ (tk : inReach pts (usedIn s w) (pointAt pts i) (l .far) k ≡ true). two (stands j hj ij uj tj) (stands k hk ik uk tk))
-    (λ (tk : inReach pts (usedIn s w) (pointAt pts i) (l .far) k ≡ false). barren-turned (beyond k j hk uk tk))
-    (either (inReach pts (usedIn s w) (pointAt pts i) (l .far) k)))
-    (λ (tj : inReach pts (usedIn s w) (pointAt pts i) (l .far) j ≡ false). beyond j k hj uj tj)
-    (either (inReach pts (usedIn s w) (pointAt pts i) (l .far) j))
+-- each two of those that are left were looked at
+pub left-barren : {s : Scene} {pts : List Float} {r : Float} {lo i : ℕ} {w v : List ℕ} {found c : ℕ} → Left s lo i w v found c → AllBarren s pts r v (neighborsAt (s .n)) c i → AllLeftBarren s pts r lo i w found
+left-barren {s} {pts} {r} {lo} {i} {w} {v} {found} {c} x all j k pj pk hj hk ne = two (x .complete j pj hj) (x .complete k pk hk)
   where
-    beyond : (a b : ℕ) → a < s .n → unused (usedIn s w) a ≡ true → inReach pts (usedIn s w) (pointAt pts i) (l .far) a ≡ false → Barren s pts r i a b
-    beyond a b ha ua t = ⊎-elim
-        (λ (f : unused (usedIn s w) a ≡ false). absurd (true-not-false ua f))
-        (λ (f : lt (reach r) (apart pts a i) ≡ true). apart-barren s pts r i a b f)
-        (out-of-reach pts (usedIn s w) (reach r) i a (l .far) (g .limits .fars) t)
-
-    is-later : (a : ℕ) → i < a → unused (usedIn s w) a ≡ true → later s i u a ≡ true
-    is-later a h t = rw (lt-ltb i a h) (ap (λ (z : List ℕ). unused (take (s .n) z) a) (kept .after) ∙ t)
-
-    stands : (a : ℕ) → a < s .n → i < a → unused (usedIn s w) a ≡ true → inReach pts (usedIn s w) (pointAt pts i) (l .far) a ≡ true → Stands s v c a
-    stands a ha h ua t = x .complete a (listed-place s u found a (near a ha ua (in-reach pts (usedIn s w) (pointAt pts i) (l .far) a t))) (is-later a h ua)
-
     word : ℕ → ℕ
     word m = getD v (neighborsAt (s .n) + m) 0
 
@@ -193,6 +170,30 @@ barren-from {s} {pts} {r} {l} {i} {w} {u} {v} {found} {c} g hi kept near x all j
         subst (λ (z : ℕ). Barren s pts r i z k) (p .1 .1)
         (subst (Barren s pts r i (word (p .0))) (q .1 .1)
         (at (p .0) (q .0) (p .1 .0) (q .1 .0) (λ e. ne (sym (p .1 .1) ∙ e ∙ q .1 .1))))
+
+-- and whoever was not gathered is too far away
+pub barren-from : {s : Scene} {pts : List Float} {r : Float} {l : Limits} (lo i : ℕ) {w u : List ℕ} (found : ℕ) → Judged s pts r l → Kept s w u
+    → ((k : ℕ) → k < s .n → unused (usedIn s w) k ≡ true → isWithin pts (pointAt pts i) (l .far) k ≡ true → 1 ≤ count (eqb k) (listed s u found))
+    → AllLeftBarren s pts r lo i u found → BarrenFrom s pts r (usedIn s w) lo i
+barren-from {s} {pts} {r} {l} lo i {w} {u} found g kept near all j k hj hk oj ok ne uj uk = ⊎-elim
+    (λ (tj : inReach pts (usedIn s w) (pointAt pts i) (l .far) j ≡ true). ⊎-elim
+    (λ (tk : inReach pts (usedIn s w) (pointAt pts i) (l .far) k ≡ true). all j k (stands j hj uj tj) (stands k hk uk tk) (is-left j oj uj) (is-left k ok uk) ne)
+    (λ (tk : inReach pts (usedIn s w) (pointAt pts i) (l .far) k ≡ false). barren-turned (beyond k j uk tk))
+    (either (inReach pts (usedIn s w) (pointAt pts i) (l .far) k)))
+    (λ (tj : inReach pts (usedIn s w) (pointAt pts i) (l .far) j ≡ false). beyond j k uj tj)
+    (either (inReach pts (usedIn s w) (pointAt pts i) (l .far) j))
+  where
+    beyond : (a b : ℕ) → unused (usedIn s w) a ≡ true → inReach pts (usedIn s w) (pointAt pts i) (l .far) a ≡ false → Barren s pts r i a b
+    beyond a b ua t = ⊎-elim
+        (λ (f : unused (usedIn s w) a ≡ false). absurd (true-not-false ua f))
+        (λ (f : lt (reach r) (apart pts a i) ≡ true). apart-barren s pts r i a b f)
+        (out-of-reach pts (usedIn s w) (reach r) i a (l .far) (g .limits .fars) t)
+
+    is-left : (a : ℕ) → isOther lo i a ≡ true → unused (usedIn s w) a ≡ true → isLeft s lo i u a ≡ true
+    is-left a h t = rw h (ap (λ (z : List ℕ). unused (take (s .n) z) a) (kept .after) ∙ t)
+
+    stands : (a : ℕ) → a < s .n → unused (usedIn s w) a ≡ true → inReach pts (usedIn s w) (pointAt pts i) (l .far) a ≡ true → Stands s u found a
+    stands a ha ua t = listed-place s u found a (near a ha ua (in-reach pts (usedIn s w) (pointAt pts i) (l .far) a t))
 
 -- ---- what is known of second and third points
 
@@ -212,39 +213,85 @@ third-free s pts r used i j k h =
     let b = and-both {p = not (eqb j k)} (a .1) in
     (not-equal i k (a .0), (not-equal j k (b .0), and-both {p = unused used k} (b .1) .0))
 
+-- ---- which points are others
+
+or-either : (a b : Bool) → (a || b) ≡ true → (a ≡ true) ⊎ (b ≡ true)
+or-either true b h = inl refl
+or-either false b h = inr h
+
+or-left : (a b : Bool) → a ≡ true → (a || b) ≡ true
+or-left a b h = rw h
+
+or-right : (a b : Bool) → b ≡ true → (a || b) ≡ true
+or-right true b h = refl
+or-right false b h = h
+
+other-is : (lo i k : ℕ) → isOther lo i k ≡ true → (i < k) ⊎ (k < lo)
+other-is lo i k h = ⊎-elim (λ (t : ltb i k ≡ true). inl (ltb-true i k t)) (λ (t : ltb k lo ≡ true). inr (ltb-true k lo t)) (or-either (ltb i k) (ltb k lo) h)
+
+other-above : (lo i k : ℕ) → i < k → isOther lo i k ≡ true
+other-above lo i k h = or-left (ltb i k) (ltb k lo) (lt-ltb i k h)
+
+other-below : (lo i k : ℕ) → k < lo → isOther lo i k ≡ true
+other-below lo i k h = or-right (ltb i k) (ltb k lo) (lt-ltb k lo h)
+
+-- another than i is one than any before i
+other-before : (lo i a k : ℕ) → a ≤ i → isOther lo i k ≡ true → isOther lo a k ≡ true
+other-before lo i a k h o = ⊎-elim (λ (t : i < k). other-above lo a k (omega arith)) (λ (t : k < lo). other-below lo a k t) (other-is lo i k o)
+
+-- a point that differs from i is another, or from lo on and before i
+other-or : (lo i k : ℕ) → (i ≡ k → ⊥) → (isOther lo i k ≡ true) ⊎ ((lo ≤ k) × (k < i))
+other-or lo i k d = ⊎-elim
+    (λ (t : isOther lo i k ≡ true). inl t)
+    (λ (t : isOther lo i k ≡ false). inr (
+      ⊎-elim (λ (u : ltb k lo ≡ true). absurd (true-not-false (other-below lo i k (ltb-true k lo u)) t)) (λ (u : ltb k lo ≡ false). ltb-false k lo u) (either (ltb k lo)),
+      ⊎-elim (λ (u : i < k). absurd (true-not-false (other-above lo i k u) t)) (λ (u : k < i). u) (apart-order i k d),
+    ))
+    (either (isOther lo i k))
+
 -- ---- what is known while no three points that were met make a seed
 
--- it holds of each unused point below i
-abbrev pub BarrenBelow : Scene → List Float → Float → List ℕ → ℕ → Type 0
-BarrenBelow s pts r used i = (a : ℕ) → a < i → unused used a ≡ true → BarrenFrom s pts r used a
+-- it holds of each unused point from lo on and below i
+abbrev pub BarrenBetween : Scene → List Float → Float → List ℕ → ℕ → ℕ → Type 0
+BarrenBetween s pts r used lo i = (a : ℕ) → a < i → lo ≤ a → unused used a ≡ true → BarrenFrom s pts r used lo a
 
-module _ {s : Scene} {pts : List Float} {r : Float} {i : ℕ} where
-  pub barren-used : (used : List ℕ) → BarrenBelow s pts r used i → unused used i ≡ false → BarrenBelow s pts r used (i + 1)
-  barren-used used b h = below-next b (λ u. absurd (true-not-false u h))
+module _ {s : Scene} {pts : List Float} {r : Float} {lo i : ℕ} where
+  pub barren-used : (used : List ℕ) → BarrenBetween s pts r used lo i → unused used i ≡ false → BarrenBetween s pts r used lo (i + 1)
+  barren-used used b h = below-next b (λ _ u. absurd (true-not-false u h))
 
-  pub barren-next : {barren still : Bool} {w₀ w : List ℕ} → (barren ≡ true → BarrenBelow s pts r (usedIn s w₀) i) → Kept s w₀ w → (still ≡ true → (barren ≡ true) × BarrenFrom s pts r (usedIn s w) i)
-      → still ≡ true → BarrenBelow s pts r (usedIn s w₀) (i + 1)
-  barren-next b k f h = below-next (b (f h .0)) (λ u. subst (λ (l : List ℕ). BarrenFrom s pts r (take (s .n) l) i) (k .after) (f h .1))
+  pub barren-next : {w₀ w : List ℕ} → BarrenBetween s pts r (usedIn s w₀) lo i → Kept s w₀ w → BarrenFrom s pts r (usedIn s w) lo i → BarrenBetween s pts r (usedIn s w₀) lo (i + 1)
+  barren-next b k f = below-next b (λ _ u. subst (λ (l : List ℕ). BarrenFrom s pts r (take (s .n) l) lo i) (k .after) f)
 
-  -- of point i and two others the one with the least number has been met
-  pub barren-nothing : (used : List ℕ) → unused used i ≡ true → i < s .n → BarrenBelow s pts r used (i + 1) → withFirst (floatsOf s pts) r used i ≡ none
-  barren-nothing used ui hi b = first-around s pts r used i (λ j hj second k hk. not-true (λ third.
+  -- either way
+  pub barren-on : {w₀ w : List ℕ} {barren : Bool} {m : ℕ} → BarrenBetween s pts r (usedIn s w₀) lo i → Kept s w₀ w → (barren ≡ true → BarrenFrom s pts r (usedIn s w) lo i) → KnownFrom lo i barren m → BarrenBetween s pts r (usedIn s w₀) m (i + 1)
+  barren-on {w₀} {barren = barren} {m = m} b k f n = ⊎-elim
+      (λ (t : barren ≡ true). subst (λ (x : ℕ). BarrenBetween s pts r (usedIn s w₀) x (i + 1)) (sym (n .same t)) (barren-next {w₀ = w₀} b k (f t)))
+      (λ (t : barren ≡ false). λ a ha la. absurd (omega (arith, n .next t)))
+      (either barren)
+
+  -- of point i and two others the least from lo on has been met
+  pub barren-nothing : (used : List ℕ) → unused used i ≡ true → i < s .n → lo ≤ i → BarrenBetween s pts r used lo (i + 1) → withFirst (floatsOf s pts) r used i ≡ none
+  barren-nothing used ui hi hl b = first-around s pts r used i (λ j hj second k hk. not-true (λ third.
       let p = second-free s pts r used i j second in
       let q = third-free s pts r used i j k third in
       let close = close-second s pts r used i j second in
       true-not-false third (completes-third s pts r used i j k (least j k hj hk (p .0) (q .0) (q .1 .0) (p .1) (q .1 .1) close))))
     where
+      -- point a is the least from lo on, the other two are others than it
+      by-second : (a c d : ℕ) → a < s .n → c < s .n → d < s .n → lo ≤ a → a < i + 1 → unused used a ≡ true → unused used c ≡ true → unused used d ≡ true → isOther lo a c ≡ true → isOther lo a d ≡ true → (c ≡ d → ⊥) → Barren s pts r a c d
+      by-second a c d ha hc hd la ia ua uc ud oc od ne = b a ia la ua c d hc hd oc od ne uc ud
+
       least : (j k : ℕ) → j < s .n → k < s .n → (i ≡ j → ⊥) → (i ≡ k → ⊥) → (j ≡ k → ⊥) → unused used j ≡ true → unused used k ≡ true → isClose pts r i j ≡ true → completes s pts r i j k ≡ false
       least j k hj hk ij ik jk uj uk close = ⊎-elim
-          (λ (a : i < j). ⊎-elim
-          (λ (c : i < k). b i (omega arith) ui j k hj hk a c jk uj uk .first .forward close)
-          (λ (c : k < i). b k (omega arith) uk i j hi hj c (omega arith) ij ui uj .second .backward close)
-          (apart-order i k ik))
-          (λ (a : j < i). ⊎-elim
-          (λ (c : j < k). b j (omega arith) uj i k hi hk a c ik ui uk .second .forward close)
-          (λ (c : k < j). b k (omega arith) uk i j hi hj (omega arith) c ij ui uj .second .backward close)
-          (apart-order j k jk))
-          (apart-order i j ij)
+          (λ (oj : isOther lo i j ≡ true). ⊎-elim
+          (λ (ok : isOther lo i k ≡ true). by-second i j k hi hj hk hl (omega arith) ui uj uk oj ok jk .first .forward close)
+          (λ (nk : (lo ≤ k) × (k < i)). by-second k i j hk hi hj (nk .0) (omega (arith, nk .1)) uk ui uj (other-above lo k i (nk .1)) (other-before lo i k j (omega (arith, nk .1)) oj) ij .second .backward close)
+          (other-or lo i k ik))
+          (λ (nj : (lo ≤ j) × (j < i)). ⊎-elim
+          (λ (ok : isOther lo j k ≡ true). by-second j i k hj hi hk (nj .0) (omega (arith, nj .1)) uj ui uk (other-above lo j i (nj .1)) ok ik .second .forward close)
+          (λ (nk : (lo ≤ k) × (k < j)). by-second k i j hk hi hj (nk .0) (omega (arith, nk .1, nj .1)) uk ui uj (other-above lo k i (omega (arith, nk .1, nj .1))) (other-above lo k j (nk .1)) ij .second .backward close)
+          (other-or lo j k jk))
+          (other-or lo i j ij)
 
 -- ---- the loop of `find_from`
 
@@ -254,7 +301,7 @@ unused-kept {s} i k h = ap (λ (l : List ℕ). unused (take (s .n) l) i) (k .aft
 pub unused-back : {s : Scene} {w v : List ℕ} {t : Bool} (i : ℕ) → Kept s w v → unused (usedIn s v) i ≡ t → unused (usedIn s w) i ≡ t
 unused-back {s} i k h = ap (λ (l : List ℕ). unused (take (s .n) l) i) (sym (k .after)) ∙ h
 
-pub seek-barren : {s : Scene} {pts : List Float} {r : Float} {hash : Hash} {w₀ v : List ℕ} {left i : ℕ} → Seeking s pts r hash w₀ v left i → i < s .n → unused (usedIn s v) i ≡ true → BarrenBelow s pts r (usedIn s w₀) (i + 1)
+pub seek-barren : {s : Scene} {pts : List Float} {r : Float} {hash : Hash} {w₀ v : List ℕ} {left lo i : ℕ} → Seeking s pts r hash w₀ v left i → i < s .n → lo ≤ i → unused (usedIn s v) i ≡ true → BarrenBetween s pts r (usedIn s w₀) lo (i + 1)
     → withFirst (floatsOf s pts) r (usedIn s v) i ≡ none
-seek-barren {s} {pts} {r} {w₀ = w₀} {i = i} k hi u b =
-    ap (λ (l : List ℕ). withFirst (floatsOf s pts) r (take (s .n) l) i) (k .kept .after) ∙ barren-nothing (usedIn s w₀) (unused-back {s = s} i (k .kept) u) hi b
+seek-barren {s} {pts} {r} {w₀ = w₀} {i = i} k hi hl u b =
+    ap (λ (l : List ℕ). withFirst (floatsOf s pts) r (take (s .n) l) i) (k .kept .after) ∙ barren-nothing (usedIn s w₀) (unused-back {s = s} i (k .kept) u) hi hl b

@@ -2,7 +2,7 @@
 use Prim.Native.Nat.{ℕ, _+_, _≤_, _<_}
 use mathlib.Core.Path.{_≡_}
 use mathlib.Core.Logic.{_≢_}
-use mathlib.Core.Bool.{true, _&&_}
+use mathlib.Core.Bool.{Bool, true, false, _&&_, _||_}
 use mathlib.Core.List.{List}
 use lib.Dec.{ltb}
 use lib.ListN.{getD}
@@ -27,16 +27,34 @@ BarrenAfter s pts r w at count i j from = (m : ℕ) → from ≤ m → m < count
 abbrev pub AllBarren : Scene → List Float → Float → List ℕ → ℕ → ℕ → ℕ → Type 0
 AllBarren s pts r w at count i = (m : ℕ) → m < count → BarrenAfter s pts r w at count i (getD w (at + m) 0) (m + 1)
 
--- no two unused points after point i make one with it
-abbrev pub BarrenFrom : Scene → List Float → Float → List ℕ → ℕ → Type 0
-BarrenFrom s pts r used i = (j k : ℕ) → j < s .n → k < s .n → i < j → i < k → j ≢ k → unused used j ≡ true → unused used k ≡ true → Barren s pts r i j k
+-- k comes after point i or before point lo
+abbrev pub isOther : ℕ → ℕ → ℕ → Bool
+isOther lo i k = ltb i k || ltb k lo
+
+-- and is unused
+abbrev pub isLeft : Scene → ℕ → ℕ → List ℕ → ℕ → Bool
+isLeft s lo i w k = isOther lo i k && unused (usedIn s w) k
+
+-- no two such points make one with point i
+abbrev pub BarrenFrom : Scene → List Float → Float → List ℕ → ℕ → ℕ → Type 0
+BarrenFrom s pts r used lo i = (j k : ℕ) → j < s .n → k < s .n → isOther lo i j ≡ true → isOther lo i k ≡ true → j ≢ k → unused used j ≡ true → unused used k ≡ true → Barren s pts r i j k
 
 -- k is one of the listed points
 abbrev pub Stands : Scene → List ℕ → ℕ → ℕ → Type 0
 Stands s w count k = (m : ℕ) × ((m < count) × (getD w (neighborsAt (s .n) + m) 0 ≡ k))
 
--- of the `found` points r are left, all that come after point i and are unused among them: w before, u after
-pub record Later (s : Scene) (i : ℕ) (w u : List ℕ) (found r : ℕ) : Type 0 where
+-- no two of the listed points that are such make one with point i
+abbrev pub AllLeftBarren : Scene → List Float → Float → ℕ → ℕ → List ℕ → ℕ → Type 0
+AllLeftBarren s pts r lo i w found = (j k : ℕ) → Stands s w found j → Stands s w found k → isLeft s lo i w j ≡ true → isLeft s lo i w k ≡ true → j ≢ k → Barren s pts r i j k
+
+-- of the `found` points r are left, all such among them: w before, u after
+pub record Left (s : Scene) (lo i : ℕ) (w u : List ℕ) (found r : ℕ) : Type 0 where
   pub listed : Listed s u r
-  pub complete : (k : ℕ) → Stands s w found k → (ltb i k && unused (usedIn s w) k) ≡ true → Stands s u r k
+  pub complete : (k : ℕ) → Stands s w found k → isLeft s lo i w k ≡ true → Stands s u r k
   pub kept : Kept s w u
+
+-- after point i: from lo on if it is known, else from the next point on
+pub record KnownFrom (lo i : ℕ) (barren : Bool) (r : ℕ) : Type 0 where
+  pub inside : r ≤ i + 1
+  pub same : barren ≡ true → r ≡ lo
+  pub next : barren ≡ false → r ≡ i + 1

@@ -1,19 +1,22 @@
-// Points no three of which make a seed, whichever of them comes first: each three are looked at once, when the one with the least number is tried.
+// Points no three of which make a seed, whichever of them comes first: each three are looked at once. What that may take is paid from a purse, to which each first point
+// adds what a search in the definition's order takes there; so it never takes much more than that, whatever the cloud. A purse decides nothing but which of two searches
+// with the same answer is made.
 use decisions::Scene;
 use refusals::Limits;
 use spatial_hash::Hash;
 ghost use mathlib.Core.Path.{_≡_};
-ghost use mathlib.Core.Bool.{true, _&&_};
+ghost use mathlib.Core.Bool.{true};
 ghost use Prim.Native.Nat.{_*_, _≤_, _<_, _+_};
-ghost use lib.Dec.{ltb};
 ghost use lib.ListN.{length};
 ghost use Rattle.regions.specs.Regions.{neighborsAt};
 ghost use Rattle.spatial_hash.specs.Near.{Hashed};
-ghost use Rattle.patch.specs.Search.{unused};
 ghost use Rattle.refusals.specs.Refused.{Limiting};
 ghost use Rattle.nearby.specs.Ready.{Held, Listed, Kept, usedIn};
 ghost use Rattle.seed.specs.Judged.{Fruitless, Judged};
-ghost use Rattle.seed.specs.Barren.{Barren, BarrenAfter, AllBarren, BarrenFrom, Later};
+ghost use Rattle.seed.specs.Barren.{Barren, BarrenAfter, AllBarren, BarrenFrom, isOther, isLeft, Left, AllLeftBarren};
+
+// What it takes to measure three points, where it takes 1 to refuse them.
+const MEASURED: usize = 24;
 
 // Whether points j and k make no seed with point i, in either order, both being measured.
 fn are_measured_fruitless(
@@ -33,8 +36,8 @@ fn are_measured_fruitless(
     !decisions::is_completed(s, points, radius, i, k, j)
 }
 
-// Whether points i, j and k make no seed, whichever of them comes first. Limits are asked first, since they need no root.
-fn is_barren(
+// Whether points i, j and k make no seed, whichever of them comes first: 0 if they may, else what it took to tell. Limits are asked first, since they need no root.
+fn price_of(
     s: Scene,
     points: &[f32],
     radius: f32,
@@ -42,27 +45,30 @@ fn is_barren(
     i: usize,
     j: usize,
     k: usize,
-) -> bool
+) -> usize
     requires { ⌜ (length (now points) ≡ 3 * s .n) × (i < s .n) × (j < s .n) × (k < s .n) × Judged s (now points) radius limits ⌝ }
-    ensures { λ r. ⌜ (r ≡ true → Barren s (now (points .entry)) radius i j k) ⌝ }
+    ensures { λ r. ⌜ (0 < r → Barren s (now (points .entry)) radius i j k) ⌝ }
 {
     let first = points::point_at(points, i);
     let second = points::point_at(points, j);
     let third = points::point_at(points, k);
     if refusals::is_refused_throughout(limits, first, second, third) {
-        return true;
+        return 1;
     }
     if !are_measured_fruitless(s, points, radius, i, j, k) {
-        return false;
+        return 0;
     }
     if !are_measured_fruitless(s, points, radius, j, i, k) {
-        return false;
+        return 0;
     }
-    are_measured_fruitless(s, points, radius, k, i, j)
+    if !are_measured_fruitless(s, points, radius, k, i, j) {
+        return 0;
+    }
+    MEASURED
 }
 
-// Whether points i and j make no seed with any of the listed points from a place on.
-fn are_barren_beside(
+// What is left of a purse once it is told that points i and j make no seed with any of the listed points from a place on; 0 if that was not told.
+fn pay_beside(
     s: Scene,
     points: &[f32],
     w: &[u32],
@@ -72,24 +78,31 @@ fn are_barren_beside(
     i: usize,
     j: usize,
     from: usize,
-) -> bool
+    purse: usize,
+) -> usize
     requires { ⌜ Held s (now points) (now w) × Listed s (now w) count × (i < s .n) × (j < s .n) × Judged s (now points) radius limits ⌝ }
-    ensures { λ r. ⌜ (r ≡ true → BarrenAfter s (now (points .entry)) radius (now (w .entry)) (neighborsAt (s .n)) count i j from) ⌝ }
+    ensures { λ r. ⌜ (0 < r → BarrenAfter s (now (points .entry)) radius (now (w .entry)) (neighborsAt (s .n)) count i j from) ⌝ }
 {
     let at = 4 * s.n;
+    let mut left = purse;
     let mut m = from;
     while m < count {
         let k = w[at + m] as usize;
-        if !is_barren(s, points, radius, limits, i, j, k) {
-            return false;
+        let price = price_of(s, points, radius, limits, i, j, k);
+        if price == 0 {
+            return 0;
         }
+        if left <= price {
+            return 0;
+        }
+        left -= price;
         m += 1;
     }
-    true
+    left
 }
 
-// Whether no two of the listed points make a seed with point i.
-fn are_all_barren(
+// The same once it is told that no two of the listed points make a seed with point i.
+fn pay_all(
     s: Scene,
     points: &[f32],
     w: &[u32],
@@ -97,37 +110,50 @@ fn are_all_barren(
     radius: f32,
     limits: Limits,
     i: usize,
-) -> bool
+    purse: usize,
+) -> usize
     requires { ⌜ Held s (now points) (now w) × Listed s (now w) count × (i < s .n) × Judged s (now points) radius limits ⌝ }
-    ensures { λ r. ⌜ (r ≡ true → AllBarren s (now (points .entry)) radius (now (w .entry)) (neighborsAt (s .n)) count i) ⌝ }
+    ensures { λ r. ⌜ (0 < r → AllBarren s (now (points .entry)) radius (now (w .entry)) (neighborsAt (s .n)) count i) ⌝ }
 {
     let at = 4 * s.n;
+    let mut left = purse;
     let mut m: usize = 0;
     while m < count {
         let j = w[at + m] as usize;
         m += 1;
-        if !are_barren_beside(s, points, w, count, radius, limits, i, j, m) {
-            return false;
+        left = pay_beside(s, points, w, count, radius, limits, i, j, m, left);
+        if left == 0 {
+            return 0;
         }
     }
-    true
+    left
 }
 
-// Whether point k comes after point i and is unused.
-fn is_later(s: Scene, w: &[u32], i: usize, k: usize) -> bool
-    requires { ⌜ (s .n ≤ 4096) × (24 * s .n + 64 ≤ length (now w)) × (k < s .n) ⌝ }
-    ensures { λ r. ⌜ r ≡ (ltb i k && unused (usedIn s (now (w .entry))) k) ⌝ }
+// Whether point k comes after point i or before point lo.
+fn is_other(lo: usize, i: usize, k: usize) -> bool
+    ensures { λ r. ⌜ r ≡ isOther lo i k ⌝ }
 {
-    if k <= i {
+    if i < k {
+        return true;
+    }
+    k < lo
+}
+
+// Whether it is unused besides.
+fn is_left(s: Scene, w: &[u32], lo: usize, i: usize, k: usize) -> bool
+    requires { ⌜ (s .n ≤ 4096) × (24 * s .n + 64 ≤ length (now w)) × (k < s .n) ⌝ }
+    ensures { λ r. ⌜ r ≡ isLeft s lo i (now (w .entry)) k ⌝ }
+{
+    if !is_other(lo, i, k) {
         return false;
     }
     nearby::is_unused(s, w, k)
 }
 
-// Leaves those of the listed points that come after point i and are unused, in no order, and returns how many they are.
-fn keep_later(s: Scene, w: &mut [u32], found: usize, i: usize) -> usize
+// Leaves those of the listed points that are unused and come after point i or before point lo, in no order, and returns how many they are.
+fn keep_left(s: Scene, w: &mut [u32], found: usize, lo: usize, i: usize) -> usize
     requires { ⌜ (s .n ≤ 4096) × (24 * s .n + 64 ≤ length (now w)) × Listed s (now w) found ⌝ }
-    ensures { λ r. ⌜ Later s i (now (w .entry)) (now (w .exit)) found r ⌝ }
+    ensures { λ r. ⌜ Left s lo i (now (w .entry)) (now (w .exit)) found r ⌝ }
 {
     let at = 4 * s.n;
     let mut kept: usize = 0;
@@ -135,7 +161,7 @@ fn keep_later(s: Scene, w: &mut [u32], found: usize, i: usize) -> usize
     while m < found {
         let k = w[at + m];
         m += 1;
-        if is_later(s, w, i, k as usize) {
+        if is_left(s, w, lo, i, k as usize) {
             w[at + kept] = k;
             kept += 1;
         }
@@ -143,42 +169,122 @@ fn keep_later(s: Scene, w: &mut [u32], found: usize, i: usize) -> usize
     kept
 }
 
-// Whether no two unused points after point i make a seed with it.
-fn is_barren_first(
-    s: Scene,
-    points: &[f32],
-    w: &mut [u32],
-    radius: f32,
-    i: usize,
-    hash: Hash,
-    limits: Limits,
-) -> bool
-    requires { ⌜ Held s (now points) (now w) × Hashed hash (now points) (s .n) (now w) × (i < s .n) × Limiting s radius limits ⌝ }
-    ensures { λ r. ⌜ (r ≡ true → BarrenFrom s (now (points .entry)) radius (usedIn s (now (w .entry))) i) × Kept s (now (w .entry)) (now (w .exit)) ⌝ }
+// Of the listed points, each taken with the one half the list on, how many are near each other.
+fn count_near(s: Scene, points: &[f32], w: &[u32], count: usize, far: f32) -> usize
+    requires { ⌜ Held s (now points) (now w) × Listed s (now w) count ⌝ }
+    ensures { λ r. ⌜ r ≤ count ⌝ }
 {
-    let place = points::point_at(points, i);
-    let reach = radius * 2.002;
-    let found = spatial_hash::gather_within(points, w, s.n, hash, place, reach, limits.far);
-    let count = keep_later(s, w, found, i);
-    are_all_barren(s, points, w, count, radius, limits, i)
+    let at = 4 * s.n;
+    let half = count / 2;
+    let mut near: usize = 0;
+    let mut m: usize = 0;
+    while m < half {
+        let p = points::point_at(points, w[at + m] as usize);
+        let q = points::point_at(points, w[at + (half + m)] as usize);
+        m += 1;
+        if vector::distance_squared(p, q) <= far {
+            near += 1;
+        }
+    }
+    near
 }
 
-// Whether that holds of point i too, if it does so far.
-pub fn stays_barren(
+// What a purse holds once an amount is added, as far as that can be told.
+fn added(purse: usize, amount: usize) -> usize {
+    if purse > 0x1000_0000_0000 {
+        return purse;
+    }
+    if amount > 0x1000_0000_0000 {
+        return purse;
+    }
+    purse + amount
+}
+
+// What a search in the definition's order takes at a first point with so many neighbours, where so many of half as many pairs are near each other.
+fn work_of(count: usize, near: usize) -> usize
+    requires { ⌜ (count ≤ 4096) × (near ≤ 4096) ⌝ }
+{
+    count * (count + 16 * near)
+}
+
+// What a purse has to hold before a point with so many neighbours is looked at: more for the first, since each that follows costs less.
+fn least_purse(count: usize, begun: bool) -> usize
+    requires { ⌜ count ≤ 4096 ⌝ }
+{
+    if begun {
+        return count * (13 * count);
+    }
+    count * (count * (13 + count / 3))
+}
+
+// What is told of a first point, and what is left to pay with.
+pub struct Checked {
+    pub barren: bool,
+    pub purse: usize,
+}
+
+// What is left of a purse once it is told that no two of the `found` points that are unused and come after point i or before point lo make a seed with it; 0 if that was not told.
+fn pay_found(
+    s: Scene,
+    points: &[f32],
+    w: &mut [u32],
+    found: usize,
+    radius: f32,
+    lo: usize,
+    i: usize,
+    limits: Limits,
+    purse: usize,
+) -> usize
+    requires { ⌜ Held s (now points) (now w) × Listed s (now w) found × (i < s .n) × Judged s (now points) radius limits ⌝ }
+    ensures { λ r. ⌜ (0 < r → AllLeftBarren s (now (points .entry)) radius lo i (now (w .entry)) found) × Kept s (now (w .entry)) (now (w .exit)) ⌝ }
+{
+    let count = keep_left(s, w, found, lo, i);
+    pay_all(s, points, w, count, radius, limits, i, purse)
+}
+
+// Whether no two unused points after point i or before point lo make a seed with it, if that is paid for.
+pub fn check_first(
     s: Scene,
     points: &[f32],
     w: &mut [u32],
     radius: f32,
+    lo: usize,
     i: usize,
     hash: Hash,
     limits: Limits,
-    barren: bool,
-) -> bool
+    purse: usize,
+) -> Checked
     requires { ⌜ Held s (now points) (now w) × Hashed hash (now points) (s .n) (now w) × (i < s .n) × Limiting s radius limits ⌝ }
-    ensures { λ r. ⌜ (r ≡ true → (barren ≡ true) × BarrenFrom s (now (points .entry)) radius (usedIn s (now (w .entry))) i) × Kept s (now (w .entry)) (now (w .exit)) ⌝ }
+    ensures { λ r. ⌜ (r .barren ≡ true → BarrenFrom s (now (points .entry)) radius (usedIn s (now (w .entry))) lo i) × Kept s (now (w .entry)) (now (w .exit)) ⌝ }
 {
-    if !barren {
-        return false;
+    let place = points::point_at(points, i);
+    let found = spatial_hash::gather_within(
+        points,
+        w,
+        s.n,
+        hash,
+        place,
+        radius * 2.002,
+        limits.far,
+    );
+    let near = count_near(s, points, w, found, limits.far);
+    let work = work_of(found, near);
+    let begun = lo < i;
+    if purse < least_purse(found, begun) {
+        return Checked {
+            barren: false,
+            purse: added(purse, work),
+        };
     }
-    is_barren_first(s, points, w, radius, i, hash, limits)
+    let left = pay_found(s, points, w, found, radius, lo, i, limits, purse);
+    if left == 0 {
+        return Checked {
+            barren: false,
+            purse: work,
+        };
+    }
+    Checked {
+        barren: true,
+        purse: added(left, work),
+    }
 }

@@ -39,5 +39,6 @@ pub fn find_seed_triangle(
         return Seed::Nothing;
     }
     let limits = refusals::limits_of(s, radius);
-    triples::find_from(s, points, w, radius, hash, limits)
+    let search = triples::find_from(s, points, w, radius, hash, limits);
+    search.seed
 }

@@ -6,7 +6,7 @@ use spatial_hash::Hash;
 ghost use mathlib.Core.Path.{_≡_};
 ghost use mathlib.Core.Bool.{true};
 ghost use mathlib.Core.Option.{none};
-ghost use Prim.Native.Nat.{_*_, _<_, _+_};
+ghost use Prim.Native.Nat.{_*_, _≤_, _<_, _+_};
 ghost use Rattle.grid.specs.Index.{Indexed};
 ghost use Rattle.spatial_hash.specs.Near.{Hashed};
 ghost use Rattle.patch.specs.Search.{isSecond, isThird, thirdOf, secondOf, firstOf, numbers};
@@ -15,6 +15,8 @@ ghost use Rattle.refusals.specs.Refused.{Limiting};
 ghost use Rattle.nearby.specs.Ready.{Held, Listed, usedIn, listed, Kept};
 ghost use Rattle.seed.specs.Found.{seedFound, withSecond, withFirst};
 ghost use Rattle.seed.specs.Judged.{Judged};
+ghost use Rattle.seed.specs.Barren.{KnownFrom};
+ghost use Rattle.seed.specs.declared.Seed.the-variants.{Nothing};
 
 // Whether j may be the second point after i.
 fn is_second(s: Scene, points: &[f32], w: &[u32], radius: f32, i: usize, j: usize) -> bool
@@ -174,7 +176,24 @@ fn try_unless_barren(
     try_first(s, points, w, radius, i, hash, limits)
 }
 
-// The first seed; only the first 1,000 unused points are tried as i. As long as no three points that were met make a seed, whichever comes first, each three are looked at once.
+// Where the points begin that are known with point i, which is the last of them if it is known.
+fn known_from(lo: usize, i: usize, barren: bool) -> usize
+    requires { ⌜ (lo ≤ i) × (i < 4096) ⌝ }
+    ensures { λ r. ⌜ KnownFrom lo i barren r ⌝ }
+{
+    if barren {
+        return lo;
+    }
+    i + 1
+}
+
+// The seed, and what is left to pay with.
+pub struct Search {
+    pub seed: Seed,
+    pub purse: usize,
+}
+
+// The first seed; only the first 1,000 unused points are tried as i. No three points make a seed of which one is from lo to i, whichever comes first.
 pub fn find_from(
     s: Scene,
     points: &[f32],
@@ -182,29 +201,44 @@ pub fn find_from(
     radius: f32,
     hash: Hash,
     limits: Limits,
-) -> Seed
+) -> Search
     requires { ⌜ Held s (now points) (now w) × Indexed (s .grid) (now points) (s .n) (now w) × Hashed hash (now points) (s .n) (now w) × Limiting s radius limits ⌝ }
-    ensures { λ r. ⌜ (r ≡ seedFound (firstOf (floatsOf s (now (points .entry))) radius (usedIn s (now (w .entry))) (numbers (s .n) 0) 1000)) × Kept s (now (w .entry)) (now (w .exit)) ⌝ }
+    ensures { λ r. ⌜ (r .seed ≡ seedFound (firstOf (floatsOf s (now (points .entry))) radius (usedIn s (now (w .entry))) (numbers (s .n) 0) 1000)) × Kept s (now (w .entry)) (now (w .exit)) ⌝ }
 {
     let n = s.n;
     let mut left: usize = 1000;
-    let mut barren = true;
+    let mut purse: usize = 0;
+    let mut lo: usize = 0;
     let mut i: usize = 0;
     while i < n {
         if left == 0 {
-            return Seed::Nothing;
+            return nothing_found(purse);
         }
         if !nearby::is_unused(s, w, i) {
             i += 1;
             continue;
         }
-        barren = crate::barren::stays_barren(s, points, w, radius, i, hash, limits, barren);
-        let found = try_unless_barren(s, points, w, radius, i, hash, limits, barren);
+        let check = crate::barren::check_first(s, points, w, radius, lo, i, hash, limits, purse);
+        let found = try_unless_barren(s, points, w, radius, i, hash, limits, check.barren);
         if let Seed::Triangle(a, b, c) = found {
-            return Seed::Triangle(a, b, c);
+            return Search {
+                seed: Seed::Triangle(a, b, c),
+                purse: 0,
+            };
         }
+        purse = check.purse;
+        lo = known_from(lo, i, check.barren);
         left -= 1;
         i += 1;
     }
-    Seed::Nothing
+    nothing_found(purse)
+}
+
+fn nothing_found(purse: usize) -> Search
+    ensures { λ r. ⌜ r .seed ≡ Nothing ⌝ }
+{
+    Search {
+        seed: Seed::Nothing,
+        purse: purse,
+    }
 }

@@ -1,5 +1,6 @@
 //! Whole calls over clouds of a fixed seed: a line a cloud, with the ratio that is to be reached.
 
+use crate::clock;
 use expect::{bits, Lent, BUDGET};
 use generate::clouds::{self, Cloud};
 use generate::{work_lengths, Case, Random};
@@ -18,13 +19,13 @@ struct Race {
 
 /// Best times in milliseconds, the Rust's and the port's.
 #[derive(Clone, Copy)]
-struct Times {
-    rust: f64,
-    port: f64,
+pub struct Times {
+    pub rust: f64,
+    pub port: f64,
 }
 
 impl Times {
-    fn ratio(self) -> f64 {
+    pub fn ratio(self) -> f64 {
         self.rust / self.port
     }
 }
@@ -37,11 +38,11 @@ fn race(mut rust: impl FnMut(), mut port: impl FnMut()) -> Times {
         if round >= 5 && begin.elapsed().as_secs_f64() > 1.0 {
             break;
         }
-        let start = Instant::now();
+        let start = clock::now();
         rust();
-        let middle = Instant::now();
+        let middle = clock::now();
         port();
-        let took = [middle - start, middle.elapsed()].map(|t| t.as_secs_f64() * 1e3);
+        let took = [middle - start, clock::now() - middle].map(|t| t.as_secs_f64() * 1e3);
         best = Times { rust: best.rust.min(took[0]), port: best.port.min(took[1]) };
     }
     best
@@ -54,7 +55,7 @@ fn lend(points: usize) -> Lent {
 }
 
 /// Times one reconstruction on both sides, which have to come to the same, and tells how many faces there were.
-fn reconstruct(points: &[f32], normals: &[f32], settings: &Settings) -> (u32, Times) {
+pub fn reconstruct(points: &[f32], normals: &[f32], settings: &Settings) -> (u32, Times) {
     let mut lent = lend(points.len() / 3);
     let mut expected = lent.clone();
     let work = [lent.words.len(), lent.floats.len()];
@@ -71,7 +72,7 @@ fn reconstruct(points: &[f32], normals: &[f32], settings: &Settings) -> (u32, Ti
 }
 
 /// A line of the table; true if the ratio is reached.
-fn line(name: &str, points: usize, faces: &str, times: Times, reach: f64) -> bool {
+pub fn line(name: &str, points: usize, faces: &str, times: Times, reach: f64) -> bool {
     let short = if times.ratio() < reach { "  short" } else { "" };
     let (rust, port, ratio) = (times.rust, times.port, times.ratio());
     println!("{name:<40} {points:>6} {faces:>6} {rust:>10.3} {port:>10.3} {ratio:>8.1} {reach:>8}{short}");

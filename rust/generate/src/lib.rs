@@ -7,6 +7,7 @@ pub mod numbers;
 mod pins;
 mod random;
 mod settings;
+pub mod slow;
 
 pub use random::Random;
 

@@ -1,37 +1,39 @@
--- `find_from` meets its contract. The loop's invariant: the points below i have been tried, `left` more unused ones may be, and while `barren` holds no three of which one is below i make a seed. Assumes nothing.
-use Prim.Native.Nat.{_-_}
+-- `find_from` meets its contract. The loop's invariant: the points below i have been tried, `left` more unused ones may be, and no three of which one is from lo on and below i make a seed. Assumes nothing.
+use Prim.Native.Nat.{_-_, _≤_}
 use mathlib.Core.Path.{_≡_, sym, ap, _∙_}
-use mathlib.Core.Bool.{true}
 use native.Mathlib.Omega.{arith}
-use borrow.Author.Needs.{needs}
 use borrow.Author.Tests.{not-true, not-false}
 use Rattle.nearby.specs.Ready.{usedIn}
 use Rattle.nearby.proofs.Keeping.{kept-on}
 use Rattle.seed.specs.Found.{seedFound}
 use Rattle.seed.proofs.State.{Seeking, seek-start, seek-end, seek-spent, seek-used, seek-kept, seek-hit, seek-miss}
-use Rattle.seed.proofs.Threes.{BarrenBelow, barren-used, barren-next, unused-kept, unused-back, seek-barren}
+use Rattle.seed.proofs.Threes.{BarrenBetween, barren-used, barren-next, barren-on, unused-kept, unused-back, seek-barren}
+use borrow.Author.Needs.{needs}
 use Rattle.seed.proofs.triples.find_from.Statement.{statement}
 use Rattle.seed.proofs.triples.find_from.Tie as tie
 
 abbrev Inv-loop : tie.InvT-loop
-Inv-loop s points w₀ radius hash limits n left₀ barren₀ i₀ w left barren i = Seeking s points radius hash w₀ w left i × (barren ≡ true → BarrenBelow s points radius (usedIn s w₀) i)
+Inv-loop s points w₀ radius hash limits n left₀ purse₀ lo₀ i₀ w left purse lo i = Seeking s points radius hash w₀ w left i × (lo ≤ i) × BarrenBetween s points radius (usedIn s w₀) lo i
 
 abbrev μ-loop : tie.MeasureT-loop
-μ-loop s points w₀ radius hash limits n left₀ barren₀ i₀ w left barren i = s .n - i
+μ-loop s points w₀ radius hash limits n left₀ purse₀ lo₀ i₀ w left purse lo i = s .n - i
 
 loop-holds : tie.Need-loop-holds Inv-loop μ-loop
-loop-holds c = let a = c .before .before in (seek-start (a .pre .0) (a .pre .1) (a .pre .2), λ b x h. absurd (omega arith))
+loop-holds c = (seek-start (c .before .before .pre .0) (c .before .before .pre .1) (c .before .before .pre .2), omega arith, λ x h. absurd (omega arith))
+
+nothing-found-requires : tie.Need-nothing-found-requires Inv-loop μ-loop
+nothing-found-requires c κs = search needs
 
 same-length : tie.Need-same-length Inv-loop μ-loop
-same-length c = c .before .before .loop .inv .0 .same
+same-length c = c .before .before .before .loop .inv .0 .same
 
 returns : tie.Need-returns Inv-loop μ-loop
 returns c =
-    let l = c .before .before .loop in
-    (sym (ap seedFound (seek-spent (l .inv .0) (c .before .loop-test .taken) (c .if1 .taken))), l .inv .0 .kept)
+    let l = c .before .before .before .loop in
+    (c .nothing-found .ensures ∙ sym (ap seedFound (seek-spent (l .inv .0) (c .before .before .loop-test .taken) (c .before .if1 .taken))), l .inv .0 .kept)
 
 is-unused-requires : tie.Need-is-unused-requires Inv-loop μ-loop
-is-unused-requires c κs = let l = c .before .before .before in (l .loop .inv .0 .held .work-long, l .loop .inv .0 .held .few, c .before .before .loop-test .taken)
+is-unused-requires c κs = let l = c .before .before .before .loop in (l .inv .0 .held .work-long, l .inv .0 .held .few, c .before .before .loop-test .taken)
 
 add-i : tie.Need-add-i Inv-loop μ-loop
 add-i c = search needs
@@ -46,46 +48,46 @@ loop-again c =
     let a = c .before .before .before .before .before .before .before .before .args in
     let used = sym (u .ensures) ∙ not-true (u .result) (c .if2 .taken) in (
       seek-used (l .inv .0) (c .before .before .before .before .loop-test .taken) (c .before .before .before .if1 .left) used,
-      λ b. barren-used (usedIn (a .s) (a .w .now)) (l .inv .1 b) (unused-back {s = a .s} (l .i) (l .inv .0 .kept) used),
+      omega (arith, l .inv .1),
+      barren-used (usedIn (a .s) (a .w .now)) (l .inv .2) (unused-back {s = a .s} (l .i) (l .inv .0 .kept) used),
     )
 
-stays-barren-requires : tie.Need-stays-barren-requires Inv-loop μ-loop
-stays-barren-requires c κs = let l = c .before .before .before .before .before .before in (l .loop .inv .0 .held, l .loop .inv .0 .hashed, c .before .before .before .before .before .loop-test .taken, l .before .before .before .pre .3)
+check-first-requires : tie.Need-check-first-requires Inv-loop μ-loop
+check-first-requires c κs = let l = c .before .before .before .before .before .before .loop in (l .inv .0 .held, l .inv .0 .hashed, c .before .before .before .before .before .loop-test .taken, c .before .before .before .before .before .before .before .before .before .pre .3)
 
 try-unless-barren-requires : tie.Need-try-unless-barren-requires Inv-loop μ-loop
 try-unless-barren-requires c κs =
-    let e = c .before .before .before .before .before in
-    let u = e .before .is-unused in
-    let l = e .before .before .before .before .before .loop in
-    let a = e .before .before .before .before .before .before .before .before in
-    let t = c .before .before .before .stays-barren in
+    let u = c .before .before .before .before .before .before .is-unused in
+    let l = c .before .before .before .before .before .before .before .before .before .before .loop in
+    let t = c .before .before .before .check-first in
     let k = seek-kept (l .inv .0) (t .last .1 .1 .0) (t .ensures .1) (t .kept .1 .1 .0) in
-    let inside = e .before .before .before .before .loop-test .taken in
-    let free = unused-kept {s = a .args .s} (l .i) (t .ensures .1) (sym (u .ensures) ∙ not-false (u .result) (e .if2 .left)) in
-    (k .held, k .indexed, k .hashed, inside, a .pre .3, λ h. seek-barren k inside free (barren-next (l .inv .1) (l .inv .0 .kept) (t .ensures .0) h))
+    let inside = c .before .before .before .before .before .before .before .before .before .loop-test .taken in
+    let free = unused-kept {s = c .before .before .before .before .before .before .before .before .before .before .before .before .before .args .s} (l .i) (t .ensures .1) (sym (u .ensures) ∙ not-false (u .result) (c .before .before .before .before .before .if2 .left)) in
+    (k .held, k .indexed, k .hashed, inside, c .before .before .before .before .before .before .before .before .before .before .before .before .before .pre .3, λ h. seek-barren k inside (l .inv .1) free (barren-next {w₀ = c .before .before .before .before .before .before .before .before .before .before .before .before .before .args .w .now} (l .inv .2) (l .inv .0 .kept) (t .ensures .0 h)))
 
 enum-known-found : tie.Need-enum-known-found Inv-loop μ-loop
 enum-known-found c = search needs
 
 same-length-2 : tie.Need-same-length-2 Inv-loop μ-loop
-same-length-2 c = c .before .before .before .before .before .try-unless-barren .kept .1 .1 .0 ∙ c .before .before .before .before .before .before .before .before .before .stays-barren .kept .1 .1 .0 ∙ c .before .before .before .before .before .before .before .before .before .before .before .before .before .before .before .before .loop .inv .0 .same
+same-length-2 c = c .before .before .before .before .before .try-unless-barren .kept .1 .1 .0 ∙ c .before .before .before .before .before .before .before .before .before .check-first .kept .1 .1 .0 ∙ c .before .before .before .before .before .before .before .before .before .before .before .before .before .before .before .before .loop .inv .0 .same
 
 returns-2 : tie.Need-returns-2 Inv-loop μ-loop
 returns-2 c =
-    let e = c .before .before .before .before .before .before .before .before .before .before .before in
-    let u = e .before .is-unused in
-    let l = e .before .before .before .before .before .loop in
-    let a = e .before .before .before .before .before .before .before .before .args in
-    let t = c .before .before .before .before .before .before .before .before .before .stays-barren in
+    let u = c .before .before .before .before .before .before .before .before .before .before .before .before .is-unused in
+    let l = c .before .before .before .before .before .before .before .before .before .before .before .before .before .before .before .before .loop in
+    let t = c .before .before .before .before .before .before .before .before .before .check-first in
     let f = c .before .before .before .before .before .try-unless-barren in
     let k = seek-kept (l .inv .0) (t .last .1 .1 .0) (t .ensures .1) (t .kept .1 .1 .0) in
-    let free = unused-kept {s = a .s} (l .i) (t .ensures .1) (sym (u .ensures) ∙ not-false (u .result) (e .if2 .left)) in (
-      seek-hit k (e .before .before .before .before .loop-test .taken) (e .before .before .before .if1 .left) free (f .ensures .0) (c .before .found .given .1),
+    let free = unused-kept {s = c .before .before .before .before .before .before .before .before .before .before .before .before .before .before .before .before .before .before .before .args .s} (l .i) (t .ensures .1) (sym (u .ensures) ∙ not-false (u .result) (c .before .before .before .before .before .before .before .before .before .before .before .if2 .left)) in (
+      seek-hit k (c .before .before .before .before .before .before .before .before .before .before .before .before .before .before .before .loop-test .taken) (c .before .before .before .before .before .before .before .before .before .before .before .before .before .before .if1 .left) free (f .ensures .0) (c .before .found .given .1),
       kept-on (k .kept) (f .ensures .1),
     )
 
 enum-told : tie.Need-enum-told Inv-loop μ-loop
 enum-told c = search needs
+
+known-from-requires : tie.Need-known-from-requires Inv-loop μ-loop
+known-from-requires c κs = let l = c .before .before .before .before .before .before .before .before .before .before .before .before .before .before .before .loop in (l .inv .1, omega (arith, l .inv .0 .held .few, c .before .before .before .before .before .before .before .before .before .before .before .before .before .before .loop-test .taken))
 
 sub-left : tie.Need-sub-left Inv-loop μ-loop
 sub-left c = search needs
@@ -98,23 +100,26 @@ loop-less-2 c = search needs
 
 loop-again-2 : tie.Need-loop-again-2 Inv-loop μ-loop
 loop-again-2 c =
-    let e = c .before .before .before .before .before .before .before .before .before .before in
-    let u = e .before .is-unused in
-    let l = e .before .before .before .before .before .loop in
-    let a = e .before .before .before .before .before .before .before .before .args in
-    let t = c .before .before .before .before .before .before .before .before .stays-barren in
-    let f = c .before .before .before .before .try-unless-barren in
+    let u = c .before .before .before .before .before .before .before .before .before .before .before .before .is-unused in
+    let l = c .before .before .before .before .before .before .before .before .before .before .before .before .before .before .before .before .loop in
+    let t = c .before .before .before .before .before .before .before .before .before .check-first in
+    let f = c .before .before .before .before .before .try-unless-barren in
+    let m = c .known-from in
     let k = seek-kept (l .inv .0) (t .last .1 .1 .0) (t .ensures .1) (t .kept .1 .1 .0) in
-    let free = unused-kept {s = a .s} (l .i) (t .ensures .1) (sym (u .ensures) ∙ not-false (u .result) (e .if2 .left)) in (
-      seek-miss k (f .last .1 .1 .0) (e .before .before .before .before .loop-test .taken) (e .before .before .before .if1 .left) free (f .ensures .0) (c .enum-told .given .1) (f .ensures .1) (f .kept .1 .1 .0),
-      barren-next (l .inv .1) (l .inv .0 .kept) (t .ensures .0),
+    let free = unused-kept {s = c .before .before .before .before .before .before .before .before .before .before .before .before .before .before .before .before .before .before .before .args .s} (l .i) (t .ensures .1) (sym (u .ensures) ∙ not-false (u .result) (c .before .before .before .before .before .before .before .before .before .before .before .if2 .left)) in (
+      seek-miss k (f .last .1 .1 .0) (c .before .before .before .before .before .before .before .before .before .before .before .before .before .before .before .loop-test .taken) (c .before .before .before .before .before .before .before .before .before .before .before .before .before .before .if1 .left) free (f .ensures .0) (c .before .enum-told .given .1) (f .ensures .1) (f .kept .1 .1 .0),
+      m .ensures .inside,
+      barren-on {w₀ = c .before .before .before .before .before .before .before .before .before .before .before .before .before .before .before .before .before .before .before .args .w .now} (l .inv .2) (l .inv .0 .kept) (t .ensures .0) (m .ensures),
     )
 
+nothing-found-requires-2 : tie.Need-nothing-found-requires-2 Inv-loop μ-loop
+nothing-found-requires-2 c κs = search needs
+
 same-length-3 : tie.Need-same-length-3 Inv-loop μ-loop
-same-length-3 c = c .before .loop .inv .0 .same
+same-length-3 c = c .before .before .loop .inv .0 .same
 
 returns-3 : tie.Need-returns-3 Inv-loop μ-loop
-returns-3 c = let l = c .before .loop in (sym (ap seedFound (seek-end (l .inv .0) (c .loop-test .left))), l .inv .0 .kept)
+returns-3 c = let l = c .before .before .loop in (c .nothing-found2 .ensures ∙ sym (ap seedFound (seek-end (l .inv .0) (c .before .loop-test .left))), l .inv .0 .kept)
 
 pub find-from-spec : {M : Type 1} → statement M
-find-from-spec = tie.close (tie.spec Inv-loop μ-loop loop-holds same-length returns is-unused-requires add-i loop-less loop-again stays-barren-requires try-unless-barren-requires enum-known-found same-length-2 returns-2 enum-told sub-left add-i-2 loop-less-2 loop-again-2 same-length-3 returns-3)
+find-from-spec = tie.close (tie.spec Inv-loop μ-loop loop-holds nothing-found-requires same-length returns is-unused-requires add-i loop-less loop-again check-first-requires try-unless-barren-requires enum-known-found same-length-2 returns-2 enum-told known-from-requires sub-left add-i-2 loop-less-2 loop-again-2 nothing-found-requires-2 same-length-3 returns-3)
