@@ -5,4 +5,5 @@ pub mod State
 pub mod Points
 pub mod Extents
 pub mod Nothing
+pub mod Measured
 pub mod Threes

@@ -7,7 +7,8 @@ use lib.Ieee.{Float}
 use Rattle.vector.specs.Vector.{Finite}
 use Rattle.points.specs.Points.{pointAt}
 use Rattle.decisions.specs.declared.Scene.{Scene}
-use Rattle.decisions.specs.Decisions.{isClose, completes}
+use Rattle.quality.specs.Shape.{qualityOf}
+use Rattle.decisions.specs.Decisions.{isClose, accepts, completes}
 use Rattle.refusals.specs.declared.Limits.{Limits}
 use Rattle.refusals.specs.Refused.{Limiting}
 
@@ -15,6 +16,11 @@ use Rattle.refusals.specs.Refused.{Limiting}
 pub record Fruitless (s : Scene) (pts : List Float) (r : Float) (i j k : ℕ) : Type 0 where
   pub forward : isClose pts r i j ≡ true → completes s pts r i j k ≡ false
   pub backward : isClose pts r i k ≡ true → completes s pts r i k j ≡ false
+
+-- the settings refuse a triangle with edges of lengths a, b and c, in both orders of the points after the first
+pub record RefusedBoth (s : Scene) (r a b c area : Float) : Type 0 where
+  pub forward : accepts s r (qualityOf a b c area) ≡ false
+  pub backward : accepts s r (qualityOf c b a area) ≡ false
 
 -- coordinates are numbers, and limits are those at a radius
 pub record Judged (s : Scene) (pts : List Float) (r : Float) (l : Limits) : Type 0 where

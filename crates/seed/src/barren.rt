@@ -1,6 +1,7 @@
 // Points no three of which make a seed, whichever of them comes first: each three are looked at once. What that may take is paid from a purse, to which each first point
 // adds what a search in the definition's order takes there; so it never takes much more than that, whatever the cloud. A purse decides nothing but which of two searches
 // with the same answer is made.
+use crate::three;
 use decisions::Scene;
 use refusals::Limits;
 use spatial_hash::Hash;
@@ -17,24 +18,6 @@ ghost use Rattle.seed.specs.Barren.{Barren, BarrenAfter, AllBarren, Barr
 
 // What it takes to measure three points, where it takes 1 to refuse them.
 const MEASURED: usize = 24;
-
-// Whether points j and k make no seed with point i, in either order, both being measured.
-fn are_measured_fruitless(
-    s: Scene,
-    points: &[f32],
-    radius: f32,
-    i: usize,
-    j: usize,
-    k: usize,
-) -> bool
-    requires { ⌜ (length (now points) ≡ 3 * s .n) × (i < s .n) × (j < s .n) × (k < s .n) ⌝ }
-    ensures { λ r. ⌜ (r ≡ true → Fruitless s (now (points .entry)) radius i j k) ⌝ }
-{
-    if decisions::is_completed(s, points, radius, i, j, k) {
-        return false;
-    }
-    !decisions::is_completed(s, points, radius, i, k, j)
-}
 
 // Whether points i, j and k make no seed, whichever of them comes first: 0 if they may, else what it took to tell. Limits are asked first, since they need no root.
 fn price_of(
@@ -55,13 +38,16 @@ fn price_of(
     if refusals::is_refused_throughout(limits, first, second, third) {
         return 1;
     }
-    if !are_measured_fruitless(s, points, radius, i, j, k) {
+    let a = vector::distance(second, first);
+    let b = vector::distance(third, second);
+    let c = vector::distance(first, third);
+    if !three::are_refused(s, radius, a, b, c, triangle::area_of(first, second, third)) {
         return 0;
     }
-    if !are_measured_fruitless(s, points, radius, j, i, k) {
+    if !three::are_refused(s, radius, a, c, b, triangle::area_of(second, first, third)) {
         return 0;
     }
-    if !are_measured_fruitless(s, points, radius, k, i, j) {
+    if !three::are_refused(s, radius, c, a, b, triangle::area_of(third, first, second)) {
         return 0;
     }
     MEASURED

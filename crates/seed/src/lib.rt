@@ -1,6 +1,7 @@
 // The search for a seed triangle.
 mod barren;
 pub mod flat;
+mod three;
 mod triples;
 
 use decisions::Scene;
