@@ -133,6 +133,13 @@ module _ {s : Scene} {hash : Hash} {pts : List Float} (r : Float) {c : Counts} {
           length-same = lays .length-same ∙ only .length-same ∙ same ∙ long;
         }
 
+-- where it is known that there is no seed none is found
+pub known-seedless : {found : Seed} {o : Option (ℕ × ℕ × ℕ)} {i j k : ℕ} → found ≡ seedFound o → o ≡ none → found ≡ Triangle i j k → ⊥
+known-seedless {i = i} {j = j} {k = k} e n f =
+    let g : Triangle i j k ≡ Nothing = sym f ∙ e ∙ ap seedFound n in
+    let z : _≡_ {A = ℕ} 0 1 = cc in
+    omega arith
+
 -- ---- all radii
 layAll-more : {R : Type 0} (rules : Rules R) (order : Pop) (n : ℕ) (rs : List R) (r : R) (t : State) → layAll rules order n (rs ++ (r ∷ [])) t ≡ layOne rules order n r (layAll rules order n rs t)
 unfolding layAll
@@ -169,6 +176,19 @@ module _ {s : Scene} {hash : Hash} {pts radii : List Float} {count : ℕ} {lent 
       state = layAll (rulesOf s pts) heapOf (s .n) (take i radii) (blank (s .n));
       rest = at-rest;
       holds = so-far .holds;
+    }
+
+    no-more : c .frontier ≤ 3 * s .n
+    no-more = omega (arith, so-far .holds .frontier-count, ap length (at-rest .idle))
+
+    -- after a search
+    pub cover-kept : (v : List ℕ) → Kept s w v → length v ≡ length w → Covering s hash pts radii count lent w₀ i c v slice
+    cover-kept v k l = record {
+      inside = so-far .inside;
+      ground = footing-searched v (so-far .ground) k l;
+      holds = holds-beside (beside-search v k l) no-more (so-far .holds);
+      words = l ∙ so-far .words;
+      face-words = so-far .face-words;
     }
 
     pub cover-step : (d : Float) {after : Counts} {v back : List ℕ} → i < count → i < length radii → Lays s hash pts (Rest (s .n)) (layOne (rulesOf s pts) heapOf (s .n) (getD radii i d)) c w slice after v back → length back ≡ length slice

@@ -12,7 +12,8 @@ ghost use Rattle.patch.specs.Lay.{edge, run, layOne, patch};
 ghost use Rattle.patch.specs.Frontier.{heapOf};
 ghost use Rattle.patch.proofs.Inv.{Inv};
 ghost use Rattle.patch.proofs.Laying.{Rest};
-ghost use Rattle.seed.specs.Flat.{Flat};
+ghost use mathlib.Core.Option.{none};
+ghost use Rattle.nearby.specs.Ready.{usedIn};
 ghost use Rattle.frontier.specs.Work.{Holds};
 ghost use Rattle.laying.specs.Laying.{Ground, rulesOf, pivotOver, looked, Lays, Opened, Pivoting, Standing, Resting, Without};
 ghost use Rattle.spatial_hash.specs.Near.{Linked};
@@ -96,6 +97,12 @@ fn remove_three(points: &[f32], w: &mut [u32], n: usize, hash: Hash, i: usize, j
     spatial_hash::remove(points, w, n, hash, k);
 }
 
+// The counts after a radius, and what a search in vain has left to pay with.
+pub struct Laid {
+    pub counts: Counts,
+    pub purse: usize,
+}
+
 // One radius: from its seed, if there is one.
 fn lay_one(
     s: Scene,
@@ -105,21 +112,40 @@ fn lay_one(
     radius: f32,
     before: Counts,
     hash: Hash,
-    flat: bool,
-) -> Counts
-    requires { ⌜ Resting s hash (now points) before (now w) (now faces) × (flat ≡ true → Flat s (now points)) ⌝ }
-    ensures { λ r. ⌜ Lays s hash (now (points .entry)) (Rest (s .n)) (layOne (rulesOf s (now (points .entry))) heapOf (s .n) radius) before (now (w .entry)) (now (faces .entry)) r (now (w .exit)) (now (faces .exit)) ⌝ }
+    known: bool,
+) -> Laid
+    requires { ⌜ Resting s hash (now points) before (now w) (now faces) × (known ≡ true → rulesOf s (now points) .seedOf radius (usedIn s (now w)) ≡ none) ⌝ }
+    ensures { λ r. ⌜ Lays s hash (now (points .entry)) (Rest (s .n)) (layOne (rulesOf s (now (points .entry))) heapOf (s .n) radius) before (now (w .entry)) (now (faces .entry)) (r .counts) (now (w .exit)) (now (faces .exit))
+        × (known ≡ true → usedIn s (now (w .exit)) ≡ usedIn s (now (w .entry))) ⌝ }
 {
     let c = frontier::clear(before);
-    let seed = seed::find_seed_triangle(s, points, w, radius, hash, flat);
+    let search = seed::find_seed_triangle(s, points, w, radius, hash, known);
+    let seed = search.seed;
     match seed {
         Seed::Triangle(i, j, k) => {
             remove_three(points, w, s.n, hash, i, j, k);
             let first = frontier::lay_seed(faces, w, s.n, c, i as u32, j as u32, k as u32);
-            run(s, points, faces, w, radius, first, hash)
+            let last = run(s, points, faces, w, radius, first, hash);
+            Laid {
+                counts: last,
+                purse: 0,
+            }
         }
-        Seed::Nothing => c,
+        Seed::Nothing => Laid {
+            counts: c,
+            purse: search.purse,
+        },
     }
+}
+
+// The last of the first `count` radii, which is the largest.
+fn last_of(radii: [f32; 17], count: usize) -> f32
+    requires { ⌜ count ≤ 17 ⌝ }
+{
+    if count == 0 {
+        return 0.0;
+    }
+    radii[count - 1]
 }
 
 // Lays the patch: the first `count` radii in turn.
@@ -136,10 +162,16 @@ pub fn advanced_ball_pivoting(
     ensures { λ r. ⌜ Holds (s .n) (now (faces .entry)) (patch (rulesOf s (now (points .entry))) heapOf (s .n) (take count radii)) r (now (w .exit)) (now (faces .exit)) ⌝ }
 {
     let flat = seed::flat::is_flat(s, points);
+    let largest = last_of(radii, count);
     let mut c = frontier::begin(w, s.n);
+    let mut upto: f32 = 0.0 / 0.0;
     let mut i: usize = 0;
     while i < count {
-        c = lay_one(s, points, faces, w, radii[i], c, hash, flat);
+        let radius = radii[i];
+        let known = seed::is_known(flat, radius, upto);
+        let laid = lay_one(s, points, faces, w, radius, c, hash, known);
+        c = laid.counts;
+        upto = seed::known_to(s, points, w, radius, largest, hash, known, upto, laid.purse);
         i += 1;
     }
     c

@@ -7,3 +7,4 @@ pub mod Extents
 pub mod Nothing
 pub mod Measured
 pub mod Threes
+pub mod Larger

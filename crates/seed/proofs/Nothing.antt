@@ -56,14 +56,14 @@ module _ {R : Type 0} (floats : Floats R) (r : R) (used : List ℕ) where
       ∙ ap (λ (o : Option (ℕ × ℕ × ℕ)). orElse o (secondOf floats r used i ks js)) (with-nothing i j ks (h j (rw self (omega arith))))
       ∙ second-nothing i ks js (λ m c. h m (omega arith))
 
-  first-nothing : (n : ℕ) → ((i : ℕ) → i < n → withFirst floats r used i ≡ none) → (m i tries : ℕ) → i + m ≤ n → firstOf floats r used (numbers m i) tries ≡ none
+  pub first-nothing : (n : ℕ) → ((i : ℕ) → i < n → unused used i ≡ true → withFirst floats r used i ≡ none) → (m i tries : ℕ) → i + m ≤ n → firstOf floats r used (numbers m i) tries ≡ none
   unfolding numbers
   first-nothing n h zero i tries b = first-end floats r used tries
   first-nothing n h (suc m) i zero b = first-spent floats r used i (numbers m (suc i))
   first-nothing n h (suc m) i (suc tries) b = ⊎-elim
       (λ (t : unused used i ≡ true).
       first-tried floats r used i (numbers m (suc i)) tries t
-      ∙ ap (λ (o : Option (ℕ × ℕ × ℕ)). orElse o (firstOf floats r used (numbers m (suc i)) tries)) (h i (omega arith))
+      ∙ ap (λ (o : Option (ℕ × ℕ × ℕ)). orElse o (firstOf floats r used (numbers m (suc i)) tries)) (h i (omega arith) t)
       ∙ first-nothing n h m (suc i) tries (omega arith))
       (λ (t : unused used i ≡ false). first-used floats r used i (numbers m (suc i)) tries t ∙ first-nothing n h m (suc i) (suc tries) (omega arith))
       (either (unused used i))
@@ -99,7 +99,7 @@ third-parts s pts r used i j k h =
     (b .0, (c .0, c .1))
 
 pub hopeless-nothing : (s : Scene) (pts : List Float) (r : Float) (used : List ℕ) (tries : ℕ) → ((k : ℕ) → k < s .n → Finite (pointAt pts k)) → Hopeless s r → firstOf (floatsOf s pts) r used (numbers (s .n) 0) tries ≡ none
-hopeless-nothing s pts r used tries numbers h = first-nothing (floatsOf s pts) r used (s .n) (λ i hi. first-around s pts r used i (none-of i hi)) (s .n) 0 tries (omega arith)
+hopeless-nothing s pts r used tries numbers h = first-nothing (floatsOf s pts) r used (s .n) (λ i hi _. first-around s pts r used i (none-of i hi)) (s .n) 0 tries (omega arith)
   where
     none-of : (i : ℕ) → i < s .n → (j : ℕ) → j < s .n → isSecond (floatsOf s pts) r used i j ≡ true → (k : ℕ) → k < s .n → isThird (floatsOf s pts) r used i j k ≡ false
     none-of i hi j hj second k hk = not-true (λ third.
@@ -109,7 +109,7 @@ hopeless-nothing s pts r used tries numbers h = first-nothing (floatsOf s pts) r
 -- ---- a cloud that is flat
 
 pub flat-nothing : (s : Scene) (pts : List Float) (r : Float) (used : List ℕ) (tries : ℕ) → Flat s pts → firstOf (floatsOf s pts) r used (numbers (s .n) 0) tries ≡ none
-flat-nothing s pts r used tries h = first-nothing (floatsOf s pts) r used (s .n) (λ i hi. first-around s pts r used i (λ j hj _ k hk. third-refused s pts r used i j k (h r i j k hi hj hk))) (s .n) 0 tries (omega arith)
+flat-nothing s pts r used tries h = first-nothing (floatsOf s pts) r used (s .n) (λ i hi _. first-around s pts r used i (λ j hj _ k hk. third-refused s pts r used i j k (h r i j k hi hj hk))) (s .n) 0 tries (omega arith)
 
 -- ---- points no two of which make a seed
 

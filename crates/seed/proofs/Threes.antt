@@ -23,16 +23,17 @@ use Rattle.decisions.specs.Decisions.{reach, apart, isClose, completes, floatsO
 use Rattle.refusals.specs.declared.Limits.{Limits}
 use Rattle.refusals.specs.Refused.{RefusedThroughout, distant, each}
 use Rattle.refusals.proofs.Refusals.{far-apart}
-use Rattle.nearby.specs.Ready.{Listed, Kept, usedIn, listed}
+use Rattle.spatial_hash.specs.Near.{Hashed}
+use Rattle.nearby.specs.Ready.{Held, Listed, Kept, usedIn, listed}
 use Rattle.nearby.specs.Narrow.{inReach}
 use Rattle.sifting.specs.Sift.{isWithin}
 use Rattle.sifting.proofs.Parts.{drop-more, word-same}
-use Rattle.nearby.proofs.Keeping.{kept-self, kept-on}
+use Rattle.nearby.proofs.Keeping.{kept-self, kept-on, held-kept, hashed-search}
 use Rattle.sifting.proofs.Only.{and-false}
 use Rattle.nearby.proofs.Narrowing.{out-of-reach, in-reach}
 use Rattle.seed.specs.Found.{withFirst}
 use Rattle.seed.specs.Judged.{Fruitless, Judged}
-use Rattle.seed.specs.Barren.{Barren, AllBarren, isOther, isLeft, BarrenFrom, Stands, Left, AllLeftBarren, KnownFrom}
+use Rattle.seed.specs.Barren.{Barren, AllBarren, isOther, isLeft, BarrenFrom, BarrenBetween, Stands, Left, AllLeftBarren, KnownFrom}
 use Rattle.seed.proofs.LeftOut.{close-far}
 use Rattle.seed.proofs.State.{Seeking}
 use Rattle.seed.proofs.Points.{below-next}
@@ -251,10 +252,6 @@ other-or lo i k d = ⊎-elim
 
 -- ---- what is known while no three points that were met make a seed
 
--- it holds of each unused point from lo on and below i
-abbrev pub BarrenBetween : Scene → List Float → Float → List ℕ → ℕ → ℕ → Type 0
-BarrenBetween s pts r used lo i = (a : ℕ) → a < i → lo ≤ a → unused used a ≡ true → BarrenFrom s pts r used lo a
-
 module _ {s : Scene} {pts : List Float} {r : Float} {lo i : ℕ} where
   pub barren-used : (used : List ℕ) → BarrenBetween s pts r used lo i → unused used i ≡ false → BarrenBetween s pts r used lo (i + 1)
   barren-used used b h = below-next b (λ _ u. absurd (true-not-false u h))
@@ -305,3 +302,28 @@ pub seek-barren : {s : Scene} {pts : List Float} {r : Float} {hash : Hash} {w₀
     → withFirst (floatsOf s pts) r (usedIn s v) i ≡ none
 seek-barren {s} {pts} {r} {w₀ = w₀} {i = i} k hi hl u b =
     ap (λ (l : List ℕ). withFirst (floatsOf s pts) r (take (s .n) l) i) (k .kept .after) ∙ barren-nothing (usedIn s w₀) (unused-back {s = s} i (k .kept) u) hi hl b
+
+-- ---- the loop of `is_exhausted`: the points below i make no seed with any others
+
+pub record Exhausting (s : Scene) (pts : List Float) (r : Float) (hash : Hash) (w₀ w : List ℕ) (i : ℕ) : Type 0 where
+  pub held : Held s pts w
+  pub hashed : Hashed hash pts (s .n) w
+  pub kept : Kept s w₀ w
+  pub same : length w ≡ length w₀
+  pub inside : i ≤ s .n
+  pub known : BarrenBetween s pts r (usedIn s w₀) 0 i
+
+module _ {s : Scene} {pts : List Float} {r : Float} {hash : Hash} {w₀ : List ℕ} where
+  pub exhaust-start : Held s pts w₀ → Hashed hash pts (s .n) w₀ → Exhausting s pts r hash w₀ w₀ 0
+  exhaust-start h d = record { held = h; hashed = d; kept = kept-self s w₀; same = refl; inside = omega arith; known = λ x l. absurd (omega arith) }
+
+  pub exhaust-step : {w : List ℕ} {i : ℕ} (v : List ℕ) → Exhausting s pts r hash w₀ w i → i < s .n → Kept s w v → length v ≡ length w → (unused (usedIn s w) i ≡ true → BarrenFrom s pts r (usedIn s w) 0 i)
+      → Exhausting s pts r hash w₀ v (i + 1)
+  exhaust-step {w} {i} v k h kv l f = record {
+    held = held-kept v (k .held) l;
+    hashed = hashed-search {s = s} v (k .hashed) l kv;
+    kept = kept-on (k .kept) kv;
+    same = l ∙ k .same;
+    inside = omega arith;
+    known = below-next (k .known) (λ _ u. subst (λ (z : List ℕ). BarrenFrom s pts r (take (s .n) z) 0 i) (k .kept .after) (f (unused-kept {s = s} i (k .kept) u)));
+  }

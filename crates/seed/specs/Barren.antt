@@ -39,6 +39,10 @@ isLeft s lo i w k = isOther lo i k && unused (usedIn s w) k
 abbrev pub BarrenFrom : Scene → List Float → Float → List ℕ → ℕ → ℕ → Type 0
 BarrenFrom s pts r used lo i = (j k : ℕ) → j < s .n → k < s .n → isOther lo i j ≡ true → isOther lo i k ≡ true → j ≢ k → unused used j ≡ true → unused used k ≡ true → Barren s pts r i j k
 
+-- that holds of each unused point from lo on and below i
+abbrev pub BarrenBetween : Scene → List Float → Float → List ℕ → ℕ → ℕ → Type 0
+BarrenBetween s pts r used lo i = (a : ℕ) → a < i → lo ≤ a → unused used a ≡ true → BarrenFrom s pts r used lo a
+
 -- k is one of the listed points
 abbrev pub Stands : Scene → List ℕ → ℕ → ℕ → Type 0
 Stands s w count k = (m : ℕ) × ((m < count) × (getD w (neighborsAt (s .n) + m) 0 ≡ k))

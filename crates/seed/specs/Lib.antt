@@ -3,3 +3,4 @@ pub mod Found
 pub mod Judged
 pub mod Barren
 pub mod Flat
+pub mod Known

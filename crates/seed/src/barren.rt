@@ -9,12 +9,13 @@ ghost use mathlib.Core.Path.{_≡_};
 ghost use mathlib.Core.Bool.{true};
 ghost use Prim.Native.Nat.{_*_, _≤_, _<_, _+_};
 ghost use lib.ListN.{length};
+ghost use Rattle.patch.specs.Search.{unused};
 ghost use Rattle.regions.specs.Regions.{neighborsAt};
 ghost use Rattle.spatial_hash.specs.Near.{Hashed};
 ghost use Rattle.refusals.specs.Refused.{Limiting};
 ghost use Rattle.nearby.specs.Ready.{Held, Listed, Kept, usedIn};
 ghost use Rattle.seed.specs.Judged.{Fruitless, Judged};
-ghost use Rattle.seed.specs.Barren.{Barren, BarrenAfter, AllBarren, BarrenFrom, isOther, isLeft, Left, AllLeftBarren};
+ghost use Rattle.seed.specs.Barren.{Barren, BarrenAfter, AllBarren, BarrenFrom, BarrenBetween, isOther, isLeft, Left, AllLeftBarren};
 
 // What it takes to measure three points, where it takes 1 to refuse them.
 const MEASURED: usize = 24;
@@ -273,4 +274,75 @@ pub fn check_first(
         barren: true,
         purse: added(left, work),
     }
+}
+
+// What is left of a purse once it is told that no two unused points after point i make a seed with it, if it is unused; 0 if that was not told.
+fn pay_unused(
+    s: Scene,
+    points: &[f32],
+    w: &mut [u32],
+    radius: f32,
+    i: usize,
+    hash: Hash,
+    limits: Limits,
+    purse: usize,
+) -> usize
+    requires { ⌜ Held s (now points) (now w) × Hashed hash (now points) (s .n) (now w) × (i < s .n) × Limiting s radius limits ⌝ }
+    ensures { λ r. ⌜ (0 < r → unused (usedIn s (now (w .entry))) i ≡ true → BarrenFrom s (now (points .entry)) radius (usedIn s (now (w .entry))) 0 i) × Kept s (now (w .entry)) (now (w .exit)) ⌝ }
+{
+    if !nearby::is_unused(s, w, i) {
+        return purse;
+    }
+    let place = points::point_at(points, i);
+    let found = spatial_hash::gather_within(
+        points,
+        w,
+        s.n,
+        hash,
+        place,
+        radius * 2.002,
+        limits.far,
+    );
+    pay_found(s, points, w, found, radius, 0, i, limits, purse)
+}
+
+// Whether what is left after a point will do for so many more, each of which costs less than the one before; if nothing is left it won't.
+fn is_enough(before: usize, left: usize, more: usize) -> bool
+    requires { ⌜ more ≤ 4096 ⌝ }
+    ensures { λ r. ⌜ (r ≡ true → 0 < left) ⌝ }
+{
+    if left == 0 {
+        return false;
+    }
+    if before <= left {
+        return true;
+    }
+    before - left <= left / (more / 4 + 1)
+}
+
+// Whether no three unused points make a seed at a radius, whichever of them comes first, if that is paid for.
+pub fn is_exhausted(
+    s: Scene,
+    points: &[f32],
+    w: &mut [u32],
+    radius: f32,
+    hash: Hash,
+    limits: Limits,
+    purse: usize,
+) -> bool
+    requires { ⌜ Held s (now points) (now w) × Hashed hash (now points) (s .n) (now w) × Limiting s radius limits ⌝ }
+    ensures { λ r. ⌜ (r ≡ true → BarrenBetween s (now (points .entry)) radius (usedIn s (now (w .entry))) 0 (s .n)) × Kept s (now (w .entry)) (now (w .exit)) ⌝ }
+{
+    let n = s.n;
+    let mut left = purse;
+    let mut i: usize = 0;
+    while i < n {
+        let rest = pay_unused(s, points, w, radius, i, hash, limits, left);
+        if !is_enough(left, rest, n - i) {
+            return false;
+        }
+        left = rest;
+        i += 1;
+    }
+    true
 }

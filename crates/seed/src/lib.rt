@@ -13,7 +13,9 @@ ghost use Rattle.spatial_hash.specs.Near.{Hashed};
 ghost use Rattle.patch.specs.Search.{searching};
 ghost use Rattle.decisions.specs.Decisions.{floatsOf};
 ghost use Rattle.nearby.specs.Ready.{Held, usedIn, Kept};
-ghost use Rattle.seed.specs.Flat.{Flat};
+ghost use mathlib.Core.Option.{none};
+ghost use Rattle.seed.specs.Known.{Known, Number, Growing, NothingTo};
+ghost use Rattle.seed.specs.declared.Seed.the-variants.{Nothing};
 ghost use Rattle.seed.specs.Found.{seedFound};
 
 pub enum Seed {
@@ -21,25 +23,117 @@ pub enum Seed {
     Nothing,
 }
 
-// The first triangle of unused points at a radius that is acceptable, in the order of their numbers and neighbours. A flat cloud has none.
+// What is found, and what is left to pay with.
+pub struct Search {
+    pub seed: Seed,
+    pub purse: usize,
+}
+
+// The first triangle of unused points at a radius that is acceptable, in the order of their numbers and neighbours. It may be known that there is none.
 pub fn find_seed_triangle(
     s: Scene,
     points: &[f32],
     w: &mut [u32],
     radius: f32,
     hash: Hash,
-    flat: bool,
-) -> Seed
-    requires { ⌜ Held s (now points) (now w) × Indexed (s .grid) (now points) (s .n) (now w) × Hashed hash (now points) (s .n) (now w) × (flat ≡ true → Flat s (now points)) ⌝ }
-    ensures { λ r. ⌜ (r ≡ seedFound (searching (floatsOf s (now (points .entry))) (s .n) .seedOf radius (usedIn s (now (w .entry))))) × Kept s (now (w .entry)) (now (w .exit)) ⌝ }
+    known: bool,
+) -> Search
+    requires { ⌜ Held s (now points) (now w) × Indexed (s .grid) (now points) (s .n) (now w) × Hashed hash (now points) (s .n) (now w)
+        × (known ≡ true → searching (floatsOf s (now points)) (s .n) .seedOf radius (usedIn s (now w)) ≡ none) ⌝ }
+    ensures { λ r. ⌜ (r .seed ≡ seedFound (searching (floatsOf s (now (points .entry))) (s .n) .seedOf radius (usedIn s (now (w .entry))))) × Kept s (now (w .entry)) (now (w .exit)) ⌝ }
 {
-    if flat {
-        return Seed::Nothing;
+    if known {
+        return nothing_found(0);
     }
     if refusals::is_hopeless(s, radius) {
-        return Seed::Nothing;
+        return nothing_found(0);
     }
     let limits = refusals::limits_of(s, radius);
-    let search = triples::find_from(s, points, w, radius, hash, limits);
-    search.seed
+    triples::find_from(s, points, w, radius, hash, limits)
+}
+
+// Whether a radius is known to have no seed: in a flat cloud each, else each up to another one.
+pub fn is_known(flat: bool, radius: f32, upto: f32) -> bool
+    ensures { λ r. ⌜ (r ≡ true → Known flat radius upto) ⌝ }
+{
+    if flat {
+        return true;
+    }
+    if radius <= upto {
+        return 0.0 <= radius;
+    }
+    false
+}
+
+// Whether a number is neither below 0 nor beyond all measure.
+fn is_number(x: f32) -> bool
+    ensures { λ r. ⌜ (r ≡ true → Number x) ⌝ }
+{
+    if 0.0 <= x {
+        return x <= 1e30;
+    }
+    false
+}
+
+// Whether what is accepted at a smaller radius is accepted at this one.
+fn is_growing(s: Scene, radius: f32) -> bool
+    ensures { λ r. ⌜ (r ≡ true → Growing s radius) ⌝ }
+{
+    if !is_number(s.max_edge_factor) {
+        return false;
+    }
+    is_number(radius)
+}
+
+// The radius, if it is known that no radius up to it has a seed, as far as that is paid for; else not a number.
+fn ask_at(s: Scene, points: &[f32], w: &mut [u32], radius: f32, hash: Hash, purse: usize) -> f32
+    requires { ⌜ Held s (now points) (now w) × Hashed hash (now points) (s .n) (now w) ⌝ }
+    ensures { λ r. ⌜ NothingTo s (now (points .entry)) (usedIn s (now (w .entry))) r × Kept s (now (w .entry)) (now (w .exit)) ⌝ }
+{
+    if !is_growing(s, radius) {
+        return 0.0 / 0.0;
+    }
+    let limits = refusals::limits_of(s, radius);
+    if barren::is_exhausted(s, points, w, radius, hash, limits, purse) {
+        return radius;
+    }
+    0.0 / 0.0
+}
+
+// A radius up to which none has a seed, after one that was known or searched; not a number where none is known. After a search in vain the largest radius is asked, with what
+// that search has left to pay with: what is accepted at a radius is accepted at every larger one.
+pub fn known_to(
+    s: Scene,
+    points: &[f32],
+    w: &mut [u32],
+    radius: f32,
+    largest: f32,
+    hash: Hash,
+    known: bool,
+    upto: f32,
+    purse: usize,
+) -> f32
+    requires { ⌜ Held s (now points) (now w) × Hashed hash (now points) (s .n) (now w) × (known ≡ true → NothingTo s (now points) (usedIn s (now w)) upto) ⌝ }
+    ensures { λ r. ⌜ NothingTo s (now (points .entry)) (usedIn s (now (w .entry))) r × Kept s (now (w .entry)) (now (w .exit)) ⌝ }
+{
+    if known {
+        return upto;
+    }
+    if purse == 0 {
+        return 0.0 / 0.0;
+    }
+    if radius < largest {
+        return ask_at(s, points, w, largest, hash, purse);
+    }
+    0.0 / 0.0
+}
+
+// Nothing, with so much left.
+fn nothing_found(purse: usize) -> Search
+    ensures { λ r. ⌜ r .seed ≡ Nothing ⌝ }
+{
+    Search {
+        seed: Seed::Nothing,
+        purse: purse,
+    }
 }

@@ -1,4 +1,5 @@
 // The search for a seed: three loops, over i, j and k.
+use crate::Search;
 use crate::Seed;
 use decisions::Scene;
 use refusals::Limits;
@@ -16,7 +17,6 @@ ghost use Rattle.nearby.specs.Ready.{Held, Listed, usedIn, listed, Kept};
 ghost use Rattle.seed.specs.Found.{seedFound, withSecond, withFirst};
 ghost use Rattle.seed.specs.Judged.{Judged};
 ghost use Rattle.seed.specs.Barren.{KnownFrom};
-ghost use Rattle.seed.specs.declared.Seed.the-variants.{Nothing};
 
 // Whether j may be the second point after i.
 fn is_second(s: Scene, points: &[f32], w: &[u32], radius: f32, i: usize, j: usize) -> bool
@@ -187,12 +187,6 @@ fn known_from(lo: usize, i: usize, barren: bool) -> usize
     i + 1
 }
 
-// The seed, and what is left to pay with.
-pub struct Search {
-    pub seed: Seed,
-    pub purse: usize,
-}
-
 // The first seed; only the first 1,000 unused points are tried as i. No three points make a seed of which one is from lo to i, whichever comes first.
 pub fn find_from(
     s: Scene,
@@ -212,7 +206,7 @@ pub fn find_from(
     let mut i: usize = 0;
     while i < n {
         if left == 0 {
-            return nothing_found(purse);
+            return crate::nothing_found(purse);
         }
         if !nearby::is_unused(s, w, i) {
             i += 1;
@@ -231,14 +225,5 @@ pub fn find_from(
         left -= 1;
         i += 1;
     }
-    nothing_found(purse)
-}
-
-fn nothing_found(purse: usize) -> Search
-    ensures { λ r. ⌜ r .seed ≡ Nothing ⌝ }
-{
-    Search {
-        seed: Seed::Nothing,
-        purse: purse,
-    }
+    crate::nothing_found(purse)
 }

@@ -1,94 +1,82 @@
--- `laying::advanced_ball_pivoting` meets its contract. Assumes nothing.
-use Prim.Native.Nat.{_-_}
-use mathlib.Core.Path.{_∙_}
+-- `laying::advanced_ball_pivoting` meets its contract. The loop's invariant: the first i radii have been laid, and no radius up to `upto` has a seed. Assumes nothing.
+use Prim.Native.Nat.{ℕ, _-_}
+use mathlib.Core.Path.{sym, ap, _∙_, subst}
+use mathlib.Core.List.{List}
 use native.Mathlib.Omega.{arith}
-use Rattle.laying.proofs.Radii.{Covering, cover-start, resting, cover-step, cover-end}
+use lib.ListN.{take}
+use Rattle.nearby.specs.Ready.{usedIn}
+use Rattle.seed.specs.Known.{NothingTo}
+use Rattle.seed.proofs.Larger.{nothing-yet, known-nothing}
+use Rattle.laying.proofs.Radii.{Covering, cover-start, resting, cover-step, cover-kept, cover-end}
+use borrow.Author.Needs.{needs}
 use Rattle.laying.proofs.advanced_ball_pivoting.Statement.{statement}
 use Rattle.laying.proofs.advanced_ball_pivoting.Tie as tie
 
 abbrev Inv-loop : tie.InvT-loop
-Inv-loop s points count faces₀ w₀ hash radii flat c₀ i₀ faces w c i = Covering s hash points radii count faces₀ w₀ i c w faces
+Inv-loop s points count faces₀ w₀ hash radii flat largest c₀ upto₀ i₀ faces w c upto i = Covering s hash points radii count faces₀ w₀ i c w faces × NothingTo s points (usedIn s w) upto
 
 abbrev μ-loop : tie.MeasureT-loop
-μ-loop s points count faces₀ w₀ hash radii flat c₀ i₀ faces w c i = count - i
+μ-loop s points count faces₀ w₀ hash radii flat largest c₀ upto₀ i₀ faces w c upto i = count - i
 
 is-flat-requires : tie.Need-is-flat-requires Inv-loop μ-loop
-is-flat-requires c κs =
-    let g = c .before .before .before .pre .0 in
-    (g .some, g .held .few, g .held .points-long, g .hashed .linked .ready .numbers)
+is-flat-requires c κs = let g = c .before .before .before .pre .0 in (g .some, g .held .few, g .held .points-long, g .hashed .linked .ready .numbers)
+
+last-of-requires : tie.Need-last-of-requires Inv-loop μ-loop
+last-of-requires c κs = c .before .before .before .before .pre .1
 
 begin-requires : tie.Need-begin-requires Inv-loop μ-loop
-begin-requires c κs = let g = c .before .before .before .before .before .pre .0 in record { some = g .some; few = g .held .few; long = g .held .work-long }
+begin-requires c κs = let g = c .before .before .before .before .before .before .pre .0 in record { some = g .some; few = g .held .few; long = g .held .work-long }
 
 loop-holds : tie.Need-loop-holds Inv-loop μ-loop
-loop-holds c =
-    let b = c .before .before in
-    let s = b .before .before .before .before .before .before in
-    cover-start (s .pre .0) (b .begin .ensures .0) (b .begin .ensures .1)
+loop-holds c = let a = c .before .before .before .before .before .before .before .before .before .args in (cover-start (c .before .before .before .before .before .before .before .before .before .pre .0) (c .before .before .begin .ensures .0) (c .before .before .begin .ensures .1), nothing-yet (a .s) (a .points .now) (usedIn (a .s) (c .before .before .begin .last .0)))
 
-mul-lay-one : tie.Need-mul-lay-one Inv-loop μ-loop
-mul-lay-one c =
-    let l = c .before .before .before in
-    let s = l .before .before .before .before .before .before .before .before .before in
-    omega (arith, c .before .before .loop-test .taken, s .pre .1)
+mul-radius : tie.Need-mul-radius Inv-loop μ-loop
+mul-radius c = omega (arith, c .loop-test .taken, c .before .before .before .before .before .before .before .before .before .before .before .pre .1)
 
-array-read-lay-one : tie.Need-array-read-lay-one Inv-loop μ-loop
-array-read-lay-one c =
-    let l = c .before .before .before in
-    let s = l .before .before .before .before .before .before .before .before .before in
-    omega (arith, c .before .before .loop-test .taken, s .pre .1)
+array-read-radius : tie.Need-array-read-radius Inv-loop μ-loop
+array-read-radius c = omega (arith, c .loop-test .taken, c .before .before .before .before .before .before .before .before .before .before .before .pre .1)
+
+is-known-requires : tie.Need-is-known-requires Inv-loop μ-loop
+is-known-requires c κs = search needs
 
 lay-one-requires : tie.Need-lay-one-requires Inv-loop μ-loop
 lay-one-requires c κs =
-    let l = c .before .before .before in
-    (resting (l .loop .inv), l .before .before .before .before .before .is-flat .ensures)
+    let a = c .before .before .before .before .before .before .before .before .before .before .before .before .before .before .args in
+    let l = c .before .before .before .before .loop in
+    (resting (l .inv .0), λ h. known-nothing (a .s) (a .points .now) (usedIn (a .s) (l .w)) (c .before .before .is-known .ensures h) (c .before .before .before .before .before .before .before .before .before .before .is-flat .ensures) (l .inv .1))
+
+known-to-requires : tie.Need-known-to-requires Inv-loop μ-loop
+known-to-requires c κs =
+    let a = c .before .before .before .before .before .before .before .before .before .before .before .before .before .before .before .before .before .before .before .before .before .args in
+    let l = c .before .before .before .before .before .before .before .before .before .before .before .loop in
+    let o = c .before .before .before .before .before .before .lay-one in
+    (o .ensures .0 .ground .held, o .ensures .0 .ground .hashed, λ h. subst (λ (u : List ℕ). NothingTo (a .s) (a .points .now) u (l .upto)) (sym (o .ensures .1 h)) (l .inv .1))
 
 add-i : tie.Need-add-i Inv-loop μ-loop
-add-i c =
-    let t = c .before .before .before .before .before .before .before in
-    let s = t .before .before .before .before .before .before .before .before .before .before in
-    omega (arith, t .loop-test .taken, s .pre .1)
+add-i c = omega (arith, c .before .before .before .before .before .before .before .before .before .before .before .before .before .loop-test .taken, c .before .before .before .before .before .before .before .before .before .before .before .before .before .before .before .before .before .before .before .before .before .before .before .before .pre .1)
 
 loop-less : tie.Need-loop-less Inv-loop μ-loop
-loop-less c = let t = c .before .before .before .before .before .before .before in omega (arith, t .loop-test .taken)
+loop-less c = omega (arith, c .before .before .before .before .before .before .before .before .before .before .before .before .before .loop-test .taken)
 
 loop-again : tie.Need-loop-again Inv-loop μ-loop
 loop-again c =
-    let o = c .before .before .before .before in
-    let t = o .before .before .before in
-    let l = t .before in
-    let b = l .before .before .before in
-    let s = b .before .before .before .before .before .before in
-    cover-step (l .loop .inv) _ (t .loop-test .taken) (omega (arith, s .good .1 .1 .0 .1 .0 .1, t .loop-test .taken, s .pre .1)) (o .lay-one .ensures) (o .lay-one .kept .1 .1 .0)
+    let a = c .before .before .before .before .before .before .before .before .before .before .before .before .before .before .before .before .before .before .before .before .before .before .before .before .args in
+    let l = c .before .before .before .before .before .before .before .before .before .before .before .before .before .before .loop in
+    let o = c .before .before .before .before .before .before .before .before .before .lay-one in
+    let k = c .before .before .known-to in
+    let on = cover-step (l .inv .0) _ (c .before .before .before .before .before .before .before .before .before .before .before .before .before .loop-test .taken) (omega (arith, c .before .before .before .before .before .before .before .before .before .before .before .before .before .before .before .before .before .before .before .before .before .before .before .before .good .1 .1 .0 .1 .0 .1, c .before .before .before .before .before .before .before .before .before .before .before .before .before .loop-test .taken, c .before .before .before .before .before .before .before .before .before .before .before .before .before .before .before .before .before .before .before .before .before .before .before .before .pre .1)) (o .ensures .0) (o .kept .1 .1 .0) in (
+      cover-kept on (k .last .1 .1 .0) (k .ensures .1) (k .kept .1 .1 .0),
+      subst (λ (u : List ℕ). NothingTo (a .s) (a .points .now) u (k .result)) (sym (ap (take (a .s .n)) (k .ensures .1 .after))) (k .ensures .0),
+    )
 
 same-length : tie.Need-same-length Inv-loop μ-loop
-same-length c = c .before .loop .inv .face-words
+same-length c = c .before .loop .inv .0 .face-words
 
 same-length-2 : tie.Need-same-length-2 Inv-loop μ-loop
-same-length-2 c = c .before .loop .inv .words ∙ c .before .before .before .before .begin .kept .0
+same-length-2 c = c .before .loop .inv .0 .words ∙ c .before .before .before .before .begin .kept .0
 
 returns : tie.Need-returns Inv-loop μ-loop
-returns c =
-    let l = c .before in
-    let b = l .before .before .before in
-    let s = b .before .before .before .before .before .before in
-    cover-end (l .loop .inv) (c .loop-test .left)
+returns c = cover-end (c .before .loop .inv .0) (c .loop-test .left)
 
 pub advanced-ball-pivoting-spec : {M : Type 1} → statement M
-advanced-ball-pivoting-spec =
-    tie.close
-    (tie.spec
-    Inv-loop
-    μ-loop
-    is-flat-requires
-    begin-requires
-    loop-holds
-    mul-lay-one
-    array-read-lay-one
-    lay-one-requires
-    add-i
-    loop-less
-    loop-again
-    same-length
-    same-length-2
-    returns)
+advanced-ball-pivoting-spec = tie.close (tie.spec Inv-loop μ-loop is-flat-requires last-of-requires begin-requires loop-holds mul-radius array-read-radius is-known-requires lay-one-requires known-to-requires add-i loop-less loop-again same-length same-length-2 returns)

@@ -7,7 +7,8 @@ use Rattle.nearby.specs.Ready.{usedIn}
 use Rattle.nearby.proofs.Keeping.{kept-on}
 use Rattle.seed.specs.Found.{seedFound}
 use Rattle.seed.proofs.State.{Seeking, seek-start, seek-end, seek-spent, seek-used, seek-kept, seek-hit, seek-miss}
-use Rattle.seed.proofs.Threes.{BarrenBetween, barren-used, barren-next, barren-on, unused-kept, unused-back, seek-barren}
+use Rattle.seed.specs.Barren.{BarrenBetween}
+use Rattle.seed.proofs.Threes.{barren-used, barren-next, barren-on, unused-kept, unused-back, seek-barren}
 use borrow.Author.Needs.{needs}
 use Rattle.seed.proofs.triples.find_from.Statement.{statement}
 use Rattle.seed.proofs.triples.find_from.Tie as tie

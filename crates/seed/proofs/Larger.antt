@@ -1,0 +1,120 @@
+-- What is accepted at a radius is accepted at every larger one: where no three points make a seed at a radius, none is found at any smaller one (`larger-nothing`). Assumes nothing.
+use Prim.Native.Nat.{ℕ}
+use mathlib.Core.Path.{_≡_, sym, ap, subst}
+use mathlib.Core.Bool.{Bool, true, false, cond, not}
+use mathlib.Core.List.{List}
+use mathlib.Core.Option.{none}
+use native.Mathlib.Omega.{arith}
+use lib.Dec.{T}
+use lib.Ieee.{Float, nan, inf, fin, binary32, lt, le, eq, isNan, ofBits, mul, div}
+use lib.Ieee.Bits.{is-true}
+use lib.Ieee.Scale.{finite}
+use Rattle.numbers.specs.Rounded.{f32, _⊗_}
+use Rattle.numbers.specs.Root.{root}
+use Rattle.numbers.proofs.OrderLaws.{le-left, le-right, le-lt-trans}
+use Rattle.numbers.proofs.ProductOrder.{mul-monotone, mul-monotone-finite, mul-number}
+use Rattle.quality.specs.declared.TriangleQuality.{TriangleQuality}
+use Rattle.triangle.specs.Quality.{acceptable}
+use Rattle.patch.specs.Search.{searching}
+use Rattle.patch.proofs.Counts.{not-true, true-not-false, and-both}
+use Rattle.decisions.specs.declared.Scene.{Scene}
+use Rattle.decisions.specs.Decisions.{reach, apart, isClose, accepts, qualityAt, completes, floatsOf}
+use Rattle.seed.specs.Judged.{Fruitless}
+use Rattle.seed.specs.Flat.{Flat}
+use Rattle.seed.specs.Barren.{Barren, BarrenBetween}
+use Rattle.seed.specs.Known.{Growing, NothingTo, Known, flat-cloud, up-to}
+use Rattle.seed.proofs.Nothing.{first-nothing, flat-nothing}
+use Rattle.seed.proofs.Threes.{barren-nothing}
+
+-- ---- twice the radius
+double-number : (x : Float) → T (not (isNan x)) → T (not (isNan (reach x)))
+unfolding isNan mul ofBits
+double-number nan h = absurd h
+double-number (inf s) h = tt
+double-number (fin s m e) h = mul-number (fin s m e) (f32 0x40000000) tt tt
+
+two-finite : T (finite (f32 0x40000000))
+unfolding ofBits
+two-finite = tt
+
+two-above : T (le (f32 0) (f32 0x40000000))
+unfolding le lt eq ofBits
+two-above = tt
+
+double-monotone : (x y : Float) → T (le x y) → T (le (reach x) (reach y))
+double-monotone x y h = mul-monotone x y (f32 0x40000000) two-finite h two-above (double-number x (le-left x y h)) (double-number y (le-right x y h))
+
+-- what is not below the lesser is not below the greater
+not-below : (x y v : Float) → T (le x y) → not (lt x v) ≡ true → not (lt y v) ≡ true
+not-below x y v h t = ap not (not-true (λ (l : lt y v ≡ true).
+    let d = le-lt-trans x y v h (subst T (sym l) tt) in
+    subst T (ap not (is-true (lt x v) d)) (subst T (sym t) tt)))
+
+-- ---- from a radius r to one that is not smaller
+module _ (s : Scene) (pts : List Float) (r t : Float) (h : T (le r t)) where
+  close-more : (i j : ℕ) → isClose pts r i j ≡ true → isClose pts t i j ≡ true
+  unfolding isClose
+  close-more i j = not-below (reach r) (reach t) (apart pts i j) (double-monotone r t h)
+
+  module _ (fr : T (finite r)) (ft : T (finite t)) (ff : T (finite (s .«max_edge_factor»))) (zf : T (le (f32 0) (s .«max_edge_factor»))) where
+    accepts-more : (q : TriangleQuality) → accepts s r q ≡ true → accepts s t q ≡ true
+    unfolding accepts acceptable
+    accepts-more q = both (lt (q .area) (s .«min_triangle_area»)) (lt (q .«quality_score») (s .«quality_threshold»)) (not-below (r ⊗ s .«max_edge_factor») (t ⊗ s .«max_edge_factor») (q .«edge_ratio» ⊗ root (q .area)) (mul-monotone-finite r t (s .«max_edge_factor») fr ft ff h zf))
+      where
+        both : {x y : Bool} (a b : Bool) → (x ≡ true → y ≡ true) → cond a false (cond b false x) ≡ true → cond a false (cond b false y) ≡ true
+        both true b f k = k
+        both false true f k = k
+        both false false f k = f k
+
+    completes-more : (i j k : ℕ) → completes s pts r i j k ≡ true → completes s pts t i j k ≡ true
+    unfolding completes
+    completes-more i j k c =
+        let a = and-both {p = isClose pts r i k} c in
+        let b = and-both {p = isClose pts r j k} (a .1) in
+        rw (close-more i k (a .0), close-more j k (b .0)) (accepts-more (qualityAt pts i j k) (b .1))
+
+    fruitless-less : {i j k : ℕ} → Fruitless s pts t i j k → Fruitless s pts r i j k
+    fruitless-less {i} {j} {k} f = record {
+      forward = λ d. not-true (λ c. true-not-false (completes-more i j k c) (f .forward (close-more i j d)));
+      backward = λ d. not-true (λ c. true-not-false (completes-more i k j c) (f .backward (close-more i k d)));
+    }
+
+    barren-less : {i j k : ℕ} → Barren s pts t i j k → Barren s pts r i j k
+    barren-less b = record { first = fruitless-less (b .first); second = fruitless-less (b .second); third = fruitless-less (b .third) }
+
+    between-less : (used : List ℕ) (n : ℕ) → BarrenBetween s pts t used 0 n → BarrenBetween s pts r used 0 n
+    between-less used n b a ha la ua j k hj hk oj ok ne uj uk = barren-less (b a ha la ua j k hj hk oj ok ne uj uk)
+
+-- ---- nothing is found
+
+pub finite-below : (x y : Float) → T (le (f32 0) x) → T (le x y) → T (finite y) → T (finite x)
+unfolding le lt eq ofBits
+finite-below nan y z h f = absurd h
+finite-below (inf true) y z h f = absurd z
+finite-below (inf false) nan z h f = absurd h
+finite-below (inf false) (inf true) z h f = absurd h
+finite-below (inf false) (inf false) z h f = absurd f
+finite-below (inf false) (fin s m e) z h f = absurd h
+finite-below (fin s m e) y z h f = tt
+
+pub larger-nothing : (s : Scene) (pts : List Float) (used : List ℕ) (t : Float) → Growing s t → BarrenBetween s pts t used 0 (s .n) → NothingTo s pts used t
+unfolding searching
+larger-nothing s pts used t g b r z h = first-nothing (floatsOf s pts) r used (s .n) (λ i hi u. barren-nothing {lo = 0} used u hi (omega arith) (λ a ha la ua. less a (omega arith) la ua)) (s .n) 0 1000 (omega arith)
+  where
+    less : BarrenBetween s pts r used 0 (s .n)
+    less = between-less s pts r t h (finite-below r t z h (g .radius .number)) (g .radius .number) (g .factor .number) (g .factor .above) used (s .n) b
+
+-- no radius is at most what is no number
+abbrev pub none-known : Float
+none-known = div binary32 (ofBits binary32 0) (ofBits binary32 0)
+
+pub nothing-yet : (s : Scene) (pts : List Float) (used : List ℕ) → NothingTo s pts used none-known
+unfolding le lt eq div ofBits
+nothing-yet s pts used nan z h = absurd h
+nothing-yet s pts used (inf t) z h = absurd h
+nothing-yet s pts used (fin t m e) z h = absurd h
+
+pub known-nothing : (s : Scene) (pts : List Float) (used : List ℕ) {flat : Bool} {r upto : Float} → Known flat r upto → (flat ≡ true → Flat s pts) → NothingTo s pts used upto → searching (floatsOf s pts) (s .n) .seedOf r used ≡ none
+unfolding searching
+known-nothing s pts used {r = r} (flat-cloud h) f n = flat-nothing s pts r used 1000 (f h)
+known-nothing s pts used {r = r} (up-to z h) f n = n r z h

@@ -1,0 +1,19 @@
+-- `is_known` meets its contract. Assumes nothing.
+use mathlib.Core.Path.{sym, subst}
+use lib.Dec.{T}
+use Rattle.seed.specs.Known.{flat-cloud, up-to}
+use borrow.Author.Needs.{needs}
+use Rattle.seed.proofs.is_known.Statement.{statement}
+use Rattle.seed.proofs.is_known.Tie as tie
+
+returns : tie.Need-returns
+returns c = λ _. flat-cloud (c .if1 .taken)
+
+returns-2 : tie.Need-returns-2
+returns-2 c = λ h. up-to (subst T (sym h) tt) (subst T (sym (c .if2 .taken)) tt)
+
+returns-3 : tie.Need-returns-3
+returns-3 c = λ h. absurd (subst T (sym h) tt)
+
+pub is-known-spec : {M : Type 1} → statement M
+is-known-spec = tie.close (tie.spec returns returns-2 returns-3)

@@ -1,0 +1,28 @@
+-- `known_to` meets its contract. Assumes nothing.
+use Rattle.nearby.specs.Ready.{usedIn}
+use Rattle.nearby.proofs.Keeping.{kept-self}
+use Rattle.seed.proofs.Larger.{nothing-yet}
+use borrow.Author.Needs.{needs}
+use Rattle.seed.proofs.known_to.Statement.{statement}
+use Rattle.seed.proofs.known_to.Tie as tie
+
+returns : tie.Need-returns
+returns c = let a = c .before .before .before .args in (c .before .before .before .pre .2 (c .if1 .taken), kept-self (a .s) (a .w .now))
+
+returns-2 : tie.Need-returns-2
+returns-2 c = let a = c .before .before .before .before .args in (nothing-yet (a .s) (a .points .now) (usedIn (a .s) (a .w .now)), kept-self (a .s) (a .w .now))
+
+ask-at-requires : tie.Need-ask-at-requires
+ask-at-requires c κs = (c .before .before .before .before .before .before .pre .0, c .before .before .before .before .before .before .pre .1)
+
+same-length : tie.Need-same-length
+same-length c = search needs
+
+returns-3 : tie.Need-returns-3
+returns-3 c = c .before .before .ask-at .ensures
+
+returns-4 : tie.Need-returns-4
+returns-4 c = let a = c .before .before .before .before .before .args in (nothing-yet (a .s) (a .points .now) (usedIn (a .s) (a .w .now)), kept-self (a .s) (a .w .now))
+
+pub known-to-spec : {M : Type 1} → statement M
+known-to-spec = tie.close (tie.spec returns returns-2 ask-at-requires same-length returns-3 returns-4)
