@@ -14,7 +14,7 @@ use Rattle.settings.specs.declared.BallPivotingConfig.{BallPivotingConfig}
 use Rattle.domain.specs.declared.Refusal.{Refusal}
 use Rattle.patch.specs.Count.{any}
 use Rattle.patch.specs.Lay.{Face, State, seedsOf}
-use Rattle.patch.specs.Shape.{touches, Shape}
+use Rattle.patch.specs.Shape.{touches, Shaped}
 use Rattle.patch.specs.View.{flat, written}
 use Rattle.ball_pivoting.specs.Reconstruct.{Found, pointCount, found, radiiOf, laidOf, laid, reconstructed, delivered, accepted, refused, facesAfter}
 use Rattle.ball_pivoting.specs.Outcome.{facesIn, Returned}
@@ -64,21 +64,16 @@ faces-in-written fs slice h =
     rw (take-all (length slice / 3) fs k) (faces-in-flat fs (drop (length (flat fs)) slice))
 
 -- ---- the one claim, of what comes back
-returned : (n : ℕ) (s : State) (fs : List Face) (F S looks pivots : ℕ) → fs ≡ s .faces → F ≡ length (s .faces) → S ≡ seedsOf s → looks ≡ s .looks → pivots ≡ s .pivots → Shape s → ((x : ℕ) → any (touches x) (s .faces) ≡ true → x < n) → Returned n s fs F S looks pivots
+returned : (n : ℕ) (s : State) (fs : List Face) (F S looks pivots : ℕ) → fs ≡ s .faces → F ≡ length (s .faces) → S ≡ seedsOf s → looks ≡ s .looks → pivots ≡ s .pivots
+    → Shaped s → ((x : ℕ) → any (touches x) (s .faces) ≡ true → x < n) → Returned n s fs F S looks pivots
 returned n s fs F S looks pivots e m k l v h within = record {
   faces-are = e;
   number-is = m;
   seeds-are = k;
   looks-are = l;
   pivots-are = v;
-  flagged = h .flagged ∙ sym m;
-  each = rw (e, m) (h .each);
-  points = rw (e, m, k) (h .points);
+  shape = rw (e, m, k, l, v) h;
   inside = rw e within;
-  edges = rw (e, m, k) (h .edges);
-  one-or-two = rw e (h .one-or-two);
-  looks-count = rw (l, m) (h .looks);
-  pivots-count = rw (v, m, k) (h .pivots);
 }
 
 module _ (c : BallPivotingConfig) (points : List Float) (faces : List ℕ) (p : Patch) (faces' : List ℕ) where

@@ -14,7 +14,7 @@ use Rattle.patch.specs.Count.{any}
 use Rattle.patch.specs.Lay.{patch, blank}
 use Rattle.patch.specs.Frontier.{heapOf}
 use Rattle.patch.specs.Search.{searching}
-use Rattle.patch.specs.Shape.{touches, Shape}
+use Rattle.patch.specs.Shape.{touches, Shaped}
 use Rattle.patch.proofs.Counts.{any-true}
 use Rattle.patch.proofs.Inv.{touched-used}
 use Rattle.patch.proofs.Laying.{Rest, layAll-rest, blank-rest}
@@ -36,7 +36,7 @@ use Rattle.ball_pivoting.specs.Parts.{Sized, Ready, Finds}
 use Rattle.ball_pivoting.specs.declared.Finding.{Finding}
 
 -- the patch of the multi-radius path has the shape, for every cloud and all settings
-pub shape-of : (c : BallPivotingConfig) (pts : List Float) → Shape (laidOf c pts)
+pub shape-of : (c : BallPivotingConfig) (pts : List Float) → Shaped (laidOf c pts)
 unfolding laidOf sceneOf
 shape-of c pts = laid-shape (sceneOf c pts) pts (radiiOf c pts)
 

@@ -124,7 +124,7 @@ module _ (c : BallPivotingConfig) (pts : List Float) where
       go (r ∷ rs) =
           let s = shape-of c pts in
           let few = laid-few (sceneOf c pts) pts (radiiOf c pts) in
-          record { seeds = omega (arith, few); looks = omega (arith, s .looks); pivots = omega (arith, s .pivots, few) }
+          record { seeds = omega (arith, few); looks = omega (arith, s .looks-count); pivots = omega (arith, s .pivots-count, few) }
 
 -- the numbers in a slice that holds such faces
 pub flat-inside : (n : ℕ) (fs : List Face) → Inside n fs → (k : ℕ) → getD (flat fs) k 0 ≤ n

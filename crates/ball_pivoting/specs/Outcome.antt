@@ -1,17 +1,17 @@
 -- The one claim about the main call: its whole result, for all input. Definitions only.
-use Prim.Native.Nat.{ℕ, zero, suc, _+_, _*_, _≤_, _<_}
+use Prim.Native.Nat.{ℕ, zero, suc, _<_}
 use mathlib.Core.Path.{_≡_}
-use mathlib.Core.Bool.{Bool, true, false}
+use mathlib.Core.Bool.{Bool, true}
 use mathlib.Core.List.{List, [], _∷_}
 use lib.Dec.{eqb}
-use lib.ListN.{length, getD, take, drop}
+use lib.ListN.{length, getD, drop}
 use lib.Ieee.{Float}
 use Rattle.numbers.specs.Rounded.{f32}
 use Rattle.domain.specs.Refusals.{reconstructRefusal}
 use Rattle.settings.specs.declared.BallPivotingConfig.{BallPivotingConfig}
-use Rattle.patch.specs.Count.{count, any}
-use Rattle.patch.specs.Lay.{Edge, same, Face, face, State, seedsOf}
-use Rattle.patch.specs.Shape.{touches, has, noFace, Exactly, Laid}
+use Rattle.patch.specs.Count.{any}
+use Rattle.patch.specs.Lay.{Face, face, State, seedsOf}
+use Rattle.patch.specs.Shape.{touches, Shape}
 use Rattle.ball_pivoting.specs.Reconstruct.{pointCount, found, laidOf, reconstructed, swept, facesAfter}
 use Rattle.ball_pivoting.specs.declared.Patch.{Patch}
 
@@ -24,37 +24,30 @@ unfoldable pub facesIn : ℕ → List ℕ → List Face
 facesIn zero slice = []
 facesIn (suc k) slice = face (getD slice 0 0) (getD slice 1 0) (getD slice 2 0) ∷ facesIn k (drop 3 slice)
 
--- The one claim about a patch that comes back: the faces fs, their number F, the number S of seeds, the looks and the pivots.
--- There are n points, and s is the definition's state when all radii are done.
+-- what comes back of the multi-radius path over n points: the faces fs, their number F, the number S of seeds, the looks and the pivots
 pub record Returned (n : ℕ) (s : State) (fs : List Face) (F S looks pivots : ℕ) : Type 0 where
-  -- they are those of the definition
+  -- they are those of s, the definition's state when all radii are done
   pub faces-are : fs ≡ s .faces
   pub number-is : F ≡ length (s .faces)
   pub seeds-are : S ≡ seedsOf s
   pub looks-are : looks ≡ s .looks
   pub pivots-are : pivots ≡ s .pivots
-  -- which tells of each face whether it is a seed
-  pub flagged : length (s .seedFlags) ≡ F
-  -- each face, after those with a lower number
-  pub each : (i : ℕ) → i < F → Laid (getD (s .seedFlags) i false) (take i fs) (getD fs i noFace)
-  -- the faces touch exactly F + 2S points
-  pub points : Exactly (F + 2 * S) eqb (λ x. any (touches x) fs ≡ true)
+  -- of them holds the one claim, with its field `points`: they touch exactly F + 2S points
+  pub shape : Shape fs (s .seedFlags) F S looks pivots
   -- all of them points of the cloud
   pub inside : (x : ℕ) → any (touches x) fs ≡ true → x < n
-  -- there are exactly 2F + S edges, direction aside
-  pub edges : Exactly (2 * F + S) same (λ e. any (has e) fs ≡ true)
-  -- each of them lies in one face or two
-  pub one-or-two : (e : Edge) → any (has e) fs ≡ true → (1 ≤ count (has e) fs) × (count (has e) fs ≤ 2)
-  pub looks-count : looks ≡ 3 * F
-  pub pivots-count : pivots ≡ 2 * F + S
 
 -- `faces`, `words` and `floats` are the lent slices before the call, those with a mark after it
-pub record Reconstructs (points normals : List Float) (c : BallPivotingConfig) (faces words : List ℕ) (floats : List Float) (p : Patch) (faces' words' : List ℕ) (floats' : List Float) : Type 0 where
+pub record Reconstructs
+    (points normals : List Float) (c : BallPivotingConfig) (faces words : List ℕ) (floats : List Float)
+    (p : Patch) (faces' words' : List ℕ) (floats' : List Float) : Type 0 where
   -- the answer, detail, counts and radii are the definition's
   pub result : p ≡ reconstructed points normals c (length faces) (length words) (length floats)
   -- and so is every lent slice
   pub faces-after : faces' ≡ facesAfter p (found c points) faces
   pub words-after : words' ≡ swept 0 (passes points normals c (length words) (length floats)) words
   pub floats-after : floats' ≡ swept (f32 0) (passes points normals c (length words) (length floats)) floats
-  -- where the cloud is accepted and there are radii, the multi-radius path was taken, and of the faces in front of the slice and the counts holds the one claim
-  pub shape : p .answer ≡ 0 → 0 < p .«radii_count» → Returned (pointCount points) (laidOf c points) (facesIn (p .faces) faces') (p .faces) (p .seeds) (p .looks) (p .pivots)
+  -- where the cloud is accepted and there are radii, the multi-radius path was taken,
+  -- and of the faces in front of the slice and the counts that come back holds the one claim
+  pub shape : p .answer ≡ 0 → 0 < p .«radii_count»
+      → Returned (pointCount points) (laidOf c points) (facesIn (p .faces) faces') (p .faces) (p .seeds) (p .looks) (p .pivots)

@@ -5,7 +5,7 @@ use mathlib.Core.List.{List, []}
 use lib.ListN.{length}
 use lib.Ieee.{Float}
 use Rattle.patch.specs.Lay.{State, seedsOf, patch}
-use Rattle.patch.specs.Shape.{Shape}
+use Rattle.patch.specs.Shape.{Shaped}
 use Rattle.patch.specs.Frontier.{heapOf}
 use Rattle.patch.proofs.Claim as any-floats
 use Rattle.decisions.specs.declared.Scene.{Scene}
@@ -17,7 +17,7 @@ module _ (s : Scene) (pts radii : List Float) where
   abbrev pub laid : State
   laid = patch (rulesOf s pts) heapOf (s .n) radii
 
-  pub laid-shape : Shape laid
+  pub laid-shape : Shaped laid
   laid-shape = any-floats.laid-shape (s .n) (floatsOf s pts) (within s pts) radii
 
   pub laid-finished : laid .frontier ≡ []

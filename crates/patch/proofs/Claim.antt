@@ -4,7 +4,7 @@ use mathlib.Core.Path.{_≡_}
 use mathlib.Core.List.{List, []}
 use lib.ListN.{length}
 use Rattle.patch.specs.Lay.{State, seedsOf, patch}
-use Rattle.patch.specs.Shape.{Shape}
+use Rattle.patch.specs.Shape.{Shaped}
 use Rattle.patch.specs.Frontier.{heapOf}
 use Rattle.patch.specs.Search.{Floats, Within, searching}
 use Rattle.patch.proofs.Laying.{patch-shape, finished, patch-few, never-stopped}
@@ -15,7 +15,7 @@ module _ {R : Type 0} (n : ℕ) (floats : Floats R) (within : Within n floats) (
   abbrev pub laid : State
   laid = patch (searching floats n) heapOf n rs
 
-  pub laid-shape : Shape laid
+  pub laid-shape : Shaped laid
   laid-shape = patch-shape n (searching floats n) heapOf (searching-fair n floats within) heapOf-keeps rs
 
   pub laid-finished : laid .frontier ≡ []

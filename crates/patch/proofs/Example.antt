@@ -10,7 +10,7 @@ use lib.Dec.{leb}
 use lib.Ieee.{binary32, ofBits, lt}
 use lib.ListN.{getD}
 use Rattle.patch.specs.Count.{any}
-use Rattle.patch.specs.Lay.{edge, same, Face, face, State, Pop, push, marked, withFace, seeded, cleared, popped, met, pivoted, judged, look, next, run, begun, layOne, layAll, patch}
+use Rattle.patch.specs.Lay.{edge, same, Face, face, Pop, push, marked, withFace, seeded, cleared, popped, met, pivoted, judged, look, next, run, begun, layOne, layAll, patch}
 use Rattle.patch.specs.Shape.{Shape, has, touches, newPoints}
 use Rattle.patch.specs.Frontier.{sift, afterPop, heapOf}
 use Rattle.patch.specs.Search.{Floats, isSecond, isThird, thirdOf, secondOf, firstOf, scoreOf, bestOf, numbers, searching}
@@ -50,24 +50,29 @@ unfolding sift afterPop
 four = refl
 
 -- ---- what has not the shape, with the counts that F and S ask for
-abbrev state : List Face → List Bool → ℕ → ℕ → State
-state fs flags looks pivots = record { faces = fs; seedFlags = flags; used = []; frontier = []; processed = []; looks = looks; pivots = pivots }
 
-three-at-an-edge : Shape (state (face 0 1 2 ∷ face 0 1 3 ∷ face 0 1 4 ∷ []) (true ∷ false ∷ false ∷ []) 9 7) → ⊥
+three-at-an-edge : Shape (face 0 1 2 ∷ face 0 1 3 ∷ face 0 1 4 ∷ []) (true ∷ false ∷ false ∷ []) 3 1 9 7 → ⊥
 unfolding has any same
 three-at-an-edge s = let t = s .one-or-two (edge 1 0) refl .1 in omega arith
 
 -- the second face shares only a point
-one-point-shared : Shape (state (face 0 1 2 ∷ face 2 3 4 ∷ []) (true ∷ false ∷ []) 6 5) → ⊥
+one-point-shared : Shape (face 0 1 2 ∷ face 2 3 4 ∷ []) (true ∷ false ∷ []) 2 1 6 5 → ⊥
 unfolding newPoints touches any
 one-point-shared s = let k = s .each 1 (omega arith) .other-new refl in omega arith
 
 -- the same face twice
-twice : Shape (state (face 0 1 2 ∷ face 0 1 2 ∷ []) (true ∷ false ∷ []) 6 5) → ⊥
+twice : Shape (face 0 1 2 ∷ face 0 1 2 ∷ []) (true ∷ false ∷ []) 2 1 6 5 → ⊥
 unfolding newPoints touches any
 twice s = let k = s .each 1 (omega arith) .other-new refl in omega arith
 
 -- a face that is called a seed and is none
-false-seed : Shape (state (face 0 1 2 ∷ face 0 1 3 ∷ []) (true ∷ true ∷ []) 6 6) → ⊥
+false-seed : Shape (face 0 1 2 ∷ face 0 1 3 ∷ []) (true ∷ true ∷ []) 2 2 6 6 → ⊥
 unfolding newPoints touches any
 false-seed s = let k = s .each 1 (omega arith) .seed-new refl in omega arith
+
+-- counts of faces and of seeds that are not those of the list and of its flags
+miscounted : Shape (face 0 1 2 ∷ face 0 1 3 ∷ []) (true ∷ false ∷ []) 3 1 9 7 → ⊥
+miscounted s = omega (arith, s .number)
+
+seed-missed : Shape (face 0 1 2 ∷ face 0 1 3 ∷ []) (true ∷ false ∷ []) 2 0 6 4 → ⊥
+seed-missed s = omega (arith, s .seeds)

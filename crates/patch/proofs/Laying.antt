@@ -10,7 +10,7 @@ use lib.Dec.{eqb}
 use lib.ListN.{length, getD, replicate, length-replicate}
 use Rattle.patch.specs.Count.{bit, count, any}
 use Rattle.patch.specs.Lay.{Edge, same, State, seedsOf, Rules, Pop, popped, met, pivoted, seeded, cleared, judged, look, next, run, begun, layOne, layAll, blank, patch, Fair, Keeps}
-use Rattle.patch.specs.Shape.{touches, has, Shape}
+use Rattle.patch.specs.Shape.{touches, has, Shaped}
 use Rattle.patch.proofs.Counts.{any-true, true-any, pigeons}
 use Rattle.patch.proofs.Edges.{laid-v1, laid-v2}
 use Rattle.patch.proofs.Inv.{Inv, waiting, touched-used}
@@ -139,11 +139,13 @@ blank-rest n = record {
   idle = refl;
 }
 
-rest-shape : (n : ℕ) (s : State) → Rest n s → Shape s
+rest-shape : (n : ℕ) (s : State) → Rest n s → Shaped s
 rest-shape n s h =
     let inv = h .inv in
     record {
+      number = refl;
       flagged = inv .flagged;
+      seeds = refl;
       each = inv .each;
       points = record {
         list = inv .points;
@@ -158,8 +160,8 @@ rest-shape n s h =
         many = inv .edges-count;
       };
       one-or-two = λ e t. let w = inv .edgewise e in let l = any-true (has e) (s .faces) t in (l, omega arith);
-      looks = omega (arith, inv .looked, ap length (h .idle));
-      pivots = omega (arith, inv .pivoted, ap (count (waiting (s .processed))) (h .idle));
+      looks-count = omega (arith, inv .looked, ap length (h .idle));
+      pivots-count = omega (arith, inv .pivoted, ap (count (waiting (s .processed))) (h .idle));
     }
 
 -- ---- the theorems
@@ -169,7 +171,7 @@ module _ {R : Type 0} (n : ℕ) (rules : Rules R) (order : Pop) (fair : Fair n r
   patch-rest = layAll-rest n rules order fair keeps rs (blank n) (blank-rest n)
 
   -- the one claim
-  pub patch-shape : Shape (patch rules order n rs)
+  pub patch-shape : Shaped (patch rules order n rs)
   patch-shape = rest-shape n (patch rules order n rs) patch-rest
 
   -- the looks went on until no entry waited

@@ -1,4 +1,4 @@
--- The shape of a patch: the one claim about it. F is the number of its faces, S that of its seeds. Definitions only.
+-- The shape of a patch: the one claim about it. Definitions only.
 use Prim.Native.Nat.{ℕ, _+_, _*_, _≤_, _<_}
 use mathlib.Core.Path.{_≡_}
 use mathlib.Core.Logic.{_↔_, _≢_}
@@ -43,16 +43,23 @@ pub record Laid (seed : Bool) (earlier : List Face) (f : Face) : Type 0 where
   -- and shares an edge with an earlier one
   pub other-shares : seed ≡ false → (e : Edge) × (has e f ≡ true) × (any (has e) earlier ≡ true)
 
-pub record Shape (s : State) : Type 0 where
-  -- the state says of each face whether it is a seed
-  pub flagged : length (s .seedFlags) ≡ length (s .faces)
+-- The one claim about a patch: its faces fs in the order in which they were laid, of each a flag that says whether it is a seed,
+-- the number F of the faces, the number S of the seeds, the looks and the pivots.
+pub record Shape (fs : List Face) (flags : List Bool) (F S looks pivots : ℕ) : Type 0 where
+  pub number : F ≡ length fs
+  pub flagged : length flags ≡ F
+  pub seeds : S ≡ count (λ b. b) flags
   -- each face, after those with a lower number
-  pub each : (i : ℕ) → i < length (s .faces) → Laid (getD (s .seedFlags) i false) (take i (s .faces)) (getD (s .faces) i noFace)
-  -- the faces touch exactly F + 2S points
-  pub points : Exactly (length (s .faces) + 2 * seedsOf s) eqb (λ x. any (touches x) (s .faces) ≡ true)
+  pub each : (i : ℕ) → i < F → Laid (getD flags i false) (take i fs) (getD fs i noFace)
+  -- how much was reached: the faces touch exactly F + 2S points
+  pub points : Exactly (F + 2 * S) eqb (λ x. any (touches x) fs ≡ true)
   -- there are exactly 2F + S edges, direction aside
-  pub edges : Exactly (2 * length (s .faces) + seedsOf s) same (λ e. any (has e) (s .faces) ≡ true)
+  pub edges : Exactly (2 * F + S) same (λ e. any (has e) fs ≡ true)
   -- each of them lies in one face or two
-  pub one-or-two : (e : Edge) → any (has e) (s .faces) ≡ true → (1 ≤ count (has e) (s .faces)) × (count (has e) (s .faces) ≤ 2)
-  pub looks : s .looks ≡ 3 * length (s .faces)
-  pub pivots : s .pivots ≡ 2 * length (s .faces) + seedsOf s
+  pub one-or-two : (e : Edge) → any (has e) fs ≡ true → (1 ≤ count (has e) fs) × (count (has e) fs ≤ 2)
+  pub looks-count : looks ≡ 3 * F
+  pub pivots-count : pivots ≡ 2 * F + S
+
+-- of a state's values
+abbrev pub Shaped : State → Type 0
+Shaped s = Shape (s .faces) (s .seedFlags) (length (s .faces)) (seedsOf s) (s .looks) (s .pivots)
