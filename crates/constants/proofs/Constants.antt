@@ -1,0 +1,50 @@
+-- The table of constants, by computation. Assumes nothing.
+use mathlib.Core.Path.{refl}
+use lib.Count.{trailingZeros}
+use lib.Ieee.{span, climb, size, odd, units, round, ofFields, ofBits}
+use Rattle.constants.specs.Constants.{Constants}
+
+pub constants : Constants
+unfolding trailingZeros span climb size odd units round ofFields ofBits
+constants = record {
+  zero = refl;
+  half = refl;
+  one = refl;
+  one-and-a-half = refl;
+  two = refl;
+  two-and-a-half = refl;
+  three = refl;
+  four = refl;
+  six = refl;
+  sixteen = refl;
+  ten-thousand = refl;
+  largest = refl;
+  thousandth = refl;
+  thousand = refl;
+  million = refl;
+  tenth = refl;
+  millionth = refl;
+  tiny = refl;
+  twentieth = refl;
+  three-twentieths = refl;
+  fifth = refl;
+  quarter = refl;
+  three-quarters = refl;
+  nine-tenths = refl;
+  hundred-millionth = refl;
+  pi = refl;
+  H = refl;
+  L = refl;
+  p0 = refl;
+  p1 = refl;
+  p2 = refl;
+  q1 = refl;
+  near-zero = refl;
+  low-square = refl;
+  high-length = refl;
+  high-square = refl;
+  low-bound = refl;
+  low-limit = refl;
+  thin = refl;
+  thin-next = refl;
+}

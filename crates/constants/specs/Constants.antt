@@ -1,0 +1,72 @@
+-- Which number each bit pattern is that stands in a definition: one table, proved by computation (`constants` in
+-- proofs/Constants). Definitions only.
+use Prim.Native.Nat.{ℕ, _*_, _^_, _-_}
+use mathlib.Core.Path.{_≡_}
+use mathlib.Core.Bool.{false}
+use lib.Ieee.{Float, binary32, round}
+use Rattle.numbers.specs.Rounded.{f32}
+
+-- the f32 nearest to n / d, the even one on a tie: how a decimal is read
+abbrev pub decimal : ℕ → ℕ → Float
+decimal n d = round binary32 false n d
+
+pub record Constants : Type 0 where
+  pub zero : f32 0 ≡ decimal 0 1
+  pub half : f32 0x3f000000 ≡ decimal 1 2
+  pub one : f32 0x3f800000 ≡ decimal 1 1
+  -- 1.5: the plain path's widest circumradius, in radii
+  pub one-and-a-half : f32 0x3fc00000 ≡ decimal 15 10
+  pub two : f32 0x40000000 ≡ decimal 2 1
+  -- 2.5: of the estimate
+  pub two-and-a-half : f32 0x40200000 ≡ decimal 25 10
+  pub three : f32 0x40400000 ≡ decimal 3 1
+  pub four : f32 0x40800000 ≡ decimal 4 1
+  pub six : f32 0x40c00000 ≡ decimal 6 1
+  -- the largest factor of a cell
+  pub sixteen : f32 0x41800000 ≡ decimal 16 1
+  -- the farthest coordinate
+  pub ten-thousand : f32 0x461c4000 ≡ decimal 10000 1
+  -- the largest f32: the farthest component of a normal
+  pub largest : f32 0x7f7fffff ≡ decimal ((2 ^ 24 - 1) * 2 ^ 104) 1
+  -- 0.001 and 1,000: the least and the largest radius
+  pub thousandth : f32 0x3a83126f ≡ decimal 1 1000
+  pub thousand : f32 0x447a0000 ≡ decimal 1000 1
+  -- 1,000,000: the largest threshold and edge factor
+  pub million : f32 0x49742400 ≡ decimal 1000000 1
+  -- 0.1: the estimate without another point, and the default quality threshold
+  pub tenth : f32 0x3dcccccd ≡ decimal 1 10
+  -- 1e-6: radii that are dropped, and the plain path's cross product
+  pub millionth : f32 0x358637bd ≡ decimal 1 1000000
+  -- 1e-10: a degenerate area, a ratio's divisor, a pivot's edge
+  pub tiny : f32 0x2edbe6ff ≡ decimal 1 (10 ^ 10)
+  -- the default radii 0.05, 0.15 and 0.2
+  pub twentieth : f32 0x3d4ccccd ≡ decimal 5 100
+  pub three-twentieths : f32 0x3e19999a ≡ decimal 15 100
+  pub fifth : f32 0x3e4ccccd ≡ decimal 2 10
+  -- the default percentiles 0.25, 0.5, 0.75 and 0.9
+  pub quarter : f32 0x3e800000 ≡ decimal 25 100
+  pub three-quarters : f32 0x3f400000 ≡ decimal 75 100
+  pub nine-tenths : f32 0x3f666666 ≡ decimal 9 10
+  -- 1e-8: the default least area
+  pub hundred-millionth : f32 0x322bcc77 ≡ decimal 1 (10 ^ 8)
+  -- pi
+  pub pi : f32 0x40490fdb ≡ decimal 314159265358979 (10 ^ 14)
+  -- musl's H and L, which add up to half of pi
+  pub H : f32 0x3fc90fda ≡ decimal 15707962513 (10 ^ 10)
+  pub L : f32 0x33a22168 ≡ decimal 75497894159 (10 ^ 18)
+  -- the scope's p0, -p1, -p2 and -q1
+  pub p0 : f32 0x3e2aaa75 ≡ decimal 16666586697 (10 ^ 11)
+  pub p1 : f32 0x3d2f13ba ≡ decimal 42743422091 (10 ^ 12)
+  pub p2 : f32 0x3c0dd36b ≡ decimal 86563630030 (10 ^ 13)
+  pub q1 : f32 0x3f34e5ae ≡ decimal 70662963390 (10 ^ 11)
+  -- 2 ^ -26: up to here the arc cosine is H
+  pub near-zero : f32 0x32800000 ≡ decimal 1 (2 ^ 26)
+  -- what is measured by squares, see `thin`
+  pub low-square : f32 0x21800000 ≡ decimal 1 (2 ^ 60)
+  pub high-length : f32 0x4c800000 ≡ decimal (2 ^ 26) 1
+  pub high-square : f32 0x5d800000 ≡ decimal (2 ^ 60) 1
+  pub low-bound : f32 0x3b000000 ≡ decimal 1 (2 ^ 9)
+  pub low-limit : f32 0x35800000 ≡ decimal 1 (2 ^ 20)
+  -- about 1e-12, and the next f32: squares of the plain path's cross product, see `plain`
+  pub thin : f32 0x2b8cbccd ≡ decimal 9223373 (2 ^ 63)
+  pub thin-next : f32 0x2b8cbcce ≡ decimal 9223374 (2 ^ 63)
