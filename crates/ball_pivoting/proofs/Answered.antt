@@ -12,9 +12,10 @@ use borrow.Author.Tests.{eq-eqb, ltb-false, eqb-true, eqb-false}
 use Rattle.domain.specs.Refusals.{reconstructRefusal}
 use Rattle.settings.specs.declared.BallPivotingConfig.{BallPivotingConfig}
 use Rattle.domain.specs.declared.Refusal.{Refusal}
-use Rattle.patch.specs.Count.{any}
+use Rattle.lists.specs.Lists.{any}
 use Rattle.patch.specs.Lay.{Face, State, seedsOf}
-use Rattle.patch.specs.Shape.{touches, Shaped}
+use Rattle.patch.specs.Shape.{touches}
+use Rattle.patch.specs.Fair.{Shaped}
 use Rattle.patch.specs.View.{flat, written}
 use Rattle.ball_pivoting.specs.Reconstruct.{Found, pointCount, found, radiiOf, laidOf, laid, reconstructed, delivered, accepted, refused, facesAfter}
 use Rattle.ball_pivoting.specs.Outcome.{facesIn, Returned}

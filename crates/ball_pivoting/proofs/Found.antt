@@ -10,14 +10,16 @@ use lib.Ieee.{Float}
 use Rattle.settings.specs.declared.BallPivotingConfig.{BallPivotingConfig}
 use Rattle.grid.specs.Index.{Indexed}
 use Rattle.grid.proofs.Near.{indexed-kept}
-use Rattle.patch.specs.Count.{any}
+use Rattle.lists.specs.Lists.{any}
 use Rattle.patch.specs.Lay.{patch, blank}
 use Rattle.patch.specs.Frontier.{heapOf}
 use Rattle.patch.specs.Search.{searching}
-use Rattle.patch.specs.Shape.{touches, Shaped}
-use Rattle.patch.proofs.Counts.{any-true}
+use Rattle.patch.specs.Shape.{touches}
+use Rattle.patch.specs.Fair.{Shaped}
+use Rattle.lists.proofs.Counts.{any-true}
 use Rattle.patch.proofs.Inv.{touched-used}
-use Rattle.patch.proofs.Laying.{Rest, layAll-rest, blank-rest}
+use Rattle.patch.specs.Invariant.{Rest}
+use Rattle.patch.proofs.Laying.{layAll-rest, blank-rest}
 use Rattle.patch.proofs.Pops.{heapOf-keeps}
 use Rattle.patch.proofs.Searching.{searching-fair}
 use Rattle.spatial_hash.specs.declared.Hash.{Hash}

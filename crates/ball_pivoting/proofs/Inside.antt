@@ -9,12 +9,13 @@ use lib.Ieee.{Float}
 use borrow.Author.Tests.{eq-eqb}
 use lib.Dec.{eqb}
 use Rattle.settings.specs.declared.BallPivotingConfig.{BallPivotingConfig}
-use Rattle.points.specs.Points.{upFrom}
-use Rattle.patch.specs.Count.{count}
+use Rattle.lists.specs.Lists.{upFrom, count}
+use Rattle.lists.specs.Members.{Below}
+use Rattle.lists.proofs.Members.{below-none, below-more, below-first, below-rest, up-below}
 use Rattle.patch.specs.Lay.{Face, pointsOf}
 use Rattle.patch.specs.Shape.{touches}
 use Rattle.patch.specs.View.{flat}
-use Rattle.patch.proofs.Counts.{true-any}
+use Rattle.lists.proofs.Counts.{true-any}
 use Rattle.laying.proofs.Claim.{laid-few}
 use Rattle.plain.specs.Plain.{candidate, candidates, valid, facesOver, facesAt, facesOf, plainFaces}
 use Rattle.ball_pivoting.specs.Reconstruct.{pointCount, sceneOf, radiiOf, laidOf, laid, plainly, Found, foundAt, found}
@@ -43,15 +44,6 @@ inside-of n (f ∷ fs) h = (
 )
 
 -- ---- on the plain path
-abbrev Under : ℕ → List ℕ → Type 0
-Under n [] = Unit {0}
-Under n (x ∷ xs) = (x < n) × Under n xs
-
-up-under : (n k m : ℕ) → k + m ≤ n → Under n (upFrom k m)
-unfolding upFrom
-up-under n k zero h = tt
-up-under n k (suc m) h = (omega arith, up-under n (k + 1) m (omega arith))
-
 module _ (n : ℕ) where
   inside-append : (fs gs : List Face) → Inside n fs → Inside n gs → Inside n (fs ++ gs)
   inside-append [] gs a b = b
@@ -63,40 +55,40 @@ module _ (n : ℕ) where
   inside-take (suc k) (f ∷ fs) a = (a .0, inside-take k fs (a .1))
 
   module _ (points : List Float) (radius : Float) where
-    candidates-under : (i : ℕ) (js : List ℕ) → Under n js → Under n (candidates points radius i js)
+    candidates-below : (i : ℕ) (js : List ℕ) → Below n js → Below n (candidates points radius i js)
     unfolding candidates
-    candidates-under i [] u = tt
-    candidates-under i (j ∷ js) u = go (candidate points radius i j) (candidates-under i js (u .1))
+    candidates-below i [] u = below-none n
+    candidates-below i (j ∷ js) u = go (candidate points radius i j) (candidates-below i js (below-rest n j js u))
       where
-        go : (t : Bool) → Under n (candidates points radius i js) → Under n (cond t (j ∷ candidates points radius i js) (candidates points radius i js))
-        go true r = (u .0, r)
+        go : (t : Bool) → Below n (candidates points radius i js) → Below n (cond t (j ∷ candidates points radius i js) (candidates points radius i js))
+        go true r = below-more n j (candidates points radius i js) (below-first n j js u) r
         go false r = r
 
-    over-inside : (i a : ℕ) (bs : List ℕ) → i < n → a < n → Under n bs → Inside n (facesOver points radius i a bs)
+    over-inside : (i a : ℕ) (bs : List ℕ) → i < n → a < n → Below n bs → Inside n (facesOver points radius i a bs)
     unfolding facesOver
     over-inside i a [] h k u = tt
-    over-inside i a (b ∷ bs) h k u = go (valid points radius i a b) (over-inside i a bs h k (u .1))
+    over-inside i a (b ∷ bs) h k u = go (valid points radius i a b) (over-inside i a bs h k (below-rest n b bs u))
       where
         go : (t : Bool) → Inside n (facesOver points radius i a bs) → Inside n (cond t (record { a = i; b = a; c = b } ∷ facesOver points radius i a bs) (facesOver points radius i a bs))
-        go true r = ((h, k, u .0), r)
+        go true r = ((h, k, below-first n b bs u), r)
         go false r = r
 
-    at-inside : (i : ℕ) (bs : List ℕ) → i < n → Under n bs → Inside n (facesAt points radius i bs)
+    at-inside : (i : ℕ) (bs : List ℕ) → i < n → Below n bs → Inside n (facesAt points radius i bs)
     unfolding facesAt
     at-inside i [] h u = tt
-    at-inside i (a ∷ bs) h u = inside-append (facesOver points radius i a bs) (facesAt points radius i bs) (over-inside i a bs h (u .0) (u .1)) (at-inside i bs h (u .1))
+    at-inside i (a ∷ bs) h u = inside-append (facesOver points radius i a bs) (facesAt points radius i bs) (over-inside i a bs h (below-first n a bs u) (below-rest n a bs u)) (at-inside i bs h (below-rest n a bs u))
 
-    of-inside : (is : List ℕ) → Under n is → Inside n (facesOf points radius is)
+    of-inside : (is : List ℕ) → Below n is → Inside n (facesOf points radius is)
     unfolding facesOf
     of-inside [] u = tt
     of-inside (i ∷ is) u =
         inside-append (facesAt points radius i (candidates points radius i (upFrom 0 i))) (facesOf points radius is)
-        (at-inside i (candidates points radius i (upFrom 0 i)) (u .0) (candidates-under i (upFrom 0 i) (up-under n 0 i (let l = u .0 in omega arith))))
-        (of-inside is (u .1))
+        (at-inside i (candidates points radius i (upFrom 0 i)) (below-first n i is u) (candidates-below i (upFrom 0 i) (up-below n 0 i (let l = below-first n i is u in omega arith))))
+        (of-inside is (below-rest n i is u))
 
 plain-inside : (points : List Float) (radius : Float) → Inside (length points / 3) (plainFaces points radius)
 unfolding plainFaces
-plain-inside points radius = let n : ℕ = length points / 3 in inside-take n 10000 (facesOf points radius (upFrom 0 n)) (of-inside n points radius (upFrom 0 n) (up-under n 0 n (omega arith)))
+plain-inside points radius = let n : ℕ = length points / 3 in inside-take n 10000 (facesOf points radius (upFrom 0 n)) (of-inside n points radius (upFrom 0 n) (up-below n 0 n (omega arith)))
 
 -- ---- on either
 module _ (c : BallPivotingConfig) (pts : List Float) where

@@ -16,7 +16,8 @@ use Rattle.domain.specs.declared.Refusal.{Refusal}
 use Rattle.domain.proofs.Accepted.{cloud-finite, accepted-reconstruct}
 use Rattle.points.specs.Points.{pointAt}
 use Rattle.vector.specs.Vector.{Finite}
-use Rattle.ball_pivoting.specs.Reconstruct.{Found, radiiOf, found, refused, accepted, delivered, reconstructed, swept, facesAfter}
+use Rattle.ball_pivoting.specs.Reconstruct.{Found, radiiOf, found, refused, accepted, delivered, reconstructed, facesAfter}
+use Rattle.clearing.specs.Swept.{swept}
 use Rattle.ball_pivoting.specs.Outcome.{Reconstructs}
 use Rattle.ball_pivoting.specs.Parts.{Ready}
 use Rattle.ball_pivoting.specs.declared.Patch.{Patch}

@@ -9,10 +9,11 @@ use lib.Ieee.{Float}
 use Rattle.numbers.specs.Rounded.{f32}
 use Rattle.domain.specs.Refusals.{reconstructRefusal}
 use Rattle.settings.specs.declared.BallPivotingConfig.{BallPivotingConfig}
-use Rattle.patch.specs.Count.{any}
+use Rattle.lists.specs.Lists.{any}
 use Rattle.patch.specs.Lay.{Face, face, State, seedsOf}
 use Rattle.patch.specs.Shape.{touches, Shape}
-use Rattle.ball_pivoting.specs.Reconstruct.{pointCount, found, laidOf, reconstructed, swept, facesAfter}
+use Rattle.ball_pivoting.specs.Reconstruct.{pointCount, found, laidOf, reconstructed, facesAfter}
+use Rattle.clearing.specs.Swept.{swept}
 use Rattle.ball_pivoting.specs.declared.Patch.{Patch}
 
 -- the checks up to 7 pass
@@ -24,7 +25,8 @@ unfoldable pub facesIn : ℕ → List ℕ → List Face
 facesIn zero slice = []
 facesIn (suc k) slice = face (getD slice 0 0) (getD slice 1 0) (getD slice 2 0) ∷ facesIn k (drop 3 slice)
 
--- what comes back of the multi-radius path over n points: the faces fs, their number F, the number S of seeds, the looks and the pivots
+-- what comes back of the multi-radius path over n points: the faces fs, their number F, the number S of seeds,
+-- the looks and the pivots
 pub record Returned (n : ℕ) (s : State) (fs : List Face) (F S looks pivots : ℕ) : Type 0 where
   -- they are those of s, the definition's state when all radii are done
   pub faces-are : fs ≡ s .faces
@@ -50,4 +52,5 @@ pub record Reconstructs
   -- where the cloud is accepted and there are radii, the multi-radius path was taken,
   -- and of the faces in front of the slice and the counts that come back holds the one claim
   pub shape : p .answer ≡ 0 → 0 < p .«radii_count»
-      → Returned (pointCount points) (laidOf c points) (facesIn (p .faces) faces') (p .faces) (p .seeds) (p .looks) (p .pivots)
+      → Returned (pointCount points) (laidOf c points)
+      (facesIn (p .faces) faces') (p .faces) (p .seeds) (p .looks) (p .pivots)

@@ -1,6 +1,7 @@
--- The whole call, `reconstruct_with_normals`: the checks, the radii, the laying or the plain path, and what comes back. Definitions only.
+-- The whole call, `reconstruct_with_normals`: the checks, the radii, the laying or the plain path, and what
+-- comes back. Definitions only.
 use Prim.Native.Nat.{ℕ, _+_, _-_, _/_}
-use mathlib.Core.Bool.{Bool, cond}
+use mathlib.Core.Bool.{cond}
 use mathlib.Core.List.{List, [], _∷_, _++_}
 use lib.Dec.{eqb, ltb}
 use lib.ListN.{length, replicate}
@@ -103,19 +104,15 @@ delivered f rs room =
     cond (eqb (length (f .faces)) 0) (refused 8 0)
     (cond (ltb (room / 3) (length (f .faces))) (refused 9 0) (accepted f rs))
 
--- the answer, detail, counts and radii of the call; `room`, `words` and `floats` are the lengths of the face slice and of the work slices
+-- the answer, detail, counts and radii of the call; `room`, `words` and `floats` are the lengths of the face
+-- slice and of the work slices
 unfoldable pub reconstructed : List Float → List Float → BallPivotingConfig → ℕ → ℕ → ℕ → Patch
 reconstructed pts normals c room words floats =
     let refusal = reconstructRefusal pts normals c words floats in
-    cond (eqb (refusal .answer) 0) (delivered (found c pts) (radiiOf c pts) room) (refused (refusal .answer) (refusal .detail))
+    cond (eqb (refusal .answer) 0) (delivered (found c pts) (radiiOf c pts) room)
+    (refused (refusal .answer) (refusal .detail))
 
--- ---- what the lent slices hold at the end
-
--- all zeros once the checks have passed, untouched before that; for any kind of number
-unfoldable pub swept : {A : Type 0} → A → Bool → List A → List A
-swept zero-of passed xs = cond passed (replicate (length xs) zero-of) xs
-
--- the face slice: the faces in front, or all zeros at 9, or untouched
+-- the face slice at the end: the faces in front, or all zeros at 9, or untouched
 unfoldable pub facesAfter : Patch → Found → List ℕ → List ℕ
 facesAfter p f slice =
     cond (eqb (p .answer) 0) (written (f .faces) slice)

@@ -8,9 +8,9 @@ use lib.ListN.{length, replicate}
 use lib.Ieee.{Float, span, climb, size, odd, units, round, neg, sum, add, sub, mul, div, lt, eq, le, ne, ofInt, toUnsigned, isNan, ofFields, ofBits, toBits}
 use Rattle.numbers.specs.Rounded.{f32}
 use Rattle.settings.specs.declared.BallPivotingConfig.{BallPivotingConfig}
-use Rattle.patch.specs.Lay.{Face, face}
+use Rattle.patch.specs.Lay.{Face, face, same, push, marked, withFace, cleared as cleared-patch, seeded, popped, met, pivoted, judged, look, next, run, begun, layOne, layAll, patch}
 use Rattle.ball_pivoting.specs.declared.Patch.{Patch}
-use Rattle.ball_pivoting.specs.Reconstruct.{pointCount}
+use Rattle.ball_pivoting.specs.Reconstruct.{pointCount, indexOf, sceneOf, radiiOf, laidOf, laid, plainly, foundAt, found, slots, refused, accepted, delivered, reconstructed, facesAfter}
 use Rattle.numbers.specs.Acos.{R, abs, cleared, acosMiddle, acosLow, acosHigh, acosInside, acos}
 use Rattle.numbers.specs.Cut.{ceil}
 use Rattle.numbers.specs.Order.{minimum, maximum, clamp}
@@ -18,7 +18,8 @@ use Rattle.numbers.specs.Root.{isqrt, nearestRoot, rootOfUnits, root}
 use Rattle.quality.specs.Measures.{radiusOf, angle, least, largest, aspectRatio, edgeRatio, score, measures, degenerate}
 use Rattle.triangle.specs.Quality.{area, circumradius, quality, acceptable}
 use Rattle.vector.specs.Vector.{difference, magnitudeSquared, magnitude, cross, squared, distance}
-use Rattle.points.specs.Points.{pointAt, upFrom}
+use Rattle.points.specs.Points.{pointAt}
+use Rattle.lists.specs.Lists.{upFrom, any}
 use Rattle.sorting.specs.Insertion.{insertBefore, place}
 use Rattle.sorting.specs.Sorted.{insertAll, percentileOf}
 use Rattle.ranges.specs.Range.{inside, leading, firstOutside, firstBadPoint}
@@ -26,13 +27,11 @@ use Rattle.domain.specs.Refusals.{firstRefusal, roomy, reconstructRefusal}
 use Rattle.settings.specs.Settings.{listInside, firstFailing, settingTests, firstBadSetting, defaults}
 use Rattle.grid.specs.Grid.{leastFrom, boundsMin, cellOn, cellOf, before, precedes, byCell, orderOf, within, inRange, rangeOf, keep, neighbors}
 use Rattle.radii.specs.Radii.{distancesTo, total, average, nearOf, nearest, densitiesFrom, spaced, dedup, candidates, radiiAt, adaptiveRadii}
-use Rattle.patch.specs.Count.{any}
 use Rattle.patch.specs.Frontier.{sift, afterPop}
-use Rattle.patch.specs.Lay.{same, push, marked, withFace, cleared as cleared-patch, seeded, popped, met, pivoted, judged, look, next, run, begun, layOne, layAll, patch}
-use Rattle.patch.specs.Search.{isSecond, isThird, thirdOf, secondOf, firstOf, scoreOf, bestOf, numbers, searching}
+use Rattle.patch.specs.Search.{isSecond, isThird, thirdOf, secondOf, firstOf, scoreOf, bestOf, searching}
 use Rattle.decisions.specs.Decisions.{apart, qualityAt, isClose, accepts, middle, around, pivotable, scoreAt, completes, floatsOf}
 use Rattle.plain.specs.Plain.{candidate, candidates as candidates-plain, sound, valid, facesOver, facesAt, facesOf, plainFaces}
-use Rattle.ball_pivoting.specs.Reconstruct.{indexOf, sceneOf, radiiOf, laidOf, laid, plainly, foundAt, found, slots, refused, accepted, delivered, reconstructed, swept, facesAfter}
+use Rattle.clearing.specs.Swept.{swept}
 
 -- the answer, with the counts and the radii
 abbrev answer : ℕ → ℕ → ℕ → ℕ → ℕ → List ℕ → Patch
@@ -182,5 +181,5 @@ pub record CloudCases : Type 0 where
   pub plain : Gives plain-settings plain-points 28 (answer 0 8 0 0 0 ([])) (face 3 0 1 ∷ face 3 0 2 ∷ face 3 1 2 ∷ face 4 0 2 ∷ face 4 0 3 ∷ face 4 1 2 ∷ face 4 1 3 ∷ face 4 2 3 ∷ [])
 
 pub cloud-cases : CloudCases
-unfolding trailingZeros span climb size odd units round neg sum add sub mul div lt eq le ne ofInt toUnsigned isNan ofFields ofBits toBits R abs cleared acosMiddle acosLow acosHigh acosInside acos ceil minimum maximum clamp isqrt nearestRoot rootOfUnits root area radiusOf circumradius angle least largest aspectRatio edgeRatio score measures degenerate quality acceptable difference magnitudeSquared magnitude cross squared distance pointAt upFrom insertBefore place insertAll percentileOf inside leading firstOutside listInside firstRefusal firstBadPoint roomy reconstructRefusal firstFailing settingTests firstBadSetting defaults leastFrom boundsMin cellOn cellOf before precedes byCell orderOf within inRange rangeOf keep neighbors distancesTo total average nearOf nearest densitiesFrom spaced dedup candidates radiiAt adaptiveRadii any sift afterPop same push marked withFace cleared-patch seeded popped met pivoted judged look next run begun layOne layAll patch isSecond isThird thirdOf secondOf firstOf scoreOf bestOf numbers searching apart qualityAt isClose accepts middle around pivotable scoreAt completes floatsOf candidate candidates-plain sound valid facesOver facesAt facesOf plainFaces indexOf sceneOf radiiOf laidOf laid plainly foundAt found slots refused accepted delivered reconstructed swept facesAfter
+unfolding trailingZeros span climb size odd units round neg sum add sub mul div lt eq le ne ofInt toUnsigned isNan ofFields ofBits toBits R abs cleared acosMiddle acosLow acosHigh acosInside acos ceil minimum maximum clamp isqrt nearestRoot rootOfUnits root area radiusOf circumradius angle least largest aspectRatio edgeRatio score measures degenerate quality acceptable difference magnitudeSquared magnitude cross squared distance pointAt upFrom insertBefore place insertAll percentileOf inside leading firstOutside listInside firstRefusal firstBadPoint roomy reconstructRefusal firstFailing settingTests firstBadSetting defaults leastFrom boundsMin cellOn cellOf before precedes byCell orderOf within inRange rangeOf keep neighbors distancesTo total average nearOf nearest densitiesFrom spaced dedup candidates radiiAt adaptiveRadii any sift afterPop same push marked withFace cleared-patch seeded popped met pivoted judged look next run begun layOne layAll patch isSecond isThird thirdOf secondOf firstOf scoreOf bestOf searching apart qualityAt isClose accepts middle around pivotable scoreAt completes floatsOf candidate candidates-plain sound valid facesOver facesAt facesOf plainFaces indexOf sceneOf radiiOf laidOf laid plainly foundAt found slots refused accepted delivered reconstructed swept facesAfter
 cloud-cases = record { listing = (refl, refl); two-points = (refl, refl); two-radii = (refl, refl); two-seeds = (refl, refl); pivots = (refl, refl); unindexed = (refl, refl); plain = (refl, refl) }

@@ -8,13 +8,14 @@ use native.Mathlib.Omega.{arith}
 use lib.Dec.{eqb, ltb}
 use lib.ListN.{length, set, getD}
 use borrow.Author.Tests.{eq-eqb}
-use Rattle.patch.specs.Count.{bit, count, any}
 use Rattle.patch.specs.Lay.{Face, pointsOf}
 use Rattle.patch.specs.Shape.{touches, Exactly}
 use Rattle.patch.specs.View.{flat}
-use Rattle.patch.proofs.Counts.{either, count-append, any-true, any-false, true-any, false-any}
 use Rattle.coverage.specs.Coverage.{mark, marks, reached}
 use Rattle.coverage.proofs.Marks.{marks-set, set-new, marks-none, count-none}
+use Rattle.lists.specs.Lists.{bit, count, any}
+use Rattle.lists.proofs.Bools.{either}
+use Rattle.lists.proofs.Counts.{count-append, any-true, any-false, true-any, false-any}
 
 -- lists with the same points have the same marks
 marks-same : (xs ys : List ℕ) → ((p : ℕ) → mark xs p ≡ mark ys p) → (p n : ℕ) → marks xs p n ≡ marks ys p n

@@ -1,9 +1,9 @@
 -- Marks that are computed: a number that stands twice counts once, one beyond the points marks none. Assumes nothing.
 use mathlib.Core.Path.{_≡_, refl}
 use mathlib.Core.List.{[], _∷_}
-use Rattle.patch.specs.Count.{count, any}
 use lib.Dec.{eqb}
 use Rattle.coverage.specs.Coverage.{mark, marks, reached}
+use Rattle.lists.specs.Lists.{count, any}
 
 two-of-four : reached (0 ∷ 2 ∷ 2 ∷ 4 ∷ []) 4 ≡ 1 ∷ 0 ∷ 1 ∷ 0 ∷ []
 unfolding mark marks reached any

@@ -9,9 +9,9 @@ use lib.Dec.{eqb, ltb}
 use lib.ListN.{length, set, getD, take, replicate, length-set, length-replicate}
 use lib.Seq.{take-suc, take-all, set-getD}
 use borrow.Author.Tests.{eq-eqb, ne-eqb}
-use Rattle.patch.specs.Count.{bit, count, any}
-use Rattle.patch.proofs.Counts.{count-append, true-any}
 use Rattle.coverage.specs.Coverage.{mark, marks, reached}
+use Rattle.lists.specs.Lists.{bit, count, any}
+use Rattle.lists.proofs.Counts.{count-append, true-any}
 
 mark-last : (xs : List ℕ) (p : ℕ) → mark (xs ++ (p ∷ [])) p ≡ 1
 unfolding mark

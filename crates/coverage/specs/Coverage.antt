@@ -5,7 +5,7 @@ use mathlib.Core.Path.{_≡_}
 use mathlib.Core.List.{List, [], _∷_}
 use lib.Dec.{eqb}
 use lib.ListN.{length}
-use Rattle.patch.specs.Count.{bit, count, any}
+use Rattle.lists.specs.Lists.{bit, count, any}
 
 -- 1 if some face has the point, else 0
 unfoldable pub mark : List ℕ → ℕ → ℕ

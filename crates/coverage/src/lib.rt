@@ -3,8 +3,8 @@ ghost use mathlib.Core.Path.{_≡_};
 ghost use Prim.Native.Nat.{_+_, _≤_};
 ghost use lib.Dec.{eqb};
 ghost use lib.ListN.{set};
-ghost use Rattle.patch.specs.Count.{count};
 ghost use Rattle.coverage.specs.Coverage.{Marked};
+ghost use Rattle.lists.specs.Lists.{count};
 
 // Marks a point, if it has an entry. The answer is 1 if it was not marked before, else 0.
 fn mark_point(reached: &mut [u32], point: usize) -> usize

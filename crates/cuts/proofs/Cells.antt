@@ -15,14 +15,15 @@ use lib.Ieee.Scale.{finite}
 use lib.Ieee.Positive.{positive, between, mul-mono}
 use Rattle.numbers.specs.Rounded.{f32, _⊕_, _⊖_, _⊗_, _⊘_}
 use Rattle.numbers.specs.Cut.{cut, ceil}
-use Rattle.numbers.proofs.OrderLaws.{unsigned, unsigned-le, le-trans, le-top, le-left}
+use Rattle.numbers.specs.Bounds.{unsigned, Bounded}
+use Rattle.numbers.proofs.OrderLaws.{unsigned-le, le-trans, le-top, le-left}
 use Rattle.numbers.proofs.SumOrder.{sub-nonnegative}
 use Rattle.numbers.proofs.QuotientOrder.{div-monotone, div-unsigned, div-antitone}
 use Rattle.numbers.proofs.CutOrder.{cut-monotone}
 use Rattle.numbers.proofs.CutTypes.{signed-cut, ceil-unsigned, ceil-most}
-use Rattle.numbers.proofs.Bounded.{Bounded, bounded-finite, sub-bounded}
+use Rattle.numbers.proofs.Bounded.{bounded-finite, sub-bounded}
 use Rattle.ranges.specs.Range.{inside, farthest}
-use Rattle.ranges.proofs.Tests.{both}
+use Rattle.lists.proofs.Bools.{and-both}
 use Rattle.settings.specs.Settled.{Settled}
 use Rattle.settings.specs.declared.BallPivotingConfig.{BallPivotingConfig}
 use Rattle.domain.specs.Accepted.{Cloud}
@@ -74,7 +75,7 @@ most-range = leb→le (cut (farRadius ⊘ narrowest) + 1) 600000000 tt
 -- ---- the size of a cell
 pub within-range : (lo hi x : Float) → inside lo hi x ≡ true → T (le lo x) × T (le x hi)
 unfolding inside
-within-range lo hi x e = let b = both (le lo x) (le x hi) e in (subst T (sym (b .0)) tt, subst T (sym (b .1)) tt)
+within-range lo hi x e = let b = and-both {p = le lo x} {q = le x hi} e in (subst T (sym (b .0)) tt, subst T (sym (b .1)) tt)
 
 pub record Sound (size : Float) : Type 0 where
   pub above : T (positive size)

@@ -6,7 +6,7 @@ use lib.Dec.{T}
 use lib.Ieee.{Float, span, climb, size, odd, units, round, mul, lt, eq, le, ofFields, ofBits}
 use lib.Ieee.Scale.{finite}
 use Rattle.numbers.specs.Rounded.{f32, _⊗_}
-use Rattle.numbers.proofs.OrderLaws.{unsigned, le-trans}
+use Rattle.numbers.proofs.OrderLaws.{le-trans}
 use Rattle.numbers.proofs.ProductOrder.{mul-monotone-finite}
 use Rattle.numbers.proofs.Bounded.{mul-unsigned}
 use Rattle.settings.specs.Settled.{Settled}
@@ -23,6 +23,7 @@ use Rattle.total_order.proofs.Fine.{fine-finite}
 use Rattle.total_order.proofs.Radii.{farther, farther-finite, all-map, twice, set-fine, radii-fine}
 use Rattle.cuts.specs.Cuts.{SameRange}
 use Rattle.cuts.proofs.Cells.{farRadius, same-range}
+use Rattle.numbers.specs.Bounds.{unsigned}
 
 -- ---- what computes
 product-tops : T (le (farther ⊗ f32 0x40000000) farRadius) × T (le (f32 0x447a0000 ⊗ f32 0x40400000) farRadius)

@@ -11,7 +11,7 @@ use Rattle.score_bounds.specs.Bound.{scoreBound}
 use Rattle.quality.specs.declared.Shape.{Shape}
 use Rattle.quality.specs.declared.TriangleQuality.{TriangleQuality}
 use Rattle.score_bounds.proofs.Bounds.{score-bounded}
-use Rattle.patch.proofs.Counts.{true-not-false}
+use Rattle.lists.proofs.Bools.{true-not-false}
 use Rattle.decisions.specs.declared.Scene.{Scene}
 use Rattle.decisions.specs.Decisions.{accepts}
 use Rattle.decisions.specs.Found.{atLeast, acceptedScore}

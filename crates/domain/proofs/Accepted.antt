@@ -16,7 +16,7 @@ use Rattle.domain.specs.Refusals.{check, pointCheck, settingCheck, roomy
 use Rattle.domain.specs.Accepted.{Within, Cloud, AcceptedEstimate, AcceptedReconstruct}
 use Rattle.settings.specs.declared.BallPivotingConfig.{BallPivotingConfig}
 use Rattle.ranges.proofs.Range.{leading-inside}
-use Rattle.ranges.proofs.Tests.{both}
+use Rattle.lists.proofs.Bools.{and-both}
 use Rattle.settings.proofs.Settled.{settled-of}
 use Rattle.domain.proofs.Refusals.{Sized, check-accepted, size-accepted, roomy-room}
 
@@ -49,7 +49,7 @@ pub cloud-finite : {n : ℕ} {points : List Float} → Cloud n points → (k : �
 unfolding inside ofBits neg
 cloud-finite {points = points} cloud k l =
     let x : Float = getD points k nan in
-    let b = both (le (neg farthest) x) (le x farthest) (cloud .near k l) in
+    let b = and-both {p = le (neg farthest) x} {q = le x farthest} (cloud .near k l) in
     between-finite (neg farthest) farthest x tt tt (subst T (sym (b .0)) tt) (subst T (sym (b .1)) tt)
 
 -- ---- the calls

@@ -6,7 +6,7 @@ use Prim.Native.Nat.{ℕ, _+_, _*_, _/_, _%_, _≤_, _<_}
 use native.Mathlib.Omega.{arith}
 use lib.Dec.{leb, ltb, eqb}
 use borrow.Author.Tests.{lt-ltb, le-ltb, le-leb, lt-leb, eq-eqb, ne-eqb, ltb-true, leb-true, eqb-true}
-use Rattle.ranges.proofs.Tests.{both}
+use Rattle.lists.proofs.Bools.{and-both}
 use Rattle.domain.specs.Refusals.{Check, check, refusal, firstRefusal, sizeChecks, pointCheck, roomy}
 use Rattle.domain.specs.Accepted.{Room}
 use Rattle.domain.specs.declared.Refusal.{Refusal}
@@ -82,7 +82,7 @@ module _ (p q : ℕ) where
       let one = check-accepted (check (ltb 0 p) 1 0) _ (λ h. omega arith) e in
       let two = check-accepted (check (eqb (p % 3) 0 && eqb q p) 2 0) _ (λ h. omega arith) (one .1) in
       let three = check-accepted (check (leb (p / 3) 4096) 3 0) _ (λ h. omega arith) (two .1) in
-      let b = both _ _ (two .0) in (
+      let b = and-both (two .0) in (
         record { some = ltb-true 0 p (one .0); threes = eqb-true (p % 3) 0 (b .0); as-long = eqb-true q p (b .1); few = leb-true (p / 3) 4096 (three .0) },
         three .1,
       )
@@ -121,5 +121,5 @@ module _ {answer : ℕ} (p q : ℕ) (is : answer ≡ firstRefusal (sizeChecks p 
 pub roomy-room : (n words floats : ℕ) → roomy n words floats ≡ true → Room n words floats
 unfolding roomy
 roomy-room n words floats e =
-    let b = both _ _ e in
+    let b = and-both e in
     record { words-enough = leb-true (24 * n + 64) words (b .0); floats-enough = leb-true (4 * n + 64) floats (b .1) }

@@ -11,9 +11,8 @@ use lib.Ieee.{Float, inf, binary32, lt, le, fits, isNan}
 use Rattle.numbers.specs.Root.{root}
 use Rattle.numbers.proofs.OrderLaws.{unsigned-number, unsigned-le, le-refl, le-trans, le-right, le-top, lt-le, not-lt-le, le-or-lt, le-antisymmetric}
 use Rattle.numbers.proofs.RootMonotone.{root-monotone}
-use Rattle.points.specs.Points.{upFrom}
-use Rattle.patch.specs.Count.{count, bit}
-use Rattle.patch.specs.Search.{Below}
+use Rattle.lists.specs.Lists.{upFrom, count, bit}
+use Rattle.lists.specs.Members.{Below}
 use Rattle.spatial_hash.proofs.Nearby.{up-in, up-has}
 use Rattle.spatial_hash.proofs.Squares.{Good, root-good}
 

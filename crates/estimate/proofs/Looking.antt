@@ -13,10 +13,10 @@ use Rattle.numbers.specs.Root.{root}
 use Rattle.numbers.proofs.OrderLaws.{unsigned-number, le-top}
 use Rattle.vector.specs.declared.Point3f.{Point3f}
 use Rattle.vector.specs.Vector.{squared, distance}
-use Rattle.points.specs.Points.{pointAt, upFrom}
+use Rattle.points.specs.Points.{pointAt}
+use Rattle.lists.specs.Lists.{upFrom, count}
 use Rattle.sorting.proofs.Insertion.{part-length, part-at}
-use Rattle.patch.specs.Count.{count}
-use Rattle.patch.specs.Search.{Below}
+use Rattle.lists.specs.Members.{Below}
 use Rattle.spatial_hash.specs.declared.Hash.{Hash}
 use Rattle.spatial_hash.specs.Near.{nobody, Surrounds, Near, HashedAll}
 use Rattle.spatial_hash.proofs.Kept.{hashed-all-behind}

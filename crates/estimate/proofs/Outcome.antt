@@ -14,7 +14,8 @@ use Rattle.domain.specs.Refusals.{estimateRefusal}
 use Rattle.domain.specs.Accepted.{Cloud, Room, AcceptedEstimate}
 use Rattle.domain.proofs.Accepted.{cloud-finite, accepted-estimate}
 use Rattle.spatial_hash.specs.Near.{Ready}
-use Rattle.estimate.specs.Estimate.{optimalRadius, accepted, estimate, estimateOf, clearedIf, Estimated}
+use Rattle.estimate.specs.Estimate.{optimalRadius, accepted, estimate, estimateOf, Estimated}
+use Rattle.clearing.specs.Swept.{swept}
 
 -- the points of an accepted cloud can be hashed
 pub cloud-ready : {n : ℕ} (pts : List Float) (w : List ℕ) (floats : ℕ) → Cloud n pts → Room n (length w) floats → Ready pts n w
@@ -39,14 +40,14 @@ module _ (pts : List Float) (p : Float) (words : List ℕ) (floats : List Float)
     answer-is = ap (λ (q : Refusal). q .answer) e
 
     pub outcome-refused : (r .answer ≡ 0 → ⊥) → Estimated pts p words floats (estimate (r .answer) (r .detail) (f32 0)) words floats
-    unfolding estimateOf clearedIf
+    unfolding estimateOf swept
     outcome-refused h =
         let no : passes ≡ false = ne-eqb (estimateRefusal pts p (length words) (length floats) .answer) 0 (λ z. h (answer-is ∙ z)) in
         record { result = ap (λ (q : Refusal). estimate (q .answer) (q .detail) (f32 0)) e ∙ rw no; words-left = rw no; floats-left = rw no }
 
     pub outcome-passed : (d : Float) (u : List ℕ) (f : List Float) → r .answer ≡ 0 → d ≡ optimalRadius pts (length pts / 3) p → u ≡ replicate (length words) 0 → f ≡ replicate (length floats) (f32 0)
         → Estimated pts p words floats (estimate 0 0 d) u f
-    unfolding estimateOf clearedIf
+    unfolding estimateOf swept
     outcome-passed d u f h ed eu ef =
         let yes : passes ≡ true = eq-eqb (estimateRefusal pts p (length words) (length floats) .answer) 0 (sym answer-is ∙ h) in
         record { result = ap (estimate 0 0) ed ∙ rw yes; words-left = rw yes eu; floats-left = rw yes ef }

@@ -4,13 +4,14 @@ use mathlib.Core.Bool.{Bool, false, cond}
 use mathlib.Core.Path.{_≡_}
 use mathlib.Core.List.{List, [], _∷_}
 use lib.Dec.{eqb}
-use lib.ListN.{length, replicate}
+use lib.ListN.{length}
 use lib.Ieee.{Float, inf, lt}
 use Rattle.numbers.specs.Rounded.{f32, _⊗_}
 use Rattle.vector.specs.Vector.{distance}
 use Rattle.points.specs.Points.{pointAt, stepsFrom}
 use Rattle.sorting.specs.Sorted.{sorted, percentileOf}
 use Rattle.domain.specs.Refusals.{estimateRefusal}
+use Rattle.clearing.specs.Swept.{swept}
 use Rattle.estimate.specs.declared.Estimate.{Estimate}
 
 -- the lesser of d and the distance from point i to point j, which counts only where it is another point
@@ -66,14 +67,13 @@ estimate answer detail radius = record { answer = answer; detail = detail; radiu
 unfoldable pub estimateOf : List Float → Float → ℕ → ℕ → Estimate
 estimateOf pts p words floats =
     let r = estimateRefusal pts p words floats in
-    cond (accepted pts p words floats) (estimate 0 0 (optimalRadius pts (length pts / 3) p)) (estimate (r .answer) (r .detail) (f32 0))
-
--- a work slice after the call: all zeros once the checks have passed, else untouched
-unfoldable pub clearedIf : {A : Type 0} → Bool → A → List A → List A
-clearedIf passed z w = cond passed (replicate (length w) z) w
+    cond (accepted pts p words floats) (estimate 0 0 (optimalRadius pts (length pts / 3) p))
+    (estimate (r .answer) (r .detail) (f32 0))
 
 -- what a call leaves: its result, and the two work slices whole
-pub record Estimated (pts : List Float) (p : Float) (words : List ℕ) (floats : List Float) (r : Estimate) (words' : List ℕ) (floats' : List Float) : Type 0 where
+pub record Estimated
+    (pts : List Float) (p : Float) (words : List ℕ) (floats : List Float)
+    (r : Estimate) (words' : List ℕ) (floats' : List Float) : Type 0 where
   pub result : r ≡ estimateOf pts p (length words) (length floats)
-  pub words-left : words' ≡ clearedIf (accepted pts p (length words) (length floats)) 0 words
-  pub floats-left : floats' ≡ clearedIf (accepted pts p (length words) (length floats)) (f32 0) floats
+  pub words-left : words' ≡ swept 0 (accepted pts p (length words) (length floats)) words
+  pub floats-left : floats' ≡ swept (f32 0) (accepted pts p (length words) (length floats)) floats

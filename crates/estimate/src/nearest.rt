@@ -6,7 +6,7 @@ ghost use mathlib.Core.Bool.{false};
 ghost use Prim.Native.Nat.{_+_, _*_, _≤_, _<_};
 ghost use lib.ListN.{length, take, drop};
 ghost use lib.Ieee.{inf};
-ghost use Rattle.patch.specs.Search.{Below};
+ghost use Rattle.lists.specs.Members.{Below};
 ghost use Rattle.spatial_hash.specs.Near.{HashedAll};
 ghost use Rattle.estimate.specs.Estimate.{leastDistance};
 ghost use Rattle.estimate.specs.Squares.{lesser, leastSquare, Looked};

@@ -6,7 +6,6 @@ use native.Mathlib.Omega.{arith}
 use lib.Dec.{eqb}
 use lib.ListN.{length, take}
 use lib.Ieee.{Float}
-use Rattle.patch.specs.Count.{count}
 use Rattle.patch.specs.View.{flat}
 use Rattle.settings.specs.declared.BallPivotingConfig.{BallPivotingConfig}
 use Rattle.ball_pivoting.specs.declared.Patch.{Patch}
@@ -14,6 +13,7 @@ use Rattle.ball_pivoting.specs.Reconstruct.{pointCount}
 use Rattle.ball_pivoting.specs.Outcome.{facesIn, Reconstructs}
 use Rattle.coverage.specs.Coverage.{reached, Marked}
 use Rattle.coverage.proofs.Exact.{reached-exactly}
+use Rattle.lists.specs.Lists.{count}
 
 flat-faces-in : (k : ℕ) (slice : List ℕ) → 3 * k ≤ length slice → flat (facesIn k slice) ≡ take (3 * k) slice
 unfolding flat facesIn

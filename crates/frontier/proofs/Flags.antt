@@ -7,10 +7,11 @@ use mathlib.Core.List.{List, [], _∷_, _++_, map, map-append, append-assoc}
 use native.Mathlib.Omega.{arith}
 use lib.Dec.{leb, ltb}
 use borrow.Author.Tests.{le-leb, lt-leb}
-use Rattle.patch.specs.Count.{bit, count, any}
+use Rattle.lists.specs.Lists.{bit, count, any}
 use Rattle.patch.specs.Lay.{Edge, edge, same, Face, face, edgesOf, State, push}
-use Rattle.patch.specs.View.{encode, decode}
-use Rattle.patch.proofs.Counts.{either, not-true, any-false, true-any, false-any, count-append}
+use Rattle.patch.specs.Entries.{encode, decode}
+use Rattle.lists.proofs.Bools.{either, not-true}
+use Rattle.lists.proofs.Counts.{any-false, true-any, false-any, count-append}
 use Rattle.patch.proofs.Edges.{same-key, same-refl, same-false}
 use Rattle.patch.proofs.View.{decode-encode}
 use Rattle.frontier.specs.Work.{flag, entryOf, wordsOf, Open, NoneProcessed, Tells}

@@ -8,15 +8,16 @@ use native.Mathlib.Omega.{arith}
 use lib.ListN.{length, getD, take, drop, set, replicate, length-set, length-drop, length-append}
 use lib.Seq.{getD-take, drop-set-add, take-set-lt, take-suc-set}
 use borrow.Rule.Slice.PartMut.{putMid}
-use Rattle.patch.specs.Count.{bit, count}
+use Rattle.lists.specs.Lists.{bit, count}
 use Rattle.patch.specs.Lay.{Edge, edge, Face, face, edgesOf, State, push, marked, withFace, cleared, popped, met, seeded, pivoted}
 use Rattle.patch.specs.Frontier.{noEdge, afterPop}
-use Rattle.patch.proofs.Counts.{count-append, count-all}
+use Rattle.lists.proofs.Counts.{count-append, count-all}
 use Rattle.patch.proofs.Pops.{heapOf-keeps}
 use Rattle.patch.proofs.Laying.{Room as Fits}
 use Rattle.patch.proofs.View.{map-afterPop, written-none, written-more, written-full, length-written}
 use Rattle.frontier.specs.declared.Counts.{Counts}
-use Rattle.frontier.specs.Work.{usedIn, entriesIn, flag, entryOf, wordsOf, Holds, Takes, Begins, Clears, Pops, Open, NoneProcessed, Misses, Sized, Ready, OnlyIn, Taken, Pushed, Marked, Wrote}
+use Rattle.regions.specs.Regions.{usedIn}
+use Rattle.frontier.specs.Work.{entriesIn, flag, entryOf, wordsOf, Holds, Takes, Begins, Clears, Pops, Open, NoneProcessed, Misses, Sized, Ready, OnlyIn, Taken, Pushed, Marked, Wrote}
 use Rattle.frontier.proofs.Slices.{before-same, after-same, only-none, only-set, only-wider, only-both, word-stored, tail-is, back, only-tail}
 use Rattle.frontier.proofs.Flags.{entries-kept, Fresh, fresh-pushed, fresh-words, seed-fresh, pivot-fresh}
 

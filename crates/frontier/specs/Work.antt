@@ -1,25 +1,25 @@
--- What the lent slices and the counts hold of a state of the laying, and what each part of a step asks and changes. Definitions only.
+-- What the lent slices and the counts hold of a state of the laying, and what each part of a step asks and
+-- changes. Definitions only.
 use Prim.Native.Nat.{ℕ, _+_, _-_, _*_, _≤_, _<_}
 use mathlib.Core.Path.{_≡_}
 use mathlib.Core.Logic.{_≢_}
 use mathlib.Core.Bool.{Bool, false}
 use mathlib.Core.List.{List, [], _∷_, _++_, map}
 use lib.ListN.{length, getD, take, drop}
-use Rattle.regions.specs.Regions.{usedAt, frontierAt, frontierEnd}
-use Rattle.patch.specs.Count.{bit, any}
+use Rattle.regions.specs.Regions.{usedAt, usedIn, frontierAt, frontierEnd}
+use Rattle.lists.specs.Lists.{bit, any}
 use Rattle.patch.specs.Lay.{Edge, edge, same, Face, State, seedsOf, marked, popped, cleared, pivoted, blank}
 use Rattle.patch.specs.Frontier.{afterPop, heapOf}
-use Rattle.patch.specs.View.{encode, written}
+use Rattle.patch.specs.Entries.{encode}
+use Rattle.patch.specs.View.{written}
 use Rattle.frontier.specs.declared.Counts.{Counts}
 
 -- ---- the lists in the work slice w, for n points
-abbrev pub usedIn : ℕ → List ℕ → List ℕ
-usedIn n w = take n (drop (usedAt n) w)
-
 abbrev pub entriesIn : ℕ → ℕ → List ℕ → List ℕ
 entriesIn n count w = take count (drop (frontierAt n) w)
 
--- what the word of an entry has above its edge, if the edge is processed: an edge's number is less, its points being below 4096
+-- what the word of an entry has above its edge, if the edge is processed: an edge's number is less, its points
+-- being below 4096
 abbrev pub flag : ℕ
 flag = 16777216
 
@@ -125,7 +125,8 @@ pub record Pushed (n count : ℕ) (words w u : List ℕ) : Type 0 where
 abbrev pub wordOf : ℕ → Edge → ℕ
 wordOf mark e = encode e + mark
 
--- the words of a face's edges, in the order in which they are pushed, the first with a mark above it and the others with none
+-- the words of a face's edges, in the order in which they are pushed, the first with a mark above it and the
+-- others with none
 abbrev pub wordsOf : ℕ → Face → List ℕ
 wordsOf mark f = wordOf mark (edge (f .a) (f .b)) ∷ wordOf 0 (edge (f .b) (f .c)) ∷ wordOf 0 (edge (f .c) (f .a)) ∷ []
 

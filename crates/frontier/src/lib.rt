@@ -6,9 +6,9 @@ ghost use mathlib.Core.Option.{some};
 ghost use mathlib.Core.List.{[], _∷_};
 ghost use lib.ListN.{replicate};
 ghost use Prim.Native.Nat.{_+_, _*_, _≤_, _<_};
-ghost use Rattle.regions.specs.Regions.{usedAt, frontierAt, frontierEnd};
+ghost use Rattle.regions.specs.Regions.{usedAt, frontierAt, frontierEnd, usedIn};
 ghost use Rattle.patch.specs.Lay.{edge, face, met, seeded, pivoted};
-ghost use Rattle.frontier.specs.Work.{usedIn, flag, wordOf, wordsOf, Takes, Begins, Clears, Pops, Tells, Open, NoneProcessed, Misses, Sized, Ready, Room, OnlyIn, Taken, Pushed, Marked, Wrote};
+ghost use Rattle.frontier.specs.Work.{flag, wordOf, wordsOf, Takes, Begins, Clears, Pops, Tells, Open, NoneProcessed, Misses, Sized, Ready, Room, OnlyIn, Taken, Pushed, Marked, Wrote};
 
 // What an entry has above its edge if the edge is processed.
 const FLAG: u32 = 16777216;

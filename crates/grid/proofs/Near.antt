@@ -7,11 +7,14 @@ use native.Mathlib.Omega.{arith}
 use lib.ListN.{length, take}
 use lib.Ieee.{Float}
 use Rattle.vector.specs.declared.Point3f.{Point3f}
-use Rattle.points.specs.Points.{pointAt, upFrom}
+use Rattle.points.specs.Points.{pointAt}
+use Rattle.lists.specs.Lists.{upFrom}
 use Rattle.grid.specs.declared.Cell.{Cell}
 use Rattle.grid.specs.declared.SpatialGrid.{SpatialGrid}
 use Rattle.grid.specs.Grid.{cellOf, inRange, rangeOf, keep, neighbors, byCell, orderOf}
-use Rattle.grid.specs.Index.{Cells, Indexed, Below, keepIn}
+use Rattle.grid.specs.Index.{Cells, Indexed, keepIn}
+use Rattle.lists.specs.Members.{Below}
+use Rattle.lists.proofs.Members.{below-none, below-more, below-first, below-rest}
 use Rattle.grid.proofs.Kept.{cell-of-take}
 use Rattle.grid.proofs.Sequence.{order-of-below}
 
@@ -19,7 +22,7 @@ use Rattle.grid.proofs.Sequence.{order-of-below}
 keep-is : (g : SpatialGrid) (pts : List Float) (range : ℕ) (c : Cell) (n : ℕ) (w : List ℕ) → Cells g pts n w → (js : List ℕ) → Below n js → keepIn true range c w n js ≡ keep g pts range c js
 unfolding keepIn keep
 keep-is g pts range c n w cells [] b = refl
-keep-is g pts range c n w cells (j ∷ js) b = rw (cells j (b .0), keep-is g pts range c n w cells js (b .1))
+keep-is g pts range c n w cells (j ∷ js) b = rw (cells j (below-first n j js b), keep-is g pts range c n w cells js (below-rest n j js b))
 
 keep-all : (range : ℕ) (c : Cell) (n : ℕ) (w js : List ℕ) → keepIn false range c w n js ≡ js
 unfolding keepIn
@@ -35,11 +38,11 @@ near-is g false pts n w p r x = keep-all (rangeOf g r) (cellOf g p) n w (upFrom 
 -- ---- every neighbour is a point
 keep-below : (g : SpatialGrid) (pts : List Float) (range : ℕ) (c : Cell) (n : ℕ) (js : List ℕ) → Below n js → Below n (keep g pts range c js)
 unfolding keep
-keep-below g pts range c n [] b = tt
-keep-below g pts range c n (j ∷ js) b = go (inRange range c (cellOf g (pointAt pts j))) (keep-below g pts range c n js (b .1))
+keep-below g pts range c n [] b = below-none n
+keep-below g pts range c n (j ∷ js) b = go (inRange range c (cellOf g (pointAt pts j))) (keep-below g pts range c n js (below-rest n j js b))
   where
     go : (t : Bool) → Below n (keep g pts range c js) → Below n (cond t (j ∷ keep g pts range c js) (keep g pts range c js))
-    go true r = (b .0, r)
+    go true r = below-more n j (keep g pts range c js) (below-first n j js b) r
     go false r = r
 
 pub neighbors-below : (indexed : Bool) (g : SpatialGrid) (pts : List Float) (n : ℕ) (p : Point3f) (r : Float) → Below n (neighbors indexed g pts n p r)

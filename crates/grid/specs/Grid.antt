@@ -9,7 +9,8 @@ use Rattle.numbers.specs.Rounded.{_⊖_, _⊘_}
 use Rattle.numbers.specs.Order.{minimum}
 use Rattle.numbers.specs.Cut.{cut, ceil}
 use Rattle.vector.specs.declared.Point3f.{Point3f}
-use Rattle.points.specs.Points.{pointAt, upFrom}
+use Rattle.points.specs.Points.{pointAt}
+use Rattle.lists.specs.Lists.{upFrom}
 use Rattle.sorting.specs.Insertion.{insertBefore}
 use Rattle.grid.specs.declared.SpatialGrid.{SpatialGrid}
 use Rattle.grid.specs.declared.Cell.{Cell}
@@ -51,7 +52,8 @@ before c d = ltb (c .x) (d .x) || (eqb (c .x) (d .x) && (ltb (c .y) (d .y) || (e
 unfoldable pub precedes : SpatialGrid → List Float → ℕ → ℕ → Bool
 precedes g pts i j = before (cellOf g (pointAt pts i)) (cellOf g (pointAt pts j))
 
--- the first m points ordered by cell, then by number: each in turn goes before the first one whose cell comes after its own
+-- the first m points ordered by cell, then by number: each in turn goes before the first one whose cell comes
+-- after its own
 unfoldable pub byCell : SpatialGrid → List Float → ℕ → List ℕ
 byCell g pts zero = []
 byCell g pts (suc m) = insertBefore (precedes g pts m) m (byCell g pts m)
@@ -78,6 +80,7 @@ keep g pts range c (j ∷ js) =
     let later = keep g pts range c js in
     cond (inRange range c (cellOf g (pointAt pts j))) (j ∷ later) later
 
--- the neighbours of a place at a radius, of n points: by cell, then by number; without the index all points in number order
+-- the neighbours of a place at a radius, of n points: by cell, then by number; without the index all points in
+-- number order
 unfoldable pub neighbors : Bool → SpatialGrid → List Float → ℕ → Point3f → Float → List ℕ
 neighbors indexed g pts n p r = cond indexed (keep g pts (rangeOf g r) (cellOf g p) (byCell g pts n)) (upFrom 0 n)

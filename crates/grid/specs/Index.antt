@@ -27,11 +27,6 @@ pub record Indexed (g : SpatialGrid) (pts : List Float) (n : ℕ) (w : List ℕ)
 
 -- ---- the definitions of Grid.antt, over the kept cells
 
--- each number is below n
-abbrev pub Below : ℕ → List ℕ → Type 0
-Below n [] = Unit
-Below n (j ∷ js) = (j < n) × Below n js
-
 -- the cell of point i comes before that of point j
 unfoldable pub precedesIn : List ℕ → ℕ → ℕ → ℕ → Bool
 precedesIn w n i j = before (cellIn w n i) (cellIn w n j)

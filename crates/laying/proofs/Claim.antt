@@ -5,7 +5,7 @@ use mathlib.Core.List.{List, []}
 use lib.ListN.{length}
 use lib.Ieee.{Float}
 use Rattle.patch.specs.Lay.{State, seedsOf, patch}
-use Rattle.patch.specs.Shape.{Shaped}
+use Rattle.patch.specs.Fair.{Shaped}
 use Rattle.patch.specs.Frontier.{heapOf}
 use Rattle.patch.proofs.Claim as any-floats
 use Rattle.decisions.specs.declared.Scene.{Scene}

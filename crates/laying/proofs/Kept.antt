@@ -16,10 +16,9 @@ use Rattle.grid.proofs.Near.{indexed-kept}
 use Rattle.spatial_hash.specs.Near.{Hashed}
 use Rattle.spatial_hash.specs.Buckets.{isOut}
 use Rattle.spatial_hash.proofs.Kept.{linked-behind, hashed-all-behind, all-hashed}
-use Rattle.patch.specs.Count.{bit, count}
+use Rattle.lists.specs.Lists.{bit, count, unused}
 use Rattle.patch.specs.Lay.{Edge, State, marked}
-use Rattle.patch.specs.Search.{unused}
-use Rattle.patch.proofs.Counts.{either}
+use Rattle.lists.proofs.Bools.{either}
 use Rattle.spatial_hash.specs.declared.Hash.{Hash}
 use Rattle.decisions.specs.declared.Scene.{Scene}
 use Rattle.nearby.specs.Ready.{Kept}
@@ -31,7 +30,8 @@ use Rattle.seed.specs.declared.Seed.{Seed}
 use Rattle.seed.specs.declared.Seed.the-variants.{Triangle, Nothing}
 use Rattle.seed.specs.Found.{seedFound}
 use Rattle.frontier.specs.declared.Counts.{Counts}
-use Rattle.frontier.specs.Work.{usedIn, Holds, Sized, OnlyIn}
+use Rattle.regions.specs.Regions.{usedIn}
+use Rattle.frontier.specs.Work.{Holds, Sized, OnlyIn}
 use Rattle.frontier.proofs.Slices.{before-same, after-same, only-wider}
 use Rattle.laying.specs.Laying.{Ground, Footing, Without}
 

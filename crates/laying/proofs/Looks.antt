@@ -5,16 +5,17 @@ use mathlib.Core.Bool.{Bool, true, false}
 use mathlib.Core.List.{List, _∷_}
 use native.Mathlib.Omega.{arith}
 use lib.Ieee.{Float}
-use Rattle.patch.specs.Count.{any}
+use Rattle.lists.specs.Lists.{any}
 use Rattle.patch.specs.Lay.{Edge, same, State, popped}
 use Rattle.patch.specs.Frontier.{heapOf}
-use Rattle.patch.specs.View.{decode}
-use Rattle.patch.proofs.Inv.{Inv}
+use Rattle.patch.specs.Entries.{decode}
+use Rattle.patch.specs.Invariant.{Inv}
 use Rattle.patch.proofs.Laying.{room}
 use Rattle.spatial_hash.specs.declared.Hash.{Hash}
 use Rattle.decisions.specs.declared.Scene.{Scene}
 use Rattle.frontier.specs.declared.Counts.{Counts}
-use Rattle.frontier.specs.Work.{usedIn, entryOf, Holds, Pops, Tells, Ready, OnlyIn}
+use Rattle.regions.specs.Regions.{usedIn}
+use Rattle.frontier.specs.Work.{entryOf, Holds, Pops, Tells, Ready, OnlyIn}
 use Rattle.frontier.proofs.Flags.{word-decoded}
 use Rattle.frontier.proofs.Work.{ready}
 use Rattle.laying.specs.Laying.{Footing, pivotOver, looked, Lays, Opened, Standing, Pivoting}

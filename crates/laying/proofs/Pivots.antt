@@ -9,11 +9,12 @@ use borrow.Author.Tests.{eqb-true, eq-eqb}
 use lib.Dec.{eqb}
 use lib.ListN.{length, take}
 use lib.Ieee.{Float}
-use Rattle.patch.specs.Count.{bit, count, any}
-use Rattle.patch.specs.Lay.{Edge, edge, same, State, popped, met, pivoted, withFace, marked, look, next, Free, Fair}
+use Rattle.lists.specs.Lists.{bit, count, any}
+use Rattle.patch.specs.Lay.{Edge, edge, same, State, popped, met, pivoted, withFace, marked, look, next}
+use Rattle.patch.specs.Fair.{Free, Fair}
 use Rattle.patch.specs.Frontier.{heapOf}
-use Rattle.patch.proofs.Counts.{bit-true, count-all}
-use Rattle.patch.proofs.Inv.{Inv}
+use Rattle.lists.proofs.Counts.{bit-true, count-all}
+use Rattle.patch.specs.Invariant.{Inv}
 use Rattle.patch.proofs.Looks.{Looked, distinct}
 use Rattle.patch.proofs.Laying.{Room as Fits, look-looked}
 use Rattle.patch.proofs.Look.{look-skip, look-pivot, free-v1, free-v2, face-room, popped-below, popped-room, popped-alone}

@@ -10,12 +10,13 @@ use lib.Dec.{eqb}
 use lib.ListN.{length, take, getD}
 use lib.Seq.{take-suc}
 use lib.Ieee.{Float}
-use Rattle.patch.specs.Count.{bit, count}
-use Rattle.patch.specs.Lay.{State, Rules, Pop, marked, withFace, cleared, seeded, run, begun, layOne, layAll, patch, blank, FreeSeed}
+use Rattle.lists.specs.Lists.{bit, count}
+use Rattle.patch.specs.Lay.{State, Rules, Pop, marked, withFace, cleared, seeded, run, begun, layOne, layAll, patch, blank}
+use Rattle.patch.specs.Fair.{FreeSeed}
 use Rattle.patch.specs.Frontier.{heapOf}
-use Rattle.patch.proofs.Inv.{Inv}
+use Rattle.patch.specs.Invariant.{Inv, Rest}
 use Rattle.patch.proofs.Looks.{clear-inv, seed-inv}
-use Rattle.patch.proofs.Laying.{Rest, room, layAll-rest, blank-rest}
+use Rattle.patch.proofs.Laying.{room, layAll-rest, blank-rest}
 use Rattle.patch.proofs.Pops.{heapOf-keeps}
 use Rattle.spatial_hash.specs.declared.Hash.{Hash}
 use Rattle.decisions.specs.declared.Scene.{Scene}

@@ -7,7 +7,7 @@ use lib.ListN.{length}
 use lib.Ieee.{Float}
 use Rattle.patch.specs.Lay.{Edge, State, next, run}
 use Rattle.patch.specs.Frontier.{heapOf}
-use Rattle.patch.proofs.Inv.{Inv}
+use Rattle.patch.specs.Invariant.{Inv}
 use Rattle.patch.proofs.Laying.{room, run-idle}
 use Rattle.patch.proofs.Pops.{heapOf-keeps}
 use Rattle.spatial_hash.specs.declared.Hash.{Hash}

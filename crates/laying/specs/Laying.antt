@@ -8,12 +8,11 @@ use lib.ListN.{length, take}
 use lib.Ieee.{Float}
 use Rattle.regions.specs.Regions.{linksAt}
 use Rattle.grid.specs.Index.{Indexed}
-use Rattle.patch.specs.Count.{count, any}
+use Rattle.lists.specs.Lists.{count, any}
 use Rattle.patch.specs.Lay.{Edge, same, State, Rules, popped, met, pivoted, next}
 use Rattle.patch.specs.Frontier.{heapOf}
 use Rattle.patch.specs.Search.{searching}
-use Rattle.patch.proofs.Inv.{Inv}
-use Rattle.patch.proofs.Laying.{Rest}
+use Rattle.patch.specs.Invariant.{Inv, Rest}
 use Rattle.spatial_hash.specs.declared.Hash.{Hash}
 use Rattle.spatial_hash.specs.Near.{Linked, Hashed, HashedAll}
 use Rattle.spatial_hash.specs.Buckets.{linksOf, isOut}

@@ -9,17 +9,18 @@ use lib.Dec.{eqb, ltb}
 use lib.Ieee.{Float}
 use borrow.Author.Tests.{ltb-true, ltb-false, lt-ltb, le-ltb, eqb-true, eqb-false, eq-eqb, ne-eqb}
 use Rattle.vector.specs.declared.Point3f.{Point3f}
-use Rattle.points.specs.Points.{upFrom}
+use Rattle.lists.specs.Lists.{upFrom, bit, count}
 use Rattle.sorting.specs.Insertion.{insertBefore}
 use Rattle.grid.specs.declared.SpatialGrid.{SpatialGrid}
 use Rattle.grid.specs.declared.Cell.{Cell}
 use Rattle.grid.specs.Grid.{cellOf, before, precedes, byCell, orderOf, rangeOf, keep, neighbors}
 use Rattle.grid.specs.Index.{earlier}
-use Rattle.grid.proofs.Sequence.{up-below, by-cell-below, snoc-up, insert-alike, earlier-last}
-use Rattle.patch.specs.Count.{bit, count}
-use Rattle.patch.proofs.Counts.{either, true-not-false, upto}
-use Rattle.sifting.specs.Sift.{only}
-use Rattle.sifting.proofs.Only.{only-all, insert-count}
+use Rattle.lists.proofs.Members.{up-below, only-all}
+use Rattle.grid.proofs.Sequence.{by-cell-below, snoc-up, insert-alike, earlier-last}
+use Rattle.lists.proofs.Bools.{either, true-not-false}
+use Rattle.lists.proofs.Counts.{upto}
+use Rattle.lists.specs.Members.{only}
+use Rattle.sorting.proofs.Counting.{insert-count}
 use Rattle.nearby.specs.Narrow.{cellAt, inCells}
 use Rattle.nearby.proofs.Ordered.{Strict, Sorted, sorted-insert}
 

@@ -18,17 +18,17 @@ use Rattle.sorting.proofs.Insertion.{part-length, part-at}
 use Rattle.grid.specs.declared.SpatialGrid.{SpatialGrid}
 use Rattle.grid.specs.declared.Cell.{Cell}
 use Rattle.grid.specs.Grid.{rangeOf, orderOf}
-use Rattle.grid.specs.Index.{cellIn, Cells, Below, earlier}
+use Rattle.grid.specs.Index.{cellIn, Cells, earlier}
+use Rattle.lists.specs.Members.{Below, only, In}
 use Rattle.grid.proofs.Sequence.{insert-below, insert-alike}
 use Rattle.spatial_hash.specs.declared.Hash.{Hash}
 use Rattle.bounds.specs.Within.{Limit}
-use Rattle.sifting.specs.Sift.{only, isWithin, Sifted}
-use Rattle.sifting.proofs.Only.{In, in-at, only-both, only-count, only-fewer, only-at-most}
+use Rattle.sifting.specs.Sift.{isWithin, Sifted}
+use Rattle.lists.proofs.Members.{below-none, in-at, only-both, only-count, only-fewer, only-at-most}
 use Rattle.sifting.proofs.Parts.{drop-more, word-same, part-step, part-end}
 use Rattle.spatial_hash.specs.Near.{Hashed, Near}
-use Rattle.patch.specs.Count.{count}
-use Rattle.patch.specs.Search.{unused, Below as Points}
-use Rattle.patch.proofs.Counts.{and-both}
+use Rattle.lists.specs.Lists.{count, unused}
+use Rattle.lists.proofs.Bools.{and-both}
 use Rattle.decisions.specs.declared.Scene.{Scene}
 use Rattle.decisions.specs.Decisions.{apart}
 use Rattle.nearby.specs.declared.Filter.{Filter}
@@ -74,7 +74,7 @@ pub record Narrowing (s : Scene) (pts : List Float) (f : Filter) (w₀ w : List 
 
 module _ {s : Scene} {pts : List Float} {f : Filter} {w₀ : List ℕ} {found : ℕ} where
   pub narrow-start : Narrowing s pts f w₀ w₀ found 0 0
-  narrow-start = record { same = refl; most = omega arith; inside = omega arith; below = tt; unread = refl; rest = refl; kept = kept-self s w₀ }
+  narrow-start = record { same = refl; most = omega arith; inside = omega arith; below = below-none (s .n); unread = refl; rest = refl; kept = kept-self s w₀ }
 
   module _ (held : Held s pts w₀) (points : Listed s w₀ found) {w : List ℕ} {count m : ℕ} (k : Narrowing s pts f w₀ w found count m) where
     pub narrow-end : found ≤ m → Narrowed s pts f w₀ w found count
@@ -158,7 +158,7 @@ out-of-reach pts used r a k t l h = go (unused used k) refl (lt t (squared (poin
     go true e true g h = inr (beyond pts r k a t l g)
     go true e false g h = absurd (let z : _≡_ {A = ℕ} 0 1 = cc in omega arith)
 
-narrowed-only : (s : Scene) (pts : List Float) (f : Filter) (used js : List ℕ) → Points (s .n) js → ((k : ℕ) → count (eqb k) js ≤ 1)
+narrowed-only : (s : Scene) (pts : List Float) (f : Filter) (used js : List ℕ) → Below (s .n) js → ((k : ℕ) → count (eqb k) js ≤ 1)
     → ((k : ℕ) → k < s .n → unused used k ≡ true → isWithin pts (f .center) (f .limit) k ≡ true → 1 ≤ count (eqb k) js)
     → insertAll (earlier (s .indexed) (cellAt (s .grid) pts)) (passes s pts used f) [] js
     ≡ only (inReach pts used (f .center) (f .limit)) (only (inCells (s .indexed) (s .grid) pts (f .range) (f .cell)) (orderOf (s .indexed) (s .grid) pts (s .n)))
@@ -218,7 +218,7 @@ module _ {s : Scene} {pts : List Float} {f : Filter} {w u : List ℕ} {found : �
       fewer k h = subst (λ (l : List ℕ). In k l) (x .same) h
 
 -- listed numbers below n are points of the cloud
-pub below-listed : {s : Scene} {u : List ℕ} {r : ℕ} → 24 * s .n + 64 ≤ length u → r ≤ s .n → Points (s .n) (listed s u r) → Listed s u r
+pub below-listed : {s : Scene} {u : List ℕ} {r : ℕ} → 24 * s .n + 64 ≤ length u → r ≤ s .n → Below (s .n) (listed s u r) → Listed s u r
 below-listed {s} {u = u} {r = r} long most below = record {
   most = most;
   below = λ (m : ℕ) (h : m < r).

@@ -8,10 +8,11 @@ use native.Mathlib.Omega.{arith}
 use lib.Dec.{eqb, ltb}
 use borrow.Author.Tests.{eqb-true, eqb-false, eq-eqb, lt-ltb, ltb-true}
 use Rattle.sorting.specs.Insertion.{insertBefore}
-use Rattle.patch.specs.Count.{bit, count}
-use Rattle.patch.proofs.Counts.{either, not-true, true-not-false}
-use Rattle.sifting.specs.Sift.{only}
-use Rattle.sifting.proofs.Only.{In, in-head, in-cases, only-count, only-none, only-fewer, insert-count}
+use Rattle.lists.specs.Lists.{bit, count}
+use Rattle.lists.proofs.Bools.{either, not-true, true-not-false}
+use Rattle.lists.specs.Members.{only, In}
+use Rattle.lists.proofs.Members.{in-head, in-cases, only-count, only-none, only-fewer}
+use Rattle.sorting.proofs.Counting.{insert-count}
 use Rattle.nearby.specs.Narrow.{insertAll}
 
 -- ---- in order

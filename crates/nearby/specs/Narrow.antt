@@ -13,9 +13,9 @@ use Rattle.grid.specs.declared.Cell.{Cell}
 use Rattle.grid.specs.Grid.{cellOf, inRange, rangeOf, neighbors}
 use Rattle.grid.specs.Index.{earlier}
 use Rattle.bounds.specs.Within.{Limit}
-use Rattle.sifting.specs.Sift.{only, isWithin}
-use Rattle.patch.specs.Count.{count}
-use Rattle.patch.specs.Search.{unused, Below}
+use Rattle.lists.specs.Members.{only, Below}
+use Rattle.sifting.specs.Sift.{isWithin}
+use Rattle.lists.specs.Lists.{count, unused}
 use Rattle.decisions.specs.declared.Scene.{Scene}
 use Rattle.nearby.specs.declared.Filter.{Filter}
 use Rattle.nearby.specs.Ready.{usedIn, listed, Kept}

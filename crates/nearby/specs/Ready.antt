@@ -5,6 +5,7 @@ use mathlib.Core.List.{List}
 use lib.ListN.{length, take, drop, getD}
 use lib.Ieee.{Float}
 use Rattle.regions.specs.Regions.{neighborsAt, usedAt}
+use Rattle.regions.specs.Regions as regions
 use Rattle.decisions.specs.declared.Scene.{Scene}
 
 -- the slices are long enough for the cloud
@@ -15,7 +16,7 @@ pub record Held (s : Scene) (points : List Float) (w : List ℕ) : Type 0 where
 
 -- of each point whether it is used
 abbrev pub usedIn : Scene → List ℕ → List ℕ
-usedIn s w = take (s .n) (drop (usedAt (s .n)) w)
+usedIn s w = regions.usedIn (s .n) w
 
 -- the neighbours that were asked for last
 abbrev pub listed : Scene → List ℕ → ℕ → List ℕ

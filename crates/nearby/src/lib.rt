@@ -9,7 +9,7 @@ ghost use lib.ListN.{length};
 ghost use Rattle.grid.specs.Index.{Cells};
 ghost use Rattle.vector.specs.Vector.{Finite};
 ghost use Rattle.spatial_hash.specs.Near.{Hashed};
-ghost use Rattle.patch.specs.Search.{unused};
+ghost use Rattle.lists.specs.Lists.{unused};
 ghost use Rattle.nearby.specs.Ready.{Held, Listed, usedIn};
 ghost use Rattle.nearby.specs.Narrow.{passes, Filters, Collected, Narrowed};
 

@@ -13,14 +13,10 @@ use lib.Ieee.Scale.{finite}
 use lib.Ieee.Positive.{num, den, den-pos}
 use Rattle.numbers.specs.Rounded.{_⊕_, _⊖_, _⊗_}
 use Rattle.numbers.specs.Root.{root}
-use Rattle.numbers.proofs.OrderLaws.{plus, minus, side, le→side, of-finite, le-trans, unsigned}
+use Rattle.numbers.proofs.OrderLaws.{plus, minus, side, le→side, of-finite, le-trans}
+use Rattle.numbers.specs.Bounds.{unsigned, Bounded}
 use Rattle.numbers.proofs.RoundedOrder.{Rounds, above, under, round-neg, round-unsigned, neg-le, rounds-le}
 use Rattle.numbers.proofs.SumOrder.{rounds-add, add-monotone, neg-finite}
-
--- x lies between -v and v
-pub record Bounded (x v : Float) : Type 0 where
-  pub upper : T (le x v)
-  pub lower : T (le (neg v) x)
 
 pub neg-neg : (x : Float) → neg (neg x) ≡ x
 unfolding neg

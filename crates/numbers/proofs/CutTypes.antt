@@ -11,9 +11,9 @@ use lib.Ieee.{Float, nan, inf, fin, binary32, up, down, le, lt, fits, odd, ofInt
 use lib.Ieee.Exact.{HasValue, odd-sign}
 use Rattle.numbers.specs.Rounded.{f32}
 use Rattle.numbers.specs.Cut.{cut, ceil}
-use Rattle.numbers.proofs.OrderLaws.{unsigned}
 use Rattle.numbers.proofs.RoundedOrder.{nonnegative-minus}
 use Rattle.numbers.proofs.Cuts.{power, ceil-large, ceil-up, ceil-stay}
+use Rattle.numbers.specs.Bounds.{unsigned}
 
 -- ---- to an i32
 nothing : (m : ℕ) (e : ℤ) → m * up e ≡ 0 → m * up e / down e ≡ 0

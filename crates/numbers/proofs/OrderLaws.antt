@@ -17,6 +17,7 @@ use lib.Ieee.Exact.{HasValue}
 use lib.Ieee.Scale.{finite}
 use lib.Ieee.Positive.{den, den-pos}
 use Rattle.numbers.specs.Rounded.{f32}
+use Rattle.numbers.specs.Bounds.{unsigned}
 
 -- ---- tests
 
@@ -251,12 +252,6 @@ pub le-lt-trans : (x y z : Float) → T (le x y) → T (lt y z) → T (lt x z)
 le-lt-trans x y z p q = elim (le-or-lt z x (le-right y z (lt-le y z q)) (le-left x y p)) [ inl k ↦ absurd (le-not-lt z y (le-trans z x y k p) q) | inr k ↦ k ]
 
 -- ---- +0 and up
-
--- not a NaN, and without a minus sign: +0, all above it, and +infinity
-abbrev pub unsigned : Float → Bool
-unsigned nan = false
-unsigned (inf s) = not s
-unsigned (fin s m e) = not s
 
 pub unsigned-number : (x : Float) → T (unsigned x) → T (not (isNan x))
 unfolding isNan

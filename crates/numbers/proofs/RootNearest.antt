@@ -1,9 +1,4 @@
--- `root` is the square root that IEEE 754 asks for: for every finite f32 x above zero, `root x` is a finite f32 above zero, strictly nearer to the true root
--- than every other f32, so no tie occurs (`root-nearest`).
--- It is said over whole numbers. Let x be X units of 2^-298, and let `root x` and another f32 y be R and Y units of 2^-149, which every finite f32 of sign + is
--- a whole number of (`f32-whole`). Then the true root of x is √X units of 2^-149, and R is nearer to it than Y exactly where the middle of the two, (R + Y) / 2,
--- lies on Y's side of √X: below it for a smaller Y, (R + Y)^2 < 4X, and above it for a larger one, 4X < (R + Y)^2.
--- Of the f32 that are no such Y, one below zero is farther from √X than 0 is, and an infinity is farther than any number.
+-- `root` is the square root that IEEE 754 asks for, strictly nearest to the true root (`root-nearest`), as specs/Nearest says it. Assumes nothing.
 use mathlib.Core.Path.{_≡_, sym, ap, _∙_, subst}
 use Prim.Native.Nat.{ℕ, zero, suc, _+_, _*_, _^_, _≤_, _<_, zero-le}
 use native.Mathlib.Nat.{le-of-lt, le-trans, lt-of-lt-of-le, lt-of-le-of-lt, mul-pos, mul-le-mul-left, mul-le-mul-right, mul-lt-mul-of-pos-right, lt-of-mul-lt-mul-right}
@@ -16,14 +11,11 @@ use lib.Ieee.{Float, nan, inf, fin, binary32, units, fits}
 use lib.Ieee.Exact.{HasValue}
 use lib.Ieee.Positive.{positive, value-pos}
 use Rattle.numbers.specs.Root.{nearestRoot, rootOfUnits, root}
+use Rattle.numbers.specs.Nearest.{Nearer, IsNearest}
 use Rattle.numbers.proofs.RootWhole.{Near, nearest-near, nearest-bounds}
 use Rattle.numbers.proofs.RootPattern.{units-fits, units-value}
 use Rattle.numbers.proofs.RootUnits.{finer, scaled, root-of-value}
 use Rattle.numbers.proofs.RootGrid.{Grid, f32-whole, on-grid, coarse, scaling, below-top}
-
--- R is strictly nearer to √X than Y is, unless they are equal
-abbrev pub Nearer : ℕ → ℕ → ℕ → Type 0
-Nearer X R Y = (Y < R → (R + Y) * (R + Y) < 4 * X) × (R < Y → 4 * X < (R + Y) * (R + Y))
 
 -- ---- w against u units of p, by squares
 
@@ -91,15 +83,6 @@ nearer n r h Y x lo b g =
     subst (λ (z : ℕ). Nearer (n * z) (r * p) Y) (sym (even-power h)) (smaller n r p Y (pow-pos h) x lo b c, larger n r p Y (pow-pos h) x b c)
 
 -- ---- the theorem
-
-pub record IsNearest (x : Float) : Type 0 where
-  pub X : ℕ
-  pub R : ℕ
-  pub argument : HasValue x false X (2 ^ 298)
-  pub result : HasValue (root x) false R (2 ^ 149)
-  pub held : T (fits binary32 (root x))
-  pub above-zero : 0 < R
-  pub nearest : (y : Float) (Y : ℕ) → T (fits binary32 y) → HasValue y false Y (2 ^ 149) → Nearer X R Y
 
 -- from the number of units a of 2^-149
 of-units : (x : Float) (a : ℕ) → T (fits binary32 x) → 0 < a → HasValue x false a (2 ^ 149) → IsNearest x

@@ -16,7 +16,8 @@ use lib.Ieee.Order.{round-mono, kept, drop}
 use lib.Ieee.Scale.{finite}
 use lib.Ieee.Positive.{num, den}
 use Rattle.numbers.specs.Rounded.{f32}
-use Rattle.numbers.proofs.OrderLaws.{plus, minus, side, le→side, side→le, le-left, le-trans, unsigned, unsigned-le, value-unique}
+use Rattle.numbers.proofs.OrderLaws.{plus, minus, side, le→side, side→le, le-left, le-trans, unsigned-le, value-unique}
+use Rattle.numbers.specs.Bounds.{unsigned}
 use Rattle.numbers.proofs.RootGrid.{f32-whole, below-top}
 
 -- ---- the sign

@@ -4,9 +4,9 @@ use mathlib.Core.Path.{_≡_}
 use mathlib.Core.List.{List, []}
 use lib.ListN.{length}
 use Rattle.patch.specs.Lay.{State, seedsOf, patch}
-use Rattle.patch.specs.Shape.{Shaped}
+use Rattle.patch.specs.Fair.{Shaped, Within}
 use Rattle.patch.specs.Frontier.{heapOf}
-use Rattle.patch.specs.Search.{Floats, Within, searching}
+use Rattle.patch.specs.Search.{Floats, searching}
 use Rattle.patch.proofs.Laying.{patch-shape, finished, patch-few, never-stopped}
 use Rattle.patch.proofs.Pops.{heapOf-keeps}
 use Rattle.patch.proofs.Searching.{searching-fair}

@@ -7,10 +7,11 @@ use mathlib.Core.List.{List}
 use native.Mathlib.Omega.{arith}
 use lib.Dec.{eqb}
 use borrow.Author.Tests.{eqb-true, eqb-false, eq-eqb, ne-eqb}
-use Rattle.patch.specs.Count.{bit, count, any}
+use Rattle.lists.specs.Lists.{bit, count, any}
 use Rattle.patch.specs.Lay.{Edge, edge, same, Face, pointsOf, edgesOf}
 use Rattle.patch.specs.Shape.{touches, has}
-use Rattle.patch.proofs.Counts.{either, not-true, true-not-false, bit-le, and-both, any-true, any-false, false-any, any-bit, count-mono, count-ext}
+use Rattle.lists.proofs.Bools.{either, not-true, true-not-false, and-both}
+use Rattle.lists.proofs.Counts.{bit-le, any-true, any-false, false-any, any-bit, count-mono, count-ext}
 
 -- ---- two numbers, direction aside
 in-first : (x y a b : ℕ) → min x y ≡ min a b → max x y ≡ max a b → x ≢ a → x ≢ b → ⊥

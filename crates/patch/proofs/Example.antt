@@ -9,20 +9,20 @@ use native.Mathlib.Omega.{arith}
 use lib.Dec.{leb}
 use lib.Ieee.{binary32, ofBits, lt}
 use lib.ListN.{getD}
-use Rattle.patch.specs.Count.{any}
+use Rattle.lists.specs.Lists.{any, upFrom}
 use Rattle.patch.specs.Lay.{edge, same, Face, face, Pop, push, marked, withFace, seeded, cleared, popped, met, pivoted, judged, look, next, run, begun, layOne, layAll, patch}
 use Rattle.patch.specs.Shape.{Shape, has, touches, newPoints}
 use Rattle.patch.specs.Frontier.{sift, afterPop, heapOf}
-use Rattle.patch.specs.Search.{Floats, isSecond, isThird, thirdOf, secondOf, firstOf, scoreOf, bestOf, numbers, searching}
+use Rattle.patch.specs.Search.{Floats, isSecond, isThird, thirdOf, secondOf, firstOf, scoreOf, bestOf, searching}
 use Rattle.patch.proofs.Pops.{queueOf}
 
 abbrev toy : Floats ℕ
 toy = record {
-  near = λ r i. numbers 12 0;
+  near = λ r i. upFrom 0 12;
   close = λ r i j. true;
   fits = λ r i j k. true;
   pivotable = λ r e. true;
-  around = λ r e. numbers 12 0;
+  around = λ r e. upFrom 0 12;
   score = λ r e k. cond (leb k (r * 7)) (some (ofBits binary32 0x3f800000)) none;
 }
 
@@ -37,7 +37,7 @@ flags = true ∷ false ∷ false ∷ false ∷ false ∷ false ∷ true ∷ fals
 toy-patches : said heapOf ∷ said queueOf ∷ [] ≡
     (face 0 1 2 ∷ face 0 1 3 ∷ face 1 2 4 ∷ face 3 0 5 ∷ face 2 4 6 ∷ face 4 1 7 ∷ face 8 9 10 ∷ face 8 9 11 ∷ [], 24, 18, flags)
     ∷ (face 0 1 2 ∷ face 0 1 3 ∷ face 1 2 4 ∷ face 2 0 5 ∷ face 1 3 6 ∷ face 3 0 7 ∷ face 8 9 10 ∷ face 8 9 11 ∷ [], 24, 18, flags) ∷ []
-unfolding any same push marked withFace seeded cleared popped met pivoted judged look next run begun layOne layAll patch sift afterPop isSecond isThird thirdOf secondOf firstOf scoreOf bestOf numbers searching lt ofBits
+unfolding any same push marked withFace seeded cleared popped met pivoted judged look next run begun layOne layAll patch sift afterPop isSecond isThird thirdOf secondOf firstOf scoreOf bestOf upFrom searching lt ofBits
 toy-patches = refl
 
 -- frontier A, B, C, D empties as A, C, B, D

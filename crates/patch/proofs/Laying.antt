@@ -8,12 +8,14 @@ use mathlib.Core.Option.{Option, none, some}
 use native.Mathlib.Omega.{arith}
 use lib.Dec.{eqb}
 use lib.ListN.{length, getD, replicate, length-replicate}
-use Rattle.patch.specs.Count.{bit, count, any}
-use Rattle.patch.specs.Lay.{Edge, same, State, seedsOf, Rules, Pop, popped, met, pivoted, seeded, cleared, judged, look, next, run, begun, layOne, layAll, blank, patch, Fair, Keeps}
-use Rattle.patch.specs.Shape.{touches, has, Shaped}
-use Rattle.patch.proofs.Counts.{any-true, true-any, pigeons}
+use Rattle.lists.specs.Lists.{bit, count, any}
+use Rattle.patch.specs.Lay.{Edge, same, State, seedsOf, Rules, Pop, popped, met, pivoted, seeded, cleared, judged, look, next, run, begun, layOne, layAll, blank, patch}
+use Rattle.patch.specs.Fair.{Fair, Keeps, Shaped}
+use Rattle.patch.specs.Shape.{touches, has}
+use Rattle.lists.proofs.Counts.{any-true, true-any, pigeons}
 use Rattle.patch.proofs.Edges.{laid-v1, laid-v2}
-use Rattle.patch.proofs.Inv.{Inv, waiting, touched-used}
+use Rattle.patch.specs.Invariant.{Inv, waiting, Rest}
+use Rattle.patch.proofs.Inv.{touched-used}
 use Rattle.patch.proofs.Looks.{Looked, skip-looked, miss-looked, grow-looked, clear-inv, seed-inv, seed-frontier}
 
 -- ---- between two looks
@@ -47,11 +49,6 @@ module _ (n : ℕ) (s : State) (inv : Inv n s) where
       let w = inv .edgewise e in
       let point : (x : ℕ) → 1 ≤ count (touches x) (s .faces) → x < n = λ x m. inv .pointwise x .used-below (touched-used n x _ _ (inv .pointwise x) m) in
       (point (e .v1) (omega (arith, laid-v1 e (s .faces))), point (e .v2) (omega (arith, laid-v2 e (s .faces))))
-
--- ---- between two radii
-pub record Rest (n : ℕ) (s : State) : Type 0 where
-  pub inv : Inv n s
-  pub idle : s .frontier ≡ []
 
 nil : {A : Type 0} (xs : List A) → length xs ≤ 0 → xs ≡ []
 nil [] h = refl

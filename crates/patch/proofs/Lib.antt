@@ -1,4 +1,3 @@
-pub mod Counts
 pub mod Edges
 pub mod Inv
 pub mod Steps

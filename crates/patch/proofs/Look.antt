@@ -9,11 +9,13 @@ use native.Mathlib.Omega.{arith}
 use lib.Dec.{eqb}
 use borrow.Author.Tests.{eqb-true}
 use lib.ListN.{length}
-use Rattle.patch.specs.Count.{bit, count, any}
-use Rattle.patch.specs.Lay.{Edge, same, State, seedsOf, Rules, Pop, popped, met, pivoted, judged, look, next, run, Free}
-use Rattle.patch.proofs.Counts.{either, any-false, false-any, count-all, pigeons}
+use Rattle.lists.specs.Lists.{bit, count, any}
+use Rattle.patch.specs.Lay.{Edge, same, State, seedsOf, Rules, Pop, popped, met, pivoted, judged, look, next, run}
+use Rattle.patch.specs.Fair.{Free}
+use Rattle.lists.proofs.Bools.{either}
+use Rattle.lists.proofs.Counts.{any-false, false-any, count-all, pigeons}
 use Rattle.patch.proofs.Edges.{same-refl}
-use Rattle.patch.proofs.Inv.{Inv}
+use Rattle.patch.specs.Invariant.{Inv}
 use Rattle.patch.proofs.Looks.{clear-v1, clear-v2}
 use Rattle.patch.proofs.Laying.{Room, room, entry-below}
 

@@ -9,12 +9,15 @@ use native.Mathlib.Omega.{arith}
 use lib.Dec.{eqb}
 use borrow.Author.Tests.{eqb-true}
 use lib.ListN.{length, length-append}
-use Rattle.patch.specs.Count.{bit, count, any}
-use Rattle.patch.specs.Lay.{Edge, edge, same, Face, face, pointsOf, edgesOf, State, withFace, cleared, seeded, popped, met, pivoted, Free, FreeSeed}
+use Rattle.lists.specs.Lists.{bit, count, any}
+use Rattle.patch.specs.Lay.{Edge, edge, same, Face, face, pointsOf, edgesOf, State, withFace, cleared, seeded, popped, met, pivoted}
+use Rattle.patch.specs.Fair.{Free, FreeSeed}
 use Rattle.patch.specs.Shape.{touches, has, newPoints, Laid}
-use Rattle.patch.proofs.Counts.{either, true-not-false, bit-le, bit-true, any-true, any-false, true-any, false-any, count-ext, count-all}
+use Rattle.lists.proofs.Bools.{either, true-not-false}
+use Rattle.lists.proofs.Counts.{bit-le, bit-true, any-true, any-false, true-any, false-any, count-ext, count-all}
 use Rattle.patch.proofs.Edges.{same-refl, same-congr, Distinct, not-both, which, touches-which, laid-congr, laid-v1, laid-v2}
-use Rattle.patch.proofs.Inv.{waiting, Inv, edge-skip, edge-clear, touched-used}
+use Rattle.patch.specs.Invariant.{waiting, Inv}
+use Rattle.patch.proofs.Inv.{edge-skip, edge-clear, touched-used}
 use Rattle.patch.proofs.Steps.{still, missed, Comes, grown, entries-length}
 
 -- entries waiting, less three for each face: one fewer with each look

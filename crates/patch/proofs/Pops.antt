@@ -9,10 +9,12 @@ use lib.Dec.{eqb, ltb}
 use borrow.Author.Tests.{eqb-true, eqb-false, ltb-true}
 use lib.ListN.{length, getD, set, take, length-set}
 use lib.Seq.{length-take-le, take-suc, take-length, getD-take, getD-set-other}
-use Rattle.patch.specs.Count.{bit, count}
-use Rattle.patch.specs.Lay.{Pop, Keeps}
+use Rattle.lists.specs.Lists.{bit, count}
+use Rattle.patch.specs.Lay.{Pop}
+use Rattle.patch.specs.Fair.{Keeps}
 use Rattle.patch.specs.Frontier.{sift, afterPop, noEdge, heapOf}
-use Rattle.patch.proofs.Counts.{either, count-append}
+use Rattle.lists.proofs.Bools.{either}
+use Rattle.lists.proofs.Counts.{count-append}
 
 module _ {A : Type 0} (d : A) (p : A → Bool) where
   -- one entry for another

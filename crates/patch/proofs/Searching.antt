@@ -1,25 +1,22 @@
 -- What the searches find is free, whatever the floats say. Assumes nothing.
-use Prim.Native.Nat.{ℕ, zero, suc, _+_, _<_}
-use mathlib.Core.Path.{_≡_, refl, sym, ap, subst}
-use mathlib.Core.Logic.{⊎-elim, _≢_}
+use Prim.Native.Nat.{ℕ, zero, suc, _<_}
+use mathlib.Core.Path.{_≡_, refl, sym, subst}
+use mathlib.Core.Logic.{_≢_}
 use mathlib.Core.Bool.{Bool, true, false, not, _&&_}
 use mathlib.Core.List.{List, [], _∷_}
 use mathlib.Core.Option.{Option, none, some}
 use native.Mathlib.Omega.{arith}
 use lib.Dec.{eqb}
-use borrow.Author.Tests.{eqb-true, eqb-false, eq-eqb, not-true}
+use borrow.Author.Tests.{eqb-true, eqb-false, not-true}
 use lib.ListN.{getD}
 use lib.Ieee.{Float, binary32, ofBits, lt}
-use Rattle.patch.specs.Count.{bit}
-use Rattle.patch.specs.Lay.{Edge, Free, FreeSeed, Fair}
-use Rattle.patch.specs.Search.{Floats, unused, isSecond, isThird, thirdOf, secondOf, firstOf, scoreOf, bestOf, numbers, searching, Below, Within}
-use Rattle.patch.proofs.Counts.{either, and-both}
-
-below-head : (n k : ℕ) (ks : List ℕ) → Below n (k ∷ ks) → k < n
-below-head n k ks h = h k (rw (eq-eqb k k refl) (omega arith))
-
-below-tail : (n k : ℕ) (ks : List ℕ) → Below n (k ∷ ks) → Below n ks
-below-tail n k ks h x m = h x (omega arith)
+use Rattle.lists.specs.Lists.{unused, upFrom}
+use Rattle.patch.specs.Lay.{Edge}
+use Rattle.patch.specs.Fair.{Free, FreeSeed, Fair, Within}
+use Rattle.patch.specs.Search.{Floats, isSecond, isThird, thirdOf, secondOf, firstOf, scoreOf, bestOf, searching}
+use Rattle.lists.specs.Members.{Below}
+use Rattle.lists.proofs.Members.{below-first, below-rest, up-below}
+use Rattle.lists.proofs.Bools.{and-both}
 
 -- an answer that is as P asks, if there is one
 abbrev All : {A : Type 0} → (A → Type 0) → Option A → Type 0
@@ -57,11 +54,11 @@ module _ {R : Type 0} (n : ℕ) (floats : Floats R) (within : Within n floats) (
   unfolding bestOf
   best-free e [] top best b h = h
   best-free e (k ∷ ks) top best b h =
-      let on = below-tail n k ks b in
+      let on = below-rest n k ks b in
       all-found (Free n used) (scoreOf floats r used e k) (bestOf floats r used e ks top best) (λ s. elim (lt top s) [ true ↦ bestOf floats r used e ks s (some k) | false ↦ bestOf floats r used e ks top best ])
       (λ q. best-free e ks top best on h)
       (λ s q. all-if (Free n used) (lt top s) (bestOf floats r used e ks s (some k)) (bestOf floats r used e ks top best)
-      (λ t. best-free e ks s (some k) on (free k (below-head n k ks b) (subst (All (λ s. unused used k ≡ true)) q (scored e k))))
+      (λ t. best-free e ks s (some k) on (free k (below-first n k ks b) (subst (All (λ s. unused used k ≡ true)) q (scored e k))))
       (λ t. best-free e ks top best on h))
 
   third-free : (i j : ℕ) (ks : List ℕ) → Free n used i → Free n used j → i ≢ j → Below n ks → All (FreeSeed n used) (thirdOf floats r used i j ks)
@@ -72,19 +69,19 @@ module _ {R : Type 0} (n : ℕ) (floats : Floats R) (within : Within n floats) (
       let a = and-both t in
       let c = and-both (a .1) in
       let d = and-both (c .1) in
-      record { first = fi; second = fj; third = free k (below-head n k ks b) (d .0); differ = (ne, differ j k (c .0), λ q. differ i k (a .0) (sym q)) })
-      (λ t. third-free i j ks fi fj ne (below-tail n k ks b))
+      record { first = fi; second = fj; third = free k (below-first n k ks b) (d .0); differ = (ne, differ j k (c .0), λ q. differ i k (a .0) (sym q)) })
+      (λ t. third-free i j ks fi fj ne (below-rest n k ks b))
 
   second-free : (i : ℕ) (ks js : List ℕ) → Free n used i → Below n ks → Below n js → All (FreeSeed n used) (secondOf floats r used i ks js)
   unfolding secondOf isSecond
   second-free i ks [] fi bk b = tt
   second-free i ks (j ∷ js) fi bk b =
       let later : Option (ℕ × ℕ × ℕ) = secondOf floats r used i ks js in
-      let later-free = second-free i ks js fi bk (below-tail n j js b) in
+      let later-free = second-free i ks js fi bk (below-rest n j js b) in
       all-if (FreeSeed n used) (isSecond floats r used i j) (elim (thirdOf floats r used i j ks) [ none ↦ later | some t ↦ some t ]) later
       (λ t.
       let a = and-both t in
-      let here = third-free i j ks fi (free j (below-head n j js b) (and-both (a .1) .0)) (differ i j (a .0)) bk in
+      let here = third-free i j ks fi (free j (below-first n j js b) (and-both (a .1) .0)) (differ i j (a .0)) bk in
       all-found (FreeSeed n used) (thirdOf floats r used i j ks) later some (λ q. later-free) (λ x q. subst (All (FreeSeed n used)) q here))
       (λ t. later-free)
 
@@ -93,25 +90,17 @@ module _ {R : Type 0} (n : ℕ) (floats : Floats R) (within : Within n floats) (
   first-free [] tries b = tt
   first-free (i ∷ is) zero b = tt
   first-free (i ∷ is) (suc tries) b =
-      let on = below-tail n i is b in
+      let on = below-rest n i is b in
       let near : List ℕ = floats .near r i in
       all-if (FreeSeed n used) (unused used i) (elim (secondOf floats r used i near near) [ none ↦ firstOf floats r used is tries | some t ↦ some t ]) (firstOf floats r used is (suc tries))
       (λ t.
-      let here = second-free i near near (free i (below-head n i is b) t) (within .near-below r i) (within .near-below r i) in
+      let here = second-free i near near (free i (below-first n i is b) t) (within .near-below r i) (within .near-below r i) in
       all-found (FreeSeed n used) (secondOf floats r used i near near) (firstOf floats r used is tries) some (λ q. first-free is tries on) (λ x q. subst (All (FreeSeed n used)) q here))
       (λ t. first-free is (suc tries) on)
-
-numbers-below : (m k : ℕ) → Below (k + m) (numbers m k)
-unfolding numbers
-numbers-below zero k x h = absurd (omega arith)
-numbers-below (suc m) k x h = ⊎-elim
-    (λ (t : eqb x k ≡ true). let q = eqb-true x k t in omega arith)
-    (λ (t : eqb x k ≡ false). let z : bit (eqb x k) ≡ 0 = ap bit t in let b = numbers-below m (suc k) x (omega arith) in omega arith)
-    (either (eqb x k))
 
 pub searching-fair : {R : Type 0} (n : ℕ) (floats : Floats R) → Within n floats → Fair n (searching floats n)
 unfolding searching
 searching-fair n floats within = record {
-  seeds = λ r used t q. subst (All (FreeSeed n used)) q (first-free n floats within r used (numbers n 0) 1000 (λ x h. let b = numbers-below n 0 x h in omega arith));
+  seeds = λ r used t q. subst (All (FreeSeed n used)) q (first-free n floats within r used (upFrom 0 n) 1000 (up-below n 0 n (omega arith)));
   pivots = λ r used e k q. subst (All (Free n used)) q (all-if (Free n used) (floats .pivotable r e) (bestOf floats r used e (floats .around r e) (ofBits binary32 0) none) none (λ t. best-free n floats within r used e (floats .around r e) (ofBits binary32 0) none (within .around-below r e) tt) (λ t. tt));
 }

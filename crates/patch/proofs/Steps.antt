@@ -7,12 +7,15 @@ use mathlib.Core.List.{List, [], _∷_, _++_}
 use native.Mathlib.Omega.{arith}
 use lib.Dec.{eqb}
 use lib.ListN.{length, length-append}
-use Rattle.patch.specs.Count.{bit, count, any}
-use Rattle.patch.specs.Lay.{Edge, edge, same, Face, edgesOf, State, seedsOf, push, marked, Free}
+use Rattle.lists.specs.Lists.{bit, count, any}
+use Rattle.patch.specs.Lay.{Edge, edge, same, Face, edgesOf, State, seedsOf, push, marked}
+use Rattle.patch.specs.Fair.{Free}
 use Rattle.patch.specs.Shape.{touches, has, Laid}
-use Rattle.patch.proofs.Counts.{either, not-true, any-true, any-false, true-any, false-any, count-append, count-all}
+use Rattle.lists.proofs.Bools.{either, not-true}
+use Rattle.lists.proofs.Counts.{any-true, any-false, true-any, false-any, count-append, count-all}
 use Rattle.patch.proofs.Edges.{same-refl, Distinct, one-edge, has-bit, has-straight}
-use Rattle.patch.proofs.Inv.{Edgewise, Pointwise, waiting, Inv, edge-miss, edge-grow, each-snoc, edge-at, point-more, point-at, length-marked, marked-flags}
+use Rattle.patch.specs.Invariant.{Edgewise, Pointwise, waiting, Inv}
+use Rattle.patch.proofs.Inv.{edge-miss, edge-grow, each-snoc, edge-at, point-more, point-at, length-marked, marked-flags}
 
 -- two tests that agree on the edges of a list count alike there
 pub count-agree : (p q : Edge → Bool) (xs : List Edge) → ((g : Edge) → 1 ≤ count (same g) xs → p g ≡ q g) → count p xs ≡ count q xs

@@ -11,8 +11,9 @@ use lib.ListN.{length, getD, set, take, drop, length-map, length-append, length-
 use lib.Seq.{take-all, take-append-le, take-at, drop-append-add, drop-drop, sets, sets-eq}
 use Rattle.patch.specs.Lay.{edge, Face}
 use Rattle.patch.specs.Frontier.{sift, afterPop}
-use Rattle.patch.specs.View.{encode, decode, flat, written}
-use Rattle.patch.proofs.Counts.{either}
+use Rattle.patch.specs.Entries.{encode, decode}
+use Rattle.patch.specs.View.{flat, written}
+use Rattle.lists.proofs.Bools.{either}
 
 pub decode-encode : (a b : ℕ) → b < 4096 → decode (encode (edge a b)) ≡ edge a b
 decode-encode a b h =

@@ -1,13 +1,12 @@
--- Laying a patch (`advanced_ball_pivoting`), whatever the floats decide and whichever entry is popped. Definitions only.
-use Prim.Native.Nat.{ℕ, zero, suc, _*_, _<_}
-use mathlib.Core.Path.{_≡_}
-use mathlib.Core.Logic.{_≢_}
+-- Laying a patch (`advanced_ball_pivoting`), whatever the floats decide and whichever entry is popped.
+-- Definitions only.
+use Prim.Native.Nat.{ℕ, zero, suc, _*_}
 use mathlib.Core.Bool.{Bool, true, false, cond, _&&_, _||_}
 use mathlib.Core.List.{List, [], _∷_, _++_}
 use mathlib.Core.Option.{Option, none, some}
 use lib.Dec.{eqb}
-use lib.ListN.{getD, set, replicate}
-use Rattle.patch.specs.Count.{count, any}
+use lib.ListN.{set, replicate}
+use Rattle.lists.specs.Lists.{count, any}
 
 -- two points of one face, and an entry of the frontier; points are numbers
 pub record Edge : Type 0 where
@@ -59,7 +58,8 @@ pub record Rules (R : Type 0) : Type 0 where
   -- the point that the ball meets when it is pivoted over an edge
   pub pivotOf : R → List ℕ → Edge → Option ℕ
 
--- the order of popping: from a frontier that is not empty, given as its first entry and the others, the entry popped and the frontier then
+-- the order of popping: from a frontier that is not empty, given as its first entry and the others, the entry
+-- popped and the frontier then
 abbrev pub Pop : Type 0
 Pop = Edge → List Edge → Edge × List Edge
 
@@ -163,33 +163,17 @@ unfoldable pub layAll : {R : Type 0} → Rules R → Pop → ℕ → List R → 
 layAll rules pop n [] s = s
 layAll rules pop n (r ∷ rs) s = layAll rules pop n rs (layOne rules pop n r s)
 
+-- before the first radius: no point is used
 abbrev pub blank : ℕ → State
-blank n = record { faces = []; seedFlags = []; used = replicate n 0; frontier = []; processed = []; looks = 0; pivots = 0 }
+blank n = record {
+  faces = [];
+  seedFlags = [];
+  used = replicate n 0;
+  frontier = [];
+  processed = [];
+  looks = 0;
+  pivots = 0;
+}
 
 unfoldable pub patch : {R : Type 0} → Rules R → Pop → ℕ → List R → State
 patch rules pop n rs = layAll rules pop n rs (blank n)
-
--- ---- what is asked of the rules and of the order: it is proved of ours
-
--- point k is one of n and is not used
-pub record Free (n : ℕ) (used : List ℕ) (k : ℕ) : Type 0 where
-  pub below : k < n
-  pub unused : getD used k 0 ≡ 0
-
-pub record FreeSeed (n : ℕ) (used : List ℕ) (t : ℕ × ℕ × ℕ) : Type 0 where
-  pub first : Free n used (t .0)
-  pub second : Free n used (t .1)
-  pub third : Free n used (t .2)
-  pub differ : (t .0 ≢ t .1) × (t .1 ≢ t .2) × (t .2 ≢ t .0)
-
-pub record Fair {R : Type 0} (n : ℕ) (rules : Rules R) : Type 0 where
-  pub seeds : (r : R) (used : List ℕ) (t : ℕ × ℕ × ℕ) → rules .seedOf r used ≡ some t → FreeSeed n used t
-  pub pivots : (r : R) (used : List ℕ) (e : Edge) (k : ℕ) → rules .pivotOf r used e ≡ some k → Free n used k
-
--- ys has the entries of xs, each as often, in some order: as many pass each test
-abbrev pub Reordered : List Edge → List Edge → Type 0
-Reordered xs ys = (p : Edge → Bool) → count p xs ≡ count p ys
-
--- the pop loses and repeats no entry
-abbrev pub Keeps : Pop → Type 0
-Keeps pop = (x : Edge) (xs : List Edge) → Reordered (x ∷ xs) (pop x xs .0 ∷ pop x xs .1)

@@ -6,8 +6,8 @@ use mathlib.Core.Bool.{Bool, true, false, not}
 use mathlib.Core.List.{List}
 use lib.Dec.{eqb}
 use lib.ListN.{length, getD, take}
-use Rattle.patch.specs.Count.{count, any}
-use Rattle.patch.specs.Lay.{Edge, same, Face, face, pointsOf, edgesOf, State, seedsOf}
+use Rattle.lists.specs.Lists.{count, any}
+use Rattle.patch.specs.Lay.{Edge, same, Face, face, pointsOf, edgesOf}
 
 -- the face has the point x
 unfoldable pub touches : ℕ → Face → Bool
@@ -43,8 +43,8 @@ pub record Laid (seed : Bool) (earlier : List Face) (f : Face) : Type 0 where
   -- and shares an edge with an earlier one
   pub other-shares : seed ≡ false → (e : Edge) × (has e f ≡ true) × (any (has e) earlier ≡ true)
 
--- The one claim about a patch: its faces fs in the order in which they were laid, of each a flag that says whether it is a seed,
--- the number F of the faces, the number S of the seeds, the looks and the pivots.
+-- The one claim about a patch: its faces fs in the order in which they were laid, of each a flag that says
+-- whether it is a seed, the number F of the faces, the number S of the seeds, the looks and the pivots.
 pub record Shape (fs : List Face) (flags : List Bool) (F S looks pivots : ℕ) : Type 0 where
   pub number : F ≡ length fs
   pub flagged : length flags ≡ F
@@ -59,7 +59,3 @@ pub record Shape (fs : List Face) (flags : List Bool) (F S looks pivots : ℕ) :
   pub one-or-two : (e : Edge) → any (has e) fs ≡ true → (1 ≤ count (has e) fs) × (count (has e) fs ≤ 2)
   pub looks-count : looks ≡ 3 * F
   pub pivots-count : pivots ≡ 2 * F + S
-
--- of a state's values
-abbrev pub Shaped : State → Type 0
-Shaped s = Shape (s .faces) (s .seedFlags) (length (s .faces)) (seedsOf s) (s .looks) (s .pivots)

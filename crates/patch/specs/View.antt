@@ -1,15 +1,8 @@
--- What lent slices stand for: entries kept as one number each, and faces in a slice that may be too short for them. Definitions only.
-use Prim.Native.Nat.{ℕ, _+_, _*_, _/_, _%_}
+-- Faces in a lent slice that may be too short for them. Definitions only.
+use Prim.Native.Nat.{ℕ, _/_}
 use mathlib.Core.List.{List, [], _∷_, _++_}
 use lib.ListN.{length, take, drop}
-use Rattle.patch.specs.Lay.{Edge, Face, edge}
-
--- points are below 4096
-abbrev pub encode : Edge → ℕ
-encode e = e .v1 * 4096 + e .v2
-
-abbrev pub decode : ℕ → Edge
-decode x = edge (x / 4096) (x % 4096)
+use Rattle.patch.specs.Lay.{Face}
 
 -- the faces' points, three to a face
 unfoldable pub flat : List Face → List ℕ

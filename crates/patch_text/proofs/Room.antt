@@ -13,7 +13,7 @@ use Rattle.settings.specs.Settings.{firstFailing, settingTests, firstBadSetting
 use Rattle.settings.specs.declared.BallPivotingConfig.{BallPivotingConfig}
 use Rattle.domain.specs.Refusals.{Check, firstRefusal, reconstructRefusal}
 use Rattle.patch.specs.View as view
-use Rattle.patch.proofs.Counts.{and-both}
+use Rattle.lists.proofs.Bools.{and-both}
 use Rattle.ball_pivoting.specs.Reconstruct.{Found, found, radiiOf, refused, accepted, delivered, reconstructed}
 use Rattle.ball_pivoting.specs.declared.Patch.{Patch}
 use Rattle.ball_pivoting.proofs.Answered.{answered-zero}

@@ -8,7 +8,8 @@ use lib.Dec.{eqb}
 use lib.Ieee.{Float, lt}
 use Rattle.numbers.specs.Rounded.{f32}
 use Rattle.patch.specs.Lay.{Edge}
-use Rattle.patch.specs.Search.{Floats, unused, scoreOf, bestOf, searching}
+use Rattle.patch.specs.Search.{Floats, scoreOf, bestOf, searching}
+use Rattle.lists.specs.Lists.{unused}
 use Rattle.decisions.specs.Found.{scoreFound, atLeast}
 use Rattle.decisions.specs.declared.Score.the-variants.{None}
 use Rattle.nearby.proofs.Laws.{chosen, passed}

@@ -11,15 +11,15 @@ use lib.Ieee.{Float, lt, le}
 use lib.Ieee.Bits.{is-true}
 use Rattle.numbers.specs.Rounded.{f32}
 use Rattle.numbers.proofs.OrderLaws.{le-right, lt-le, le-or-lt, le-not-lt, le-trans, lt-le-trans, le-lt-trans}
-use Rattle.patch.specs.Count.{count}
+use Rattle.lists.specs.Lists.{count}
 use Rattle.patch.specs.Lay.{Edge}
 use Rattle.patch.specs.Search.{Floats, scoreOf, bestOf}
-use Rattle.patch.proofs.Counts.{either, not-true, true-not-false, and-both}
+use Rattle.lists.proofs.Bools.{either, not-true, true-not-false, and-both, and-false}
 use Rattle.decisions.specs.declared.Score.{Score}
 use Rattle.decisions.specs.declared.Score.the-variants.{Of, None}
 use Rattle.decisions.specs.Found.{scoreFound, atLeast}
-use Rattle.sifting.specs.Sift.{only}
-use Rattle.sifting.proofs.Only.{In, in-head, in-cases, and-false}
+use Rattle.lists.specs.Members.{only, In}
+use Rattle.lists.proofs.Members.{in-head, in-cases}
 use Rattle.nearby.proofs.Ordered.{Strict, Sorted}
 use Rattle.pivot.specs.Best.{isBefore, ahead, leader}
 use Rattle.pivot.proofs.Laws.{above, after, best-step, best-end}

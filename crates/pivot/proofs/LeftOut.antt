@@ -9,11 +9,11 @@ use lib.Dec.{T, eqb}
 use lib.Ieee.{Float, lt, le}
 use Rattle.numbers.proofs.OrderLaws.{le-not-lt}
 use Rattle.patch.specs.Lay.{edge}
-use Rattle.patch.specs.Search.{unused, scoreOf}
-use Rattle.patch.proofs.Counts.{either, not-true}
+use Rattle.lists.specs.Lists.{unused}
+use Rattle.patch.specs.Search.{scoreOf}
+use Rattle.lists.proofs.Bools.{either, not-true, and-false}
 use Rattle.decisions.specs.declared.Scene.{Scene}
 use Rattle.decisions.specs.Decisions.{apart, scoreAt, floatsOf}
-use Rattle.sifting.proofs.Only.{and-false}
 use Rattle.pivot.proofs.Laws.{met, not-met}
 
 module _ (s : Scene) (pts : List Float) (r : Float) (used : List ℕ) where

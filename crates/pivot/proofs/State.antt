@@ -17,17 +17,16 @@ use Rattle.grid.specs.declared.Cell.{Cell}
 use Rattle.grid.specs.Grid.{inRange, rangeOf, orderOf, neighbors}
 use Rattle.grid.specs.Index.{cellIn, Cells, earlier}
 use Rattle.bounds.specs.Within.{Limit}
-use Rattle.patch.specs.Count.{bit}
+use Rattle.lists.specs.Lists.{bit}
 use Rattle.patch.specs.Lay.{edge}
 use Rattle.patch.specs.Search.{scoreOf, bestOf}
-use Rattle.patch.proofs.Counts.{either}
+use Rattle.lists.proofs.Bools.{either}
 use Rattle.decisions.specs.declared.Scene.{Scene}
 use Rattle.decisions.specs.Decisions.{apart, middle, around, scoreAt, floatsOf}
 use Rattle.nearby.specs.declared.Filter.{Filter}
 use Rattle.nearby.specs.Ready.{usedIn, listed}
-use Rattle.sifting.specs.Sift.{only}
+use Rattle.lists.specs.Members.{only, In}
 use Rattle.nearby.specs.Narrow.{inReach, inCells, cellAt, Filters, Collected}
-use Rattle.sifting.proofs.Only.{In}
 use Rattle.nearby.proofs.Ordered.{Strict}
 use Rattle.nearby.proofs.Earlier.{earlier-strict, order-of-sorted, order-of-count, neighbors-only}
 use Rattle.nearby.proofs.Narrowing.{earlier-kept, in-reach, in-unused, out-of-reach}

@@ -10,7 +10,8 @@ use lib.ListN.{length, take, drop, getD, length-take, drop-of-length-le}
 use lib.Seq.{length-take-le, drop-cons, getD-take}
 use lib.Ieee.{Float}
 use Rattle.vector.specs.declared.Point3f.{Point3f}
-use Rattle.points.specs.Points.{pointAt, upFrom}
+use Rattle.points.specs.Points.{pointAt}
+use Rattle.lists.specs.Lists.{upFrom}
 use Rattle.patch.specs.Lay.{Face, face}
 use Rattle.plain.specs.Plain.{candidate, candidates, sound, valid, facesOver, facesAt, facesOf, plainFaces}
 

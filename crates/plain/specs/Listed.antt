@@ -7,7 +7,8 @@ use lib.ListN.{length, take, getD, set}
 use lib.Ieee.{Float, nan}
 use Rattle.numbers.specs.Rounded.{f32, _⊗_}
 use Rattle.vector.specs.Vector.{distance}
-use Rattle.points.specs.Points.{pointAt, upFrom}
+use Rattle.points.specs.Points.{pointAt}
+use Rattle.lists.specs.Lists.{upFrom}
 use Rattle.bounds.specs.Within.{Limit}
 use Rattle.plain.specs.Plain.{candidate, candidates}
 use Rattle.plain.specs.Laid.{Ready}

@@ -1,6 +1,8 @@
--- The scope's plain path, `simple_triangulate`: the faces (i, a, b) with a < b < i among near points, at most 10,000. Definitions only.
--- The Rust's candidates of i at or above i never form a face, by its own test, so only those below i stand here. It stops as soon as
--- 10,000 faces are laid, which leaves the first 10,000 of all. Crate `plain_loop` has its loops, and proves that.
+-- The scope's plain path, `simple_triangulate`: the faces (i, a, b) with a < b < i among near points, at most
+-- 10,000. Definitions only.
+-- The Rust's candidates of i at or above i never form a face, by its own test, so only those below i stand
+-- here. It stops as soon as 10,000 faces are laid, which leaves the first 10,000 of all. Crate `plain_loop`
+-- has its loops, and proves that.
 use Prim.Native.Nat.{ℕ, _/_}
 use mathlib.Core.Bool.{Bool, cond, _&&_}
 use mathlib.Core.List.{List, [], _∷_, _++_}
@@ -10,7 +12,8 @@ use Rattle.numbers.specs.Rounded.{f32, _⊗_}
 use Rattle.vector.specs.Vector.{difference, magnitude, cross, distance}
 use Rattle.triangle.specs.Quality.{circumradius}
 use Rattle.vector.specs.declared.Point3f.{Point3f}
-use Rattle.points.specs.Points.{pointAt, upFrom}
+use Rattle.points.specs.Points.{pointAt}
+use Rattle.lists.specs.Lists.{upFrom}
 use Rattle.patch.specs.Lay.{Face, face}
 
 -- whether j is a candidate of i: no farther than twice the radius
@@ -48,7 +51,8 @@ facesAt points radius i (a ∷ bs) = facesOver points radius i a bs ++ facesAt p
 -- those of some points i, in their order
 unfoldable pub facesOf : List Float → Float → List ℕ → List Face
 facesOf points radius [] = []
-facesOf points radius (i ∷ is) = facesAt points radius i (candidates points radius i (upFrom 0 i)) ++ facesOf points radius is
+facesOf points radius (i ∷ is) =
+    facesAt points radius i (candidates points radius i (upFrom 0 i)) ++ facesOf points radius is
 
 unfoldable pub plainFaces : List Float → Float → List Face
 plainFaces points radius = take 10000 (facesOf points radius (upFrom 0 (length points / 3)))

@@ -14,13 +14,14 @@ use Rattle.numbers.specs.Rounded.{f32, _⊗_}
 use Rattle.vector.specs.Vector.{difference, magnitude, cross, squared, distance}
 use Rattle.triangle.specs.Quality.{circumradius}
 use Rattle.vector.specs.declared.Point3f.{Point3f}
-use Rattle.points.specs.Points.{pointAt, upFrom}
+use Rattle.points.specs.Points.{pointAt}
 use Rattle.patch.specs.Lay.{Face, face}
 use Rattle.plain.specs.Plain.{candidate, candidates, sound, valid, facesOver, facesAt, facesOf, plainFaces}
 use Rattle.plain.proofs.Plain.{plain-few}
 use Rattle.plain_loop.specs.SimpleTriangulate.{maxTriangles, loop, nearby, tryThree, trySecond, tryFirst}
 use Rattle.plain_loop.specs.SimpleTriangulate.{simpleTriangulate, PlainLoop}
 use Rattle.plain_loop.proofs.Limit.{limit-is, each, loop-is}
+use Rattle.lists.specs.Lists.{upFrom}
 
 -- ---- numbers below i, and from i on
 abbrev Each : (ℕ → Type 0) → List ℕ → Type 0

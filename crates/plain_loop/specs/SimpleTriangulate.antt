@@ -12,9 +12,10 @@ use lib.Ieee.{Float, le, lt}
 use Rattle.numbers.specs.Rounded.{f32, _⊗_}
 use Rattle.vector.specs.Vector.{difference, magnitude, cross}
 use Rattle.triangle.specs.Quality.{circumradius}
-use Rattle.points.specs.Points.{pointAt, upFrom}
+use Rattle.points.specs.Points.{pointAt}
 use Rattle.patch.specs.Lay.{Face, face}
 use Rattle.plain.specs.Plain.{plainFaces}
+use Rattle.lists.specs.Lists.{upFrom}
 
 abbrev pub maxTriangles : ℕ
 maxTriangles = 10000

@@ -16,18 +16,19 @@ use Rattle.numbers.specs.Root.{root}
 use Rattle.numbers.proofs.OrderLaws.{le-refl, le-trans, le-right, lt-le, not-le-lt}
 use Rattle.vector.specs.declared.Point3f.{Point3f}
 use Rattle.vector.specs.Vector.{squared, Finite}
-use Rattle.points.specs.Points.{pointAt, upFrom}
+use Rattle.points.specs.Points.{pointAt}
+use Rattle.lists.specs.Lists.{upFrom, count, bit}
 use Rattle.sorting.specs.Sorted.{sorted, All}
 use Rattle.sorting.proofs.Rising.{all-take}
 use Rattle.settings.specs.declared.BallPivotingConfig.{BallPivotingConfig}
 use Rattle.grid.specs.declared.SpatialGrid.{SpatialGrid}
 use Rattle.grid.specs.Grid.{precedes, byCell, orderOf}
-use Rattle.grid.specs.Index.{Indexed, Below, keepIn}
+use Rattle.grid.specs.Index.{Indexed, keepIn}
+use Rattle.lists.specs.Members.{Below}
 use Rattle.grid.proofs.Near.{near-is}
-use Rattle.patch.specs.Count.{count, bit}
-use Rattle.patch.specs.Search as search
-use Rattle.patch.proofs.Counts.{not-true, and-both, count-mono, count-zero, count-all}
-use Rattle.sifting.proofs.Only.{insert-count}
+use Rattle.lists.proofs.Bools.{not-true, and-both}
+use Rattle.lists.proofs.Counts.{count-mono, count-zero, count-all}
+use Rattle.sorting.proofs.Counting.{insert-count}
 use Rattle.spatial_hash.specs.declared.Hash.{Hash}
 use Rattle.spatial_hash.specs.Near.{nobody, Surrounds, Near}
 use Rattle.spatial_hash.proofs.Kept.{hashed-all-behind}
@@ -74,7 +75,7 @@ module _ (near : ℕ → Bool) (pts : List Float) (i : ℕ) where
       go true r = omega arith
       go false r = omega arith
 
-  squares-good : (n : ℕ) → i < n → ((j : ℕ) → j < n → Finite (pointAt pts j)) → (js : List ℕ) → search.Below n js → All Good (squaresTo near pts i js)
+  squares-good : (n : ℕ) → i < n → ((j : ℕ) → j < n → Finite (pointAt pts j)) → (js : List ℕ) → Below n js → All Good (squaresTo near pts i js)
   unfolding squaresTo
   squares-good n h numbers [] b = tt
   squares-good n h numbers (j ∷ js) b = go (not (eqb j i) && near j) (squares-good n h numbers js (λ (k : ℕ) (c : 1 ≤ count (eqb k) js). b k (omega arith)))
@@ -86,7 +87,7 @@ module _ (near : ℕ → Bool) (pts : List Float) (i : ℕ) where
       go true r = (squared-good (pointAt pts j) (pointAt pts i) (numbers j inside) (numbers i h), r)
       go false r = r
 
-whole-below : (n : ℕ) (all : List ℕ) → Whole n all → search.Below n all
+whole-below : (n : ℕ) (all : List ℕ) → Whole n all → Below n all
 whole-below n all whole j c = go (ltb j n) refl
   where
     go : (b : Bool) → ltb j n ≡ b → j < n

@@ -15,7 +15,8 @@ use lib.Ieee.Positive.{positive}
 use lib.Ieee.Exact.{HasValue}
 use lib.Ieee.Back.{round-whole}
 use Rattle.numbers.specs.Rounded.{f32, _⊕_, _⊘_}
-use Rattle.numbers.proofs.OrderLaws.{unsigned, unsigned-number}
+use Rattle.numbers.specs.Bounds.{unsigned}
+use Rattle.numbers.proofs.OrderLaws.{unsigned-number}
 use Rattle.numbers.proofs.SumOrder.{add-unsigned}
 use Rattle.numbers.proofs.QuotientOrder.{div-number}
 use Rattle.points.specs.Points.{pointAt, stepsFrom}

@@ -14,7 +14,8 @@ use Rattle.numbers.specs.Root.{root}
 use Rattle.numbers.proofs.OrderLaws.{lt-le, not-le-lt, le-top, unsigned-number}
 use Rattle.vector.specs.declared.Point3f.{Point3f}
 use Rattle.vector.specs.Vector.{squared, Finite}
-use Rattle.points.specs.Points.{pointAt, upFrom}
+use Rattle.points.specs.Points.{pointAt}
+use Rattle.lists.specs.Lists.{upFrom}
 use Rattle.sorting.specs.Sorted.{insert, insertAll, Rising}
 use Rattle.sorting.proofs.Insertion.{part-length, part-at}
 use Rattle.sorting.proofs.Least.{least-step, least-end}

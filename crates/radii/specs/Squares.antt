@@ -9,13 +9,13 @@ use lib.Ieee.{Float, nan, inf, le}
 use Rattle.numbers.specs.Rounded.{f32, _⊗_}
 use Rattle.vector.specs.declared.Point3f.{Point3f}
 use Rattle.vector.specs.Vector.{squared}
-use Rattle.points.specs.Points.{pointAt, upFrom}
+use Rattle.points.specs.Points.{pointAt}
+use Rattle.lists.specs.Lists.{upFrom, count, bit}
 use Rattle.sorting.specs.Sorted.{insert, sorted}
 use Rattle.settings.specs.declared.BallPivotingConfig.{BallPivotingConfig}
 use Rattle.grid.specs.declared.SpatialGrid.{SpatialGrid}
 use Rattle.grid.specs.Grid.{cellOf, rangeOf, inRange}
 use Rattle.grid.specs.Index.{cellIn}
-use Rattle.patch.specs.Count.{count, bit}
 use Rattle.spatial_hash.specs.declared.Hash.{Hash}
 use Rattle.spatial_hash.specs.Near.{HashedAll}
 use Rattle.radii.specs.declared.Around.{Around}

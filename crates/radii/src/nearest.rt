@@ -12,7 +12,7 @@ ghost use Prim.Native.Nat.{ℕ, _+_, _*_, _≤_, _<_};
 ghost use lib.Dec.{eqb};
 ghost use lib.ListN.{length, take, drop};
 ghost use Rattle.numbers.specs.Root.{root};
-ghost use Rattle.patch.specs.Search.{Below};
+ghost use Rattle.lists.specs.Members.{Below};
 ghost use Rattle.grid.specs.Index.{Indexed};
 ghost use Rattle.sorting.specs.Sorted.{Rising};
 ghost use Rattle.points.specs.Points.{pointAt};

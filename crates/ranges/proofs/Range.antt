@@ -1,6 +1,6 @@
 -- Laws of `leading`, by which a loop over the values finds it, and what it says of each value. Assumes nothing.
 use mathlib.Core.Path.{_≡_, refl, sym, ap, _∙_}
-use mathlib.Core.Bool.{Bool, true, false, cond, _&&_}
+use mathlib.Core.Bool.{Bool, true, false, cond}
 use mathlib.Core.List.{List, [], _∷_}
 use Prim.Native.Nat.{ℕ, zero, suc, _+_, _≤_, _<_}
 use native.Mathlib.Nat.{not-suc-le-zero, le-of-suc-le-suc}
@@ -8,13 +8,10 @@ use native.Mathlib.Omega.{arith}
 use native.Mathlib.Numerals.{add-one}
 use lib.ListN.{length, drop, getD, drop-of-length-le}
 use lib.Ieee.{Float, nan, le, lt, eq}
+use Rattle.lists.proofs.Bools.{and-false}
 use Rattle.ranges.specs.Range.{inside, leading}
 
 module _ (lo hi : Float) where
-  and-false : (b : Bool) → (b && false) ≡ false
-  and-false true = refl
-  and-false false = refl
-
   -- a not-a-number is outside every range
   pub inside-nan : inside lo hi nan ≡ false
   unfolding inside le lt eq

@@ -1,6 +1,7 @@
 -- The map of the lent work slices, for n points. Definitions only.
 use Prim.Native.Nat.{ℕ, _+_, _*_, _≤_}
 use mathlib.Core.List.{List, [], _∷_}
+use lib.ListN.{take, drop}
 
 -- a region's start and length
 pub record Region : Type 0 where
@@ -20,6 +21,9 @@ neighborsAt n = 4 * n
 -- of each point whether it is used
 abbrev pub usedAt : ℕ → ℕ
 usedAt n = 5 * n
+
+abbrev pub usedIn : ℕ → List ℕ → List ℕ
+usedIn n w = take n (drop (usedAt n) w)
 
 -- the entries that wait
 abbrev pub frontierAt : ℕ → ℕ

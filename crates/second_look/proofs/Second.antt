@@ -9,12 +9,13 @@ use lib.Dec.{eqb}
 use lib.Ieee.{Float, binary32, ofBits, lt, le}
 use Rattle.settings.specs.declared.BallPivotingConfig.{BallPivotingConfig}
 use Rattle.patch.specs.Lay.{Edge, Rules, patch}
-use Rattle.patch.specs.Search.{Floats, unused, scoreOf, bestOf, searching}
+use Rattle.patch.specs.Search.{Floats, scoreOf, bestOf, searching}
 use Rattle.patch.specs.Frontier.{heapOf}
 use Rattle.decisions.specs.Decisions.{apart, qualityAt, accepts, scoreAt, floatsOf}
 use Rattle.decisions.specs.declared.Scene.{Scene}
 use Rattle.ball_pivoting.specs.Reconstruct.{pointCount, sceneOf, radiiOf, laidOf}
 use Rattle.second_look.specs.SecondLook.{acceptedAgain, looked, rulesOf, lookingAgain, laidAgain, SecondLook}
+use Rattle.lists.specs.Lists.{unused}
 
 -- an answer that is as P asks, if there is one
 abbrev All : {A : Type 0} → (A → Type 0) → Option A → Type 0

@@ -10,10 +10,11 @@ use lib.Ieee.{Float, nan, neg, lt, le, isNan, ofBits}
 use lib.Ieee.Scale.{finite}
 use Rattle.numbers.specs.Rounded.{f32, _⊖_}
 use Rattle.numbers.specs.Order.{minimum, maximum}
-use Rattle.numbers.proofs.OrderLaws.{finite-number, le-left, le-refl, le-trans, lt-le, unsigned, unsigned-number}
+use Rattle.numbers.proofs.OrderLaws.{finite-number, le-left, le-refl, le-trans, lt-le, unsigned-number}
+use Rattle.numbers.specs.Bounds.{unsigned, Bounded}
 use Rattle.numbers.proofs.RoundedOrder.{neg-le}
 use Rattle.numbers.proofs.SumOrder.{sub-monotone, sub-antitone, sub-number}
-use Rattle.numbers.proofs.Bounded.{Bounded, neg-neg}
+use Rattle.numbers.proofs.Bounded.{neg-neg}
 use Rattle.numbers.proofs.Minimum.{minimum-le}
 use Rattle.numbers.proofs.Maximum.{maximum-left, maximum-right, maximum-unsigned, minimum-finite, maximum-finite}
 use Rattle.vector.specs.Vector.{point, difference, Finite}

@@ -16,7 +16,6 @@ use Rattle.numbers.proofs.ProductOrder.{mul-monotone, mul-monotone-finite, mul-
 use Rattle.quality.specs.declared.TriangleQuality.{TriangleQuality}
 use Rattle.triangle.specs.Quality.{acceptable}
 use Rattle.patch.specs.Search.{searching}
-use Rattle.patch.proofs.Counts.{not-true, true-not-false, and-both}
 use Rattle.decisions.specs.declared.Scene.{Scene}
 use Rattle.decisions.specs.Decisions.{reach, apart, isClose, accepts, qualityAt, completes, floatsOf}
 use Rattle.seed.specs.Judged.{Fruitless}
@@ -25,6 +24,7 @@ use Rattle.seed.specs.Barren.{Barren, BarrenBetween}
 use Rattle.seed.specs.Known.{Growing, NothingTo, Known, flat-cloud, up-to}
 use Rattle.seed.proofs.Nothing.{first-nothing, flat-nothing}
 use Rattle.seed.proofs.Threes.{barren-nothing}
+use Rattle.lists.proofs.Bools.{not-true, true-not-false, and-both}
 
 -- ---- twice the radius
 double-number : (x : Float) → T (not (isNan x)) → T (not (isNan (reach x)))

@@ -5,23 +5,21 @@ use mathlib.Core.Bool.{Bool, true, false}
 use mathlib.Core.List.{List, [], _∷_}
 use mathlib.Core.Option.{Option, none, some}
 use native.Mathlib.Omega.{arith}
-use Rattle.patch.specs.Search.{Floats, unused, isSecond, isThird, thirdOf, secondOf, firstOf, numbers}
+use Rattle.patch.specs.Search.{Floats, isSecond, isThird, thirdOf, secondOf, firstOf}
+use Rattle.lists.specs.Lists.{unused, upFrom}
 use Rattle.nearby.proofs.Laws.{chosen, passed}
 use Rattle.seed.specs.declared.Seed.the-variants.{Triangle, Nothing}
 use Rattle.seed.specs.Found.{seedFound, withSecond, withFirst}
 
 -- ---- the numbers from i on
 
-pub numbers-step : (n i : ℕ) → i < n → numbers (n - i) i ≡ i ∷ numbers (n - (i + 1)) (i + 1)
-unfolding numbers
-numbers-step n i h =
-    let e : n - i ≡ suc (n - (i + 1)) = omega arith in
-    let f : suc i ≡ i + 1 = omega arith in
-    ap (λ (m : ℕ). numbers m i) e ∙ ap (λ (k : ℕ). i ∷ numbers (n - (i + 1)) k) f
+pub up-step : (n i : ℕ) → i < n → upFrom i (n - i) ≡ i ∷ upFrom (i + 1) (n - (i + 1))
+unfolding upFrom
+up-step n i h = let e : n - i ≡ suc (n - (i + 1)) = omega arith in ap (upFrom i) e
 
-pub numbers-end : (n i : ℕ) → n ≤ i → numbers (n - i) i ≡ []
-unfolding numbers
-numbers-end n i h = let e : n - i ≡ 0 = omega arith in ap (λ (m : ℕ). numbers m i) e
+pub up-end : (n i : ℕ) → n ≤ i → upFrom i (n - i) ≡ []
+unfolding upFrom
+up-end n i h = let e : n - i ≡ 0 = omega arith in ap (upFrom i) e
 
 -- ---- the first answer, or else another
 abbrev pub orElse : {A : Type 0} → Option A → Option A → Option A

@@ -10,13 +10,13 @@ use lib.Ieee.{Float, lt}
 use Rattle.vector.specs.Vector.{distance}
 use Rattle.vector.proofs.Distances.{distance-turned}
 use Rattle.points.specs.Points.{pointAt}
-use Rattle.grid.specs.Index.{Below}
-use Rattle.patch.specs.Search.{Floats, unused, isSecond, isThird, thirdOf, secondOf}
-use Rattle.patch.proofs.Counts.{either}
+use Rattle.lists.specs.Members.{Below, only}
+use Rattle.lists.proofs.Members.{below-first, below-rest}
+use Rattle.patch.specs.Search.{Floats, isSecond, isThird, thirdOf, secondOf}
+use Rattle.lists.specs.Lists.{unused}
+use Rattle.lists.proofs.Bools.{either, and-false}
 use Rattle.decisions.specs.declared.Scene.{Scene}
 use Rattle.decisions.specs.Decisions.{reach, apart, isClose, accepts, qualityAt, floatsOf}
-use Rattle.sifting.specs.Sift.{only}
-use Rattle.sifting.proofs.Only.{and-false}
 use Rattle.seed.specs.Found.{withSecond}
 use Rattle.seed.proofs.Laws.{orElse, else-miss, third-hit, third-miss, second-not, second-step, second-end}
 
@@ -26,14 +26,14 @@ module _ {R : Type 0} (floats : Floats R) (r : R) (used : List ℕ) (test : ℕ 
     pub third-only : (i j : ℕ) → ((k : ℕ) → k < n → test k ≡ false → isThird floats r used i j k ≡ false) → (ks : List ℕ) → Below n ks → thirdOf floats r used i j (only test ks) ≡ thirdOf floats r used i j ks
     unfolding only
     third-only i j h [] b = refl
-    third-only i j h (k ∷ ks) b = go (test k) refl (third-only i j h ks (b .1))
+    third-only i j h (k ∷ ks) b = go (test k) refl (third-only i j h ks (below-rest n k ks b))
       where
         go : (t : Bool) → test k ≡ t → thirdOf floats r used i j (only test ks) ≡ thirdOf floats r used i j ks → thirdOf floats r used i j (cond t (k ∷ only test ks) (only test ks)) ≡ thirdOf floats r used i j (k ∷ ks)
         go true t ih = ⊎-elim
             (λ (y : isThird floats r used i j k ≡ true). third-hit floats r used i j k (only test ks) y ∙ sym (third-hit floats r used i j k ks y))
             (λ (y : isThird floats r used i j k ≡ false). third-miss floats r used i j k (only test ks) y ∙ ih ∙ sym (third-miss floats r used i j k ks y))
             (either (isThird floats r used i j k))
-        go false t ih = ih ∙ sym (third-miss floats r used i j k ks (h k (b .0) t))
+        go false t ih = ih ∙ sym (third-miss floats r used i j k ks (h k (below-first n k ks b) t))
 
     with-thirds : (i j : ℕ) (ks : List ℕ) → thirdOf floats r used i j (only test ks) ≡ thirdOf floats r used i j ks → withSecond floats r used i (only test ks) j ≡ withSecond floats r used i ks j
     unfolding withSecond
@@ -52,21 +52,11 @@ module _ {R : Type 0} (floats : Floats R) (r : R) (used : List ℕ) (test : ℕ 
     pub second-only : (i : ℕ) → ((j : ℕ) → j < n → test j ≡ false → isSecond floats r used i j ≡ false) → (ks js : List ℕ) → Below n js → secondOf floats r used i ks (only test js) ≡ secondOf floats r used i ks js
     unfolding only
     second-only i h ks [] b = refl
-    second-only i h ks (j ∷ js) b = go (test j) refl (second-only i h ks js (b .1))
+    second-only i h ks (j ∷ js) b = go (test j) refl (second-only i h ks js (below-rest n j js b))
       where
         go : (t : Bool) → test j ≡ t → secondOf floats r used i ks (only test js) ≡ secondOf floats r used i ks js → secondOf floats r used i ks (cond t (j ∷ only test js) (only test js)) ≡ secondOf floats r used i ks (j ∷ js)
         go true t ih = second-step floats r used i ks j (only test js) ∙ ap (orElse (withSecond floats r used i ks j)) ih ∙ sym (second-step floats r used i ks j js)
-        go false t ih = ih ∙ sym (second-step floats r used i ks j js ∙ else-miss (withSecond floats r used i ks j) (secondOf floats r used i ks js) (sym (second-not floats r used i j ks (h j (b .0) t))))
-
--- ---- what is left out of a list of points
-pub only-below : (test : ℕ → Bool) (n : ℕ) (ks : List ℕ) → Below n ks → Below n (only test ks)
-unfolding only
-only-below test n [] b = tt
-only-below test n (k ∷ ks) b = go (test k) (only-below test n ks (b .1))
-  where
-    go : (t : Bool) → Below n (only test ks) → Below n (cond t (k ∷ only test ks) (only test ks))
-    go true ih = (b .0, ih)
-    go false ih = ih
+        go false t ih = ih ∙ sym (second-step floats r used i ks j js ∙ else-miss (withSecond floats r used i ks j) (secondOf floats r used i ks js) (sym (second-not floats r used i j ks (h j (below-first n j js b) t))))
 
 -- ---- which points can't be chosen
 

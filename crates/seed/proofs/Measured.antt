@@ -18,8 +18,8 @@ use Rattle.area_bounds.proofs.AreaBound.{cross-squared-turned}
 use Rattle.points.specs.Points.{pointAt}
 use Rattle.decisions.specs.declared.Scene.{Scene}
 use Rattle.decisions.specs.Decisions.{isClose, accepts, qualityAt, completes}
-use Rattle.sifting.proofs.Only.{and-false}
 use Rattle.seed.specs.Judged.{Fruitless, RefusedBoth}
+use Rattle.lists.proofs.Bools.{and-false}
 
 -- the area does not depend on the order of the points after the first
 area-turned : (p q t : Point3f) → area p q t ≡ area p t q

@@ -15,9 +15,10 @@ use borrow.Author.Tests.{eq-eqb, eqb-true}
 use Rattle.vector.specs.Vector.{Finite}
 use Rattle.points.specs.Points.{pointAt}
 use Rattle.regions.specs.Regions.{neighborsAt}
-use Rattle.patch.specs.Count.{count}
-use Rattle.patch.specs.Search.{Floats, unused, isSecond, isThird, thirdOf, secondOf, firstOf, numbers, Below}
-use Rattle.patch.proofs.Counts.{either, not-true, true-not-false, and-both}
+use Rattle.lists.specs.Lists.{count, unused, upFrom}
+use Rattle.patch.specs.Search.{Floats, isSecond, isThird, thirdOf, secondOf, firstOf}
+use Rattle.lists.specs.Members.{Below}
+use Rattle.lists.proofs.Bools.{either, not-true, true-not-false, and-both, and-false}
 use Rattle.decisions.specs.declared.Scene.{Scene}
 use Rattle.decisions.specs.Decisions.{isClose, accepts, qualityAt, completes, floatsOf}
 use Rattle.decisions.proofs.Within.{within}
@@ -25,7 +26,6 @@ use Rattle.refusals.specs.declared.Limits.{Limits}
 use Rattle.refusals.specs.Refused.{Refused, Hopeless}
 use Rattle.refusals.proofs.Refusals.{refused-turned, refused-accepts, hopeless-accepts}
 use Rattle.nearby.specs.Ready.{listed}
-use Rattle.sifting.proofs.Only.{and-false}
 use Rattle.nearby.proofs.Laws.{chosen, passed}
 use Rattle.seed.specs.Found.{withSecond, withFirst}
 use Rattle.seed.specs.Flat.{Flat}
@@ -56,16 +56,16 @@ module _ {R : Type 0} (floats : Floats R) (r : R) (used : List ℕ) where
       ∙ ap (λ (o : Option (ℕ × ℕ × ℕ)). orElse o (secondOf floats r used i ks js)) (with-nothing i j ks (h j (rw self (omega arith))))
       ∙ second-nothing i ks js (λ m c. h m (omega arith))
 
-  pub first-nothing : (n : ℕ) → ((i : ℕ) → i < n → unused used i ≡ true → withFirst floats r used i ≡ none) → (m i tries : ℕ) → i + m ≤ n → firstOf floats r used (numbers m i) tries ≡ none
-  unfolding numbers
+  pub first-nothing : (n : ℕ) → ((i : ℕ) → i < n → unused used i ≡ true → withFirst floats r used i ≡ none) → (m i tries : ℕ) → i + m ≤ n → firstOf floats r used (upFrom i m) tries ≡ none
+  unfolding upFrom
   first-nothing n h zero i tries b = first-end floats r used tries
-  first-nothing n h (suc m) i zero b = first-spent floats r used i (numbers m (suc i))
+  first-nothing n h (suc m) i zero b = first-spent floats r used i (upFrom (i + 1) m)
   first-nothing n h (suc m) i (suc tries) b = ⊎-elim
       (λ (t : unused used i ≡ true).
-      first-tried floats r used i (numbers m (suc i)) tries t
-      ∙ ap (λ (o : Option (ℕ × ℕ × ℕ)). orElse o (firstOf floats r used (numbers m (suc i)) tries)) (h i (omega arith) t)
-      ∙ first-nothing n h m (suc i) tries (omega arith))
-      (λ (t : unused used i ≡ false). first-used floats r used i (numbers m (suc i)) tries t ∙ first-nothing n h m (suc i) (suc tries) (omega arith))
+      first-tried floats r used i (upFrom (i + 1) m) tries t
+      ∙ ap (λ (o : Option (ℕ × ℕ × ℕ)). orElse o (firstOf floats r used (upFrom (i + 1) m) tries)) (h i (omega arith) t)
+      ∙ first-nothing n h m (i + 1) tries (omega arith))
+      (λ (t : unused used i ≡ false). first-used floats r used i (upFrom (i + 1) m) tries t ∙ first-nothing n h m (i + 1) (suc tries) (omega arith))
       (either (unused used i))
 
 -- ---- a triangle that is refused
@@ -98,7 +98,7 @@ third-parts s pts r used i j k h =
     let c = and-both {p = isClose pts r j k} (b .1) in
     (b .0, (c .0, c .1))
 
-pub hopeless-nothing : (s : Scene) (pts : List Float) (r : Float) (used : List ℕ) (tries : ℕ) → ((k : ℕ) → k < s .n → Finite (pointAt pts k)) → Hopeless s r → firstOf (floatsOf s pts) r used (numbers (s .n) 0) tries ≡ none
+pub hopeless-nothing : (s : Scene) (pts : List Float) (r : Float) (used : List ℕ) (tries : ℕ) → ((k : ℕ) → k < s .n → Finite (pointAt pts k)) → Hopeless s r → firstOf (floatsOf s pts) r used (upFrom 0 (s .n)) tries ≡ none
 hopeless-nothing s pts r used tries numbers h = first-nothing (floatsOf s pts) r used (s .n) (λ i hi _. first-around s pts r used i (none-of i hi)) (s .n) 0 tries (omega arith)
   where
     none-of : (i : ℕ) → i < s .n → (j : ℕ) → j < s .n → isSecond (floatsOf s pts) r used i j ≡ true → (k : ℕ) → k < s .n → isThird (floatsOf s pts) r used i j k ≡ false
@@ -108,7 +108,7 @@ hopeless-nothing s pts r used tries numbers h = first-nothing (floatsOf s pts) r
 
 -- ---- a cloud that is flat
 
-pub flat-nothing : (s : Scene) (pts : List Float) (r : Float) (used : List ℕ) (tries : ℕ) → Flat s pts → firstOf (floatsOf s pts) r used (numbers (s .n) 0) tries ≡ none
+pub flat-nothing : (s : Scene) (pts : List Float) (r : Float) (used : List ℕ) (tries : ℕ) → Flat s pts → firstOf (floatsOf s pts) r used (upFrom 0 (s .n)) tries ≡ none
 flat-nothing s pts r used tries h = first-nothing (floatsOf s pts) r used (s .n) (λ i hi _. first-around s pts r used i (λ j hj _ k hk. third-refused s pts r used i j k (h r i j k hi hj hk))) (s .n) 0 tries (omega arith)
 
 -- ---- points no two of which make a seed

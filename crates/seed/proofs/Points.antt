@@ -7,8 +7,8 @@ use native.Mathlib.Omega.{arith}
 use lib.Dec.{eqb, ltb}
 use borrow.Author.Tests.{ltb-true, ltb-false, eqb-true, eqb-false}
 use Rattle.vector.specs.declared.Point3f.{Point3f}
-use Rattle.patch.specs.Count.{bit}
-use Rattle.patch.proofs.Counts.{either}
+use Rattle.lists.specs.Lists.{bit}
+use Rattle.lists.proofs.Bools.{either}
 use Rattle.refusals.specs.declared.Limits.{Limits}
 use Rattle.refusals.specs.Refused.{Refused, RefusedThroughout}
 

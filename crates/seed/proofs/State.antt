@@ -11,24 +11,25 @@ use lib.Ieee.{Float, lt}
 use Rattle.vector.specs.declared.Point3f.{Point3f}
 use Rattle.points.specs.Points.{pointAt}
 use Rattle.grid.specs.Grid.{neighbors}
-use Rattle.grid.specs.Index.{Indexed, Below}
+use Rattle.grid.specs.Index.{Indexed}
+use Rattle.lists.specs.Members.{Below, only}
 use Rattle.grid.proofs.Near.{neighbors-below, indexed-kept}
-use Rattle.grid.proofs.Sequence.{below-part}
+use Rattle.lists.proofs.Members.{below-part, only-below}
 use Rattle.spatial_hash.specs.declared.Hash.{Hash}
 use Rattle.spatial_hash.specs.Near.{Hashed}
-use Rattle.patch.specs.Search.{unused, secondOf, firstOf, numbers}
+use Rattle.lists.specs.Lists.{unused, upFrom}
+use Rattle.patch.specs.Search.{secondOf, firstOf}
 use Rattle.decisions.specs.declared.Scene.{Scene}
 use Rattle.decisions.specs.Decisions.{reach, apart, around, floatsOf}
 use Rattle.nearby.specs.Ready.{Held, Listed, Kept, usedIn, listed}
-use Rattle.sifting.specs.Sift.{only}
 use Rattle.nearby.specs.Narrow.{inReach, Nearby, Sought}
 use Rattle.nearby.proofs.Keeping.{kept-self, kept-on, held-kept, hashed-search}
 use Rattle.nearby.proofs.Narrowing.{out-of-reach}
 use Rattle.seed.specs.declared.Seed.{Seed}
 use Rattle.seed.specs.declared.Seed.the-variants.{Triangle, Nothing}
 use Rattle.seed.specs.Found.{seedFound, withFirst}
-use Rattle.seed.proofs.Laws.{orElse, numbers-step, numbers-end, else-hit, else-miss, first-tried, first-used, first-spent, first-end}
-use Rattle.seed.proofs.LeftOut.{only-below, second-only, second-thirds, second-out, third-out}
+use Rattle.seed.proofs.Laws.{orElse, up-step, up-end, else-hit, else-miss, first-tried, first-used, first-spent, first-end}
+use Rattle.seed.proofs.LeftOut.{second-only, second-thirds, second-out, third-out}
 
 -- ---- what is listed
 
@@ -78,25 +79,25 @@ pub record Seeking (s : Scene) (pts : List Float) (r : Float) (hash : Hash) (w�
   pub same : length w ≡ length w₀
   pub most : left ≤ 1000
   pub inside : i ≤ s .n
-  pub rest : firsts s pts r w₀ (numbers (s .n) 0) 1000 ≡ firsts s pts r w₀ (numbers (s .n - i) i) left
+  pub rest : firsts s pts r w₀ (upFrom 0 (s .n)) 1000 ≡ firsts s pts r w₀ (upFrom i (s .n - i)) left
 
 module _ {s : Scene} {pts : List Float} {r : Float} {hash : Hash} {w₀ : List ℕ} where
   pub seek-start : Held s pts w₀ → Indexed (s .grid) pts (s .n) w₀ → Hashed hash pts (s .n) w₀ → Seeking s pts r hash w₀ w₀ 1000 0
   seek-start h x d =
       let e : s .n ≡ s .n - 0 = omega arith in
-      record { held = h; hashed = d; indexed = x; kept = kept-self s w₀; same = refl; most = omega arith; inside = omega arith; rest = ap (λ (m : ℕ). firsts s pts r w₀ (numbers m 0) 1000) e }
+      record { held = h; hashed = d; indexed = x; kept = kept-self s w₀; same = refl; most = omega arith; inside = omega arith; rest = ap (λ (m : ℕ). firsts s pts r w₀ (upFrom 0 m) 1000) e }
 
   module _ {w : List ℕ} {left i : ℕ} (k : Seeking s pts r hash w₀ w left i) where
     abbrev on : List ℕ
-    on = numbers (s .n - (i + 1)) (i + 1)
+    on = upFrom (i + 1) (s .n - (i + 1))
 
-    pub seek-end : s .n ≤ i → firsts s pts r w₀ (numbers (s .n) 0) 1000 ≡ none
-    seek-end h = k .rest ∙ ap (λ (is : List ℕ). firsts s pts r w₀ is left) (numbers-end (s .n) i h) ∙ first-end (floatsOf s pts) r (usedIn s w₀) left
+    pub seek-end : s .n ≤ i → firsts s pts r w₀ (upFrom 0 (s .n)) 1000 ≡ none
+    seek-end h = k .rest ∙ ap (λ (is : List ℕ). firsts s pts r w₀ is left) (up-end (s .n) i h) ∙ first-end (floatsOf s pts) r (usedIn s w₀) left
 
-    at-point : i < s .n → firsts s pts r w₀ (numbers (s .n) 0) 1000 ≡ firsts s pts r w₀ (i ∷ on) left
-    at-point h = k .rest ∙ ap (λ (is : List ℕ). firsts s pts r w₀ is left) (numbers-step (s .n) i h)
+    at-point : i < s .n → firsts s pts r w₀ (upFrom 0 (s .n)) 1000 ≡ firsts s pts r w₀ (i ∷ on) left
+    at-point h = k .rest ∙ ap (λ (is : List ℕ). firsts s pts r w₀ is left) (up-step (s .n) i h)
 
-    pub seek-spent : i < s .n → left ≡ 0 → firsts s pts r w₀ (numbers (s .n) 0) 1000 ≡ none
+    pub seek-spent : i < s .n → left ≡ 0 → firsts s pts r w₀ (upFrom 0 (s .n)) 1000 ≡ none
     seek-spent h e = at-point h ∙ ap (firsts s pts r w₀ (i ∷ on)) e ∙ first-spent (floatsOf s pts) r (usedIn s w₀) i on
 
     -- there is one more try, and the used points are still those of the beginning
@@ -121,14 +122,14 @@ module _ {s : Scene} {pts : List Float} {r : Float} {hash : Hash} {w₀ : List �
           ∙ sym (ap (firsts s pts r w₀ on) (one-more ne));
     }
 
-    tried : i < s .n → (left ≡ 0 → ⊥) → unused (usedIn s w) i ≡ true → firsts s pts r w₀ (numbers (s .n) 0) 1000 ≡ orElse (withFirst (floatsOf s pts) r (usedIn s w₀) i) (firsts s pts r w₀ on (left - 1))
+    tried : i < s .n → (left ≡ 0 → ⊥) → unused (usedIn s w) i ≡ true → firsts s pts r w₀ (upFrom 0 (s .n)) 1000 ≡ orElse (withFirst (floatsOf s pts) r (usedIn s w₀) i) (firsts s pts r w₀ on (left - 1))
     tried h ne t = at-point h ∙ ap (firsts s pts r w₀ (i ∷ on)) (one-more ne) ∙ first-tried (floatsOf s pts) r (usedIn s w₀) i on (left - 1) (ap (λ (l : List ℕ). unused l i) (sym used-is) ∙ t)
 
     found-is : {found x : Seed} → found ≡ seedFound (withFirst (floatsOf s pts) r (usedIn s w) i) → found ≡ x → seedFound (withFirst (floatsOf s pts) r (usedIn s w₀) i) ≡ x
     found-is e f = ap (λ (l : List ℕ). seedFound (withFirst (floatsOf s pts) r l i)) (sym used-is) ∙ sym e ∙ f
 
     pub seek-hit : {a b c : ℕ} {found : Seed} → i < s .n → (left ≡ 0 → ⊥) → unused (usedIn s w) i ≡ true
-        → found ≡ seedFound (withFirst (floatsOf s pts) r (usedIn s w) i) → found ≡ Triangle a b c → Triangle a b c ≡ seedFound (firsts s pts r w₀ (numbers (s .n) 0) 1000)
+        → found ≡ seedFound (withFirst (floatsOf s pts) r (usedIn s w) i) → found ≡ Triangle a b c → Triangle a b c ≡ seedFound (firsts s pts r w₀ (upFrom 0 (s .n)) 1000)
     seek-hit {a} {b} {c} h ne t e f = sym (ap seedFound (tried h ne t) ∙ else-hit (withFirst (floatsOf s pts) r (usedIn s w₀) i) (firsts s pts r w₀ on (left - 1)) a b c (found-is e f))
 
     -- after what changes nothing but the list of neighbours

@@ -15,9 +15,9 @@ use Rattle.vector.proofs.Distances.{squared-turned}
 use Rattle.points.specs.Points.{pointAt}
 use Rattle.regions.specs.Regions.{neighborsAt}
 use Rattle.spatial_hash.specs.declared.Hash.{Hash}
-use Rattle.patch.specs.Count.{count}
-use Rattle.patch.specs.Search.{unused, isSecond, isThird}
-use Rattle.patch.proofs.Counts.{either, not-true, true-not-false, and-both}
+use Rattle.lists.specs.Lists.{count, unused}
+use Rattle.patch.specs.Search.{isSecond, isThird}
+use Rattle.lists.proofs.Bools.{either, not-true, true-not-false, and-both, and-false}
 use Rattle.decisions.specs.declared.Scene.{Scene}
 use Rattle.decisions.specs.Decisions.{reach, apart, isClose, completes, floatsOf}
 use Rattle.refusals.specs.declared.Limits.{Limits}
@@ -29,7 +29,6 @@ use Rattle.nearby.specs.Narrow.{inReach}
 use Rattle.sifting.specs.Sift.{isWithin}
 use Rattle.sifting.proofs.Parts.{drop-more, word-same}
 use Rattle.nearby.proofs.Keeping.{kept-self, kept-on, held-kept, hashed-search}
-use Rattle.sifting.proofs.Only.{and-false}
 use Rattle.nearby.proofs.Narrowing.{out-of-reach, in-reach}
 use Rattle.seed.specs.Found.{withFirst}
 use Rattle.seed.specs.Judged.{Fruitless, Judged}

@@ -8,7 +8,7 @@ use lib.Dec.{ltb}
 use lib.ListN.{getD}
 use lib.Ieee.{Float}
 use Rattle.regions.specs.Regions.{neighborsAt}
-use Rattle.patch.specs.Search.{unused}
+use Rattle.lists.specs.Lists.{unused}
 use Rattle.decisions.specs.declared.Scene.{Scene}
 use Rattle.nearby.specs.Ready.{Listed, Kept, usedIn}
 use Rattle.seed.specs.Judged.{Fruitless}

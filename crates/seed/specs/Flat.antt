@@ -8,8 +8,7 @@ use lib.ListN.{getD}
 use lib.Ieee.{Float, nan, lt}
 use lib.Ieee.Scale.{finite}
 use Rattle.numbers.specs.Rounded.{_⊖_}
-use Rattle.numbers.proofs.OrderLaws.{unsigned}
-use Rattle.numbers.proofs.Bounded.{Bounded}
+use Rattle.numbers.specs.Bounds.{unsigned, Bounded}
 use Rattle.vector.specs.declared.Point3f.{Point3f}
 use Rattle.area_bounds.specs.AreaBound.{areaBound}
 use Rattle.decisions.specs.declared.Scene.{Scene}

@@ -9,7 +9,7 @@ ghost use mathlib.Core.Path.{_≡_};
 ghost use mathlib.Core.Bool.{true};
 ghost use Prim.Native.Nat.{_*_, _≤_, _<_, _+_};
 ghost use lib.ListN.{length};
-ghost use Rattle.patch.specs.Search.{unused};
+ghost use Rattle.lists.specs.Lists.{unused};
 ghost use Rattle.regions.specs.Regions.{neighborsAt};
 ghost use Rattle.spatial_hash.specs.Near.{Hashed};
 ghost use Rattle.refusals.specs.Refused.{Limiting};

@@ -10,7 +10,8 @@ ghost use mathlib.Core.Option.{none};
 ghost use Prim.Native.Nat.{_*_, _≤_, _<_, _+_};
 ghost use Rattle.grid.specs.Index.{Indexed};
 ghost use Rattle.spatial_hash.specs.Near.{Hashed};
-ghost use Rattle.patch.specs.Search.{isSecond, isThird, thirdOf, secondOf, firstOf, numbers};
+ghost use Rattle.patch.specs.Search.{isSecond, isThird, thirdOf, secondOf, firstOf};
+ghost use Rattle.lists.specs.Lists.{upFrom};
 ghost use Rattle.decisions.specs.Decisions.{isClose, floatsOf};
 ghost use Rattle.refusals.specs.Refused.{Limiting};
 ghost use Rattle.nearby.specs.Ready.{Held, Listed, usedIn, listed, Kept};
@@ -197,7 +198,7 @@ pub fn find_from(
     limits: Limits,
 ) -> Search
     requires { ⌜ Held s (now points) (now w) × Indexed (s .grid) (now points) (s .n) (now w) × Hashed hash (now points) (s .n) (now w) × Limiting s radius limits ⌝ }
-    ensures { λ r. ⌜ (r .seed ≡ seedFound (firstOf (floatsOf s (now (points .entry))) radius (usedIn s (now (w .entry))) (numbers (s .n) 0) 1000)) × Kept s (now (w .entry)) (now (w .exit)) ⌝ }
+    ensures { λ r. ⌜ (r .seed ≡ seedFound (firstOf (floatsOf s (now (points .entry))) radius (usedIn s (now (w .entry))) (upFrom 0 (s .n)) 1000)) × Kept s (now (w .entry)) (now (w .exit)) ⌝ }
 {
     let n = s.n;
     let mut left: usize = 1000;

@@ -8,7 +8,7 @@ use lib.Ieee.{Float}
 use borrow.Author.Tests.{leb-true}
 use Rattle.ranges.specs.Range.{leading}
 use Rattle.ranges.proofs.Range.{leading-inside}
-use Rattle.ranges.proofs.Tests.{both}
+use Rattle.lists.proofs.Bools.{and-both}
 use Rattle.settings.specs.Settings.{listInside, firstFailing, settingTests, firstBadSetting}
 use Rattle.settings.specs.Settled.{Slots, Settled}
 use Rattle.settings.specs.declared.BallPivotingConfig.{BallPivotingConfig}
@@ -21,7 +21,7 @@ failing-none n false tests h e = absurd (h e)
 slots-of : (lo hi : Float) (slots : List Float) (count : ℕ) → listInside lo hi slots count ≡ true → Slots lo hi slots count
 unfolding listInside
 slots-of lo hi slots count e =
-    let b = both _ _ e in
+    let b = and-both e in
     let most : count ≤ leading lo hi slots = leb-true count (leading lo hi slots) (b .1) in
     record { few = leb-true count 8 (b .0); each = λ k l. leading-inside lo hi slots k (omega arith) }
 

@@ -1,4 +1,3 @@
 -- Laws of lists, of parts of a slice, and of the loop.
-pub mod Only
 pub mod Parts
 pub mod Sifting

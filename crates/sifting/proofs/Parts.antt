@@ -1,13 +1,11 @@
 -- A list in a part of a slice, element by element, and what stays where a slice stays from some place on. Assumes nothing.
 use Prim.Native.Nat.{ℕ, _+_, _-_, _≤_, _<_}
-use mathlib.Core.Path.{_≡_, sym, ap, _∙_, subst}
+use mathlib.Core.Path.{_≡_, sym, ap, _∙_}
 use mathlib.Core.List.{List, [], _∷_}
 use native.Mathlib.Omega.{arith}
 use native.Mathlib.Numerals.{add-one}
 use lib.ListN.{length, take, drop, getD, length-drop, length-take, drop-of-length-le}
 use lib.Seq.{drop-cons, drop-drop, getD-take, getD-drop, length-take-le}
-use Rattle.patch.specs.Search.{Below}
-use Rattle.sifting.proofs.Only.{in-at}
 
 -- slices that are the same from a on are so from any later place on
 pub drop-more : (w u : List ℕ) (a b : ℕ) → a ≤ b → drop a u ≡ drop a w → drop b u ≡ drop b w
@@ -30,9 +28,3 @@ module _ (w : List ℕ) (at count m : ℕ) where
 
   pub part-end : count ≤ m → drop m (take count (drop at w)) ≡ []
   part-end h = drop-of-length-le (take count (drop at w)) {i = m} (simp length-take (omega arith))
-
--- the k-th of the points listed is a point
-pub listed-point : (w : List ℕ) (at n found k : ℕ) → at + found ≤ length w → k < found → Below n (take found (drop at w)) → getD w (at + k) 0 < n
-listed-point w at n found k long h below =
-    let size : length (take found (drop at w)) ≡ found = length-take-le found (drop at w) (simp length-drop (omega arith)) in
-    subst (λ (j : ℕ). j < n) (getD-take found (drop at w) k 0 h ∙ getD-drop at w k 0) (below (getD (take found (drop at w)) k 0) (in-at (take found (drop at w)) k (omega arith)))

@@ -8,9 +8,10 @@ use lib.ListN.{length, take, drop, getD, set, length-drop, length-set}
 use lib.Seq.{take-set-le, drop-set-lt, drop-set-add, take-suc-set}
 use lib.Ieee.{Float}
 use Rattle.vector.specs.declared.Point3f.{Point3f}
-use Rattle.sifting.specs.Sift.{only, isWithin, Lists, Sifted}
-use Rattle.sifting.proofs.Only.{only-skip, only-take}
-use Rattle.sifting.proofs.Parts.{drop-more, word-same, part-step, part-end, listed-point}
+use Rattle.lists.specs.Members.{only}
+use Rattle.sifting.specs.Sift.{isWithin, Lists, Sifted}
+use Rattle.lists.proofs.Members.{only-skip, only-take, below-part}
+use Rattle.sifting.proofs.Parts.{drop-more, word-same, part-step, part-end}
 
 -- of the points that are listed from the m-th on, those that are within the limit
 abbrev coming : List Float → ℕ → Point3f → Float → List ℕ → ℕ → ℕ → List ℕ
@@ -47,7 +48,7 @@ module _ {pts : List Float} {n : ℕ} {p : Point3f} {t : Float} {w₀ : List ℕ
     here-same = word-same w₀ w (4 * n + m) (k .unread)
 
     pub sift-below : m < found → here < n
-    sift-below h = subst (λ (j : ℕ). j < n) (sym here-same) (listed-point w₀ (4 * n) n found m (omega (arith, lists .work-long, lists .most)) h (lists .below))
+    sift-below h = subst (λ (j : ℕ). j < n) (sym here-same) (below-part n w₀ (4 * n) found m (lists .below) h (omega (arith, lists .work-long, lists .most)))
 
     at-point : m < found → coming pts n p t w₀ found 0 ≡ take kept (drop (4 * n) w) ++ only (isWithin pts p t) (here ∷ drop (m + 1) (take found (drop (4 * n) w₀)))
     at-point h =

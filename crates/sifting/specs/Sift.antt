@@ -1,20 +1,15 @@
 -- Of the points that are listed those within a distance of a place. Definitions only.
 use Prim.Native.Nat.{ℕ, _*_, _≤_}
 use mathlib.Core.Path.{_≡_}
-use mathlib.Core.Bool.{Bool, cond, not}
-use mathlib.Core.List.{List, [], _∷_}
+use mathlib.Core.Bool.{Bool, not}
+use mathlib.Core.List.{List}
 use lib.ListN.{length, take, drop}
 use lib.Ieee.{Float, lt}
 use Rattle.vector.specs.declared.Point3f.{Point3f}
 use Rattle.vector.specs.Vector.{squared}
 use Rattle.points.specs.Points.{pointAt}
 use Rattle.regions.specs.Regions.{neighborsAt, usedAt}
-use Rattle.patch.specs.Search.{Below}
-
--- those of the points ks that pass a test
-unfoldable pub only : (ℕ → Bool) → List ℕ → List ℕ
-only test [] = []
-only test (k ∷ ks) = let later = only test ks in cond (test k) (k ∷ later) later
+use Rattle.lists.specs.Members.{Below, only}
 
 -- the square of point k's distance from a place is not above a limit
 abbrev pub isWithin : List Float → Point3f → Float → ℕ → Bool

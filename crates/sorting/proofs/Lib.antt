@@ -1,3 +1,4 @@
+pub mod Counting
 pub mod Insertion
 pub mod Least
 pub mod Percentile

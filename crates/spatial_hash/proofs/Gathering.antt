@@ -13,9 +13,10 @@ use lib.Ieee.{Float}
 use lib.Ieee.Scale.{finite}
 use Rattle.vector.specs.declared.Point3f.{Point3f}
 use Rattle.points.specs.Points.{pointAt}
-use Rattle.patch.specs.Count.{count}
-use Rattle.patch.specs.Search.{Below}
-use Rattle.patch.proofs.Counts.{either, pigeons, and-both}
+use Rattle.lists.specs.Lists.{count}
+use Rattle.lists.specs.Members.{Below}
+use Rattle.lists.proofs.Bools.{either, and-both}
+use Rattle.lists.proofs.Counts.{pigeons}
 use Rattle.bounds.specs.declared.Bounds.{Bounds}
 use Rattle.spatial_hash.specs.declared.Hash.{Hash}
 use Rattle.spatial_hash.specs.declared.Span.{Span}

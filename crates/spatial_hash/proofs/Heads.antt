@@ -12,7 +12,7 @@ use lib.ListN.{length, take, getD, set, length-set}
 use lib.Seq.{getD-set-same, getD-set-other, take-set-le}
 use lib.Ieee.{Float}
 use Rattle.vector.specs.declared.Point3f.{Point3f}
-use Rattle.patch.proofs.Counts.{either}
+use Rattle.lists.proofs.Bools.{either}
 use Rattle.spatial_hash.specs.declared.Hash.{Hash}
 use Rattle.spatial_hash.specs.Buckets.{rowFor, placeFor, bucketOf, bucketAt, buckets, linksOf, isOut, bucketIn, Chained}
 use Rattle.spatial_hash.specs.Order.{Laid}

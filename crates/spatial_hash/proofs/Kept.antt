@@ -10,7 +10,7 @@ use lib.Seq.{getD-drop}
 use lib.Ieee.{Float}
 use Rattle.sifting.proofs.Parts.{drop-more}
 use Rattle.spatial_hash.specs.declared.Hash.{Hash}
-use Rattle.patch.specs.Search.{unused}
+use Rattle.lists.specs.Lists.{unused}
 use Rattle.spatial_hash.specs.Buckets.{bucketIn, linksOf, isOut}
 use Rattle.spatial_hash.specs.Order.{reads, startOf, partOf, Laid}
 use Rattle.spatial_hash.specs.Near.{Ready, Linked, Hashed, HashedAll}

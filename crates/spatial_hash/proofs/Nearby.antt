@@ -14,13 +14,13 @@ use lib.Ieee.Bits.{is-true}
 use Rattle.numbers.proofs.OrderLaws.{le-not-lt}
 use Rattle.vector.specs.declared.Point3f.{Point3f}
 use Rattle.vector.specs.Vector.{squared, Finite}
-use Rattle.points.specs.Points.{pointAt, upFrom}
-use Rattle.patch.specs.Count.{count, bit}
-use Rattle.patch.proofs.Counts.{either, not-true, true-not-false}
+use Rattle.points.specs.Points.{pointAt}
+use Rattle.lists.specs.Lists.{upFrom, count, bit}
+use Rattle.lists.proofs.Bools.{either, not-true, true-not-false}
 use Rattle.bounds.specs.declared.Bounds.{Bounds}
 use Rattle.bounds.specs.Within.{within, Covers}
 use Rattle.sifting.specs.Sift.{isWithin, Sifted}
-use Rattle.sifting.proofs.Only.{only-count, only-fewer, only-at-most}
+use Rattle.lists.proofs.Members.{only-count, only-fewer, only-at-most}
 use Rattle.spatial_hash.specs.Buckets.{linksOf, isOut}
 use Rattle.spatial_hash.specs.Near.{nobody, Gathered, Surrounds, Near, HashedAll}
 use Rattle.spatial_hash.specs.declared.Hash.{Hash}

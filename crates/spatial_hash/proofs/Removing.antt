@@ -12,8 +12,8 @@ use lib.ListN.{length, take, getD, set, length-set}
 use lib.Seq.{getD-set-same, getD-set-other, take-set-le, take-take}
 use lib.Ieee.{Float}
 use Rattle.points.specs.Points.{pointAt}
-use Rattle.patch.specs.Count.{bit, count}
-use Rattle.patch.proofs.Counts.{either}
+use Rattle.lists.specs.Lists.{bit, count}
+use Rattle.lists.proofs.Bools.{either}
 use Rattle.spatial_hash.specs.declared.Hash.{Hash}
 use Rattle.spatial_hash.specs.Buckets.{rowFor, placeFor, bucketOf, bucketIn, linksOf, isOut, chain}
 use Rattle.spatial_hash.specs.Order.{reads, startOf, partOf, Laid}

@@ -9,9 +9,11 @@ use native.Mathlib.Decide.{decLt, decLe}
 use native.Mathlib.Omega.{arith}
 use borrow.Author.Tests.{eqb-true, eqb-false, eq-eqb, ne-eqb, lt-ltb, le-ltb}
 use lib.Dec.{eqb, ltb}
-use Rattle.patch.specs.Count.{bit, count}
-use Rattle.patch.specs.Search.{Below}
-use Rattle.patch.proofs.Counts.{either, bit-le, count-append}
+use Rattle.lists.specs.Lists.{bit, count}
+use Rattle.lists.specs.Members.{Below}
+use Rattle.lists.proofs.Members.{below-first, below-rest}
+use Rattle.lists.proofs.Bools.{either}
+use Rattle.lists.proofs.Counts.{bit-le, count-append}
 use Rattle.spatial_hash.specs.Buckets.{next, residues, Spanning, row, rows}
 
 -- ---- one axis
@@ -133,18 +135,12 @@ span-whole m a b p = record {
 
 -- ---- two remainders in one number
 
-rest-below : (m q : ℕ) (qs : List ℕ) → Below m (q ∷ qs) → Below m qs
-rest-below m q qs h x l = h x (omega arith)
-
-first-below : (m q : ℕ) (qs : List ℕ) → Below m (q ∷ qs) → q < m
-first-below m q qs h = h q (rw (eq-eqb q q refl) (omega arith))
-
 row-own : (m p q : ℕ) → q < m → (qs : List ℕ) → Below m qs → count (eqb (p * m + q)) (row m p qs) ≡ count (eqb q) qs
 unfolding row
 row-own m p q h [] b = refl
 row-own m p q h (q' ∷ qs) b =
-    let ih = row-own m p q h qs (rest-below m q' qs b) in
-    let l = first-below m q' qs b in
+    let ih = row-own m p q h qs (below-rest m q' qs b) in
+    let l = below-first m q' qs b in
     ⊎-elim
     (λ (t : eqb q q' ≡ true). let e = eqb-true q q' t in rw (t, eq-eqb (p * m + q) (p * m + q') (omega arith), ih))
     (λ (t : eqb q q' ≡ false). let ne = eqb-false q q' t in rw (t, ne-eqb (p * m + q) (p * m + q') (λ (e : p * m + q ≡ p * m + q'). omega arith), ih))
@@ -170,8 +166,8 @@ row-other : (m p q p' : ℕ) → q < m → (p ≡ p' → ⊥) → (qs : List ℕ
 unfolding row
 row-other m p q p' h ne [] b = refl
 row-other m p q p' h ne (q' ∷ qs) b =
-    let ih = row-other m p q p' h ne qs (rest-below m q' qs b) in
-    let l = first-below m q' qs b in
+    let ih = row-other m p q p' h ne qs (below-rest m q' qs b) in
+    let l = below-first m q' qs b in
     rw (ne-eqb (p * m + q) (p' * m + q') (apart-from l), ih)
   where
     apart-from : q' < m → p * m + q ≡ p' * m + q' → ⊥

@@ -7,7 +7,7 @@ use lib.Dec.{T, lt→ltb}
 use lib.Ieee.{Float, nan, inf, fin, binary32, fits}
 use lib.Ieee.Exact.{HasValue}
 use Rattle.numbers.specs.Root.{root}
-use Rattle.numbers.proofs.OrderLaws.{unsigned}
+use Rattle.numbers.specs.Bounds.{unsigned}
 use Rattle.numbers.proofs.RootNearest.{root-nearest}
 use Rattle.vector.specs.declared.Point3f.{Point3f}
 use Rattle.vector.specs.Vector.{Finite, squared, distance}

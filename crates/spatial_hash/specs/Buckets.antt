@@ -11,7 +11,7 @@ use Rattle.numbers.specs.Cut.{cut}
 use Rattle.vector.specs.declared.Point3f.{Point3f}
 use Rattle.points.specs.Points.{pointAt}
 use Rattle.regions.specs.Regions.{neighborsAt, usedAt, linksAt, startsAt}
-use Rattle.patch.specs.Count.{count}
+use Rattle.lists.specs.Lists.{count}
 use Rattle.spatial_hash.specs.declared.Hash.{Hash}
 use Rattle.spatial_hash.specs.declared.Span.{Span}
 

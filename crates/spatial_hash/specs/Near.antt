@@ -13,8 +13,8 @@ use Rattle.vector.specs.Vector.{Finite}
 use Rattle.vector.specs.declared.Point3f.{Point3f}
 use Rattle.points.specs.Points.{pointAt}
 use Rattle.regions.specs.Regions.{neighborsAt, usedAt, linksAt, startsAt}
-use Rattle.patch.specs.Count.{count}
-use Rattle.patch.specs.Search.{Below, unused}
+use Rattle.lists.specs.Lists.{count, unused}
+use Rattle.lists.specs.Members.{Below}
 use Rattle.bounds.specs.declared.Bounds.{Bounds}
 use Rattle.bounds.specs.Within.{within}
 use Rattle.sifting.specs.Sift.{isWithin}

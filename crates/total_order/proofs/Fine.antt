@@ -15,17 +15,18 @@ use lib.Ieee.Scale.{finite}
 use lib.Ieee.Positive.{positive}
 use Rattle.numbers.specs.Rounded.{f32, _⊕_, _⊖_, _⊗_, _⊘_}
 use Rattle.numbers.specs.Root.{isqrt, nearestRoot, rootOfUnits, root}
-use Rattle.numbers.proofs.OrderLaws.{unsigned, unsigned-le, le-trans, top-le}
+use Rattle.numbers.specs.Bounds.{unsigned, Bounded}
+use Rattle.numbers.proofs.OrderLaws.{unsigned-le, le-trans, top-le}
 use Rattle.numbers.proofs.SumOrder.{add-monotone, add-unsigned}
 use Rattle.numbers.proofs.QuotientOrder.{div-monotone, div-unsigned}
 use Rattle.numbers.proofs.RootMonotone.{root-monotone}
-use Rattle.numbers.proofs.Bounded.{Bounded, bounded-finite, add-bounded, sub-bounded, mul-bounded}
+use Rattle.numbers.proofs.Bounded.{bounded-finite, add-bounded, sub-bounded, mul-bounded}
 use Rattle.vector.specs.Vector.{Finite, squared, distance}
 use Rattle.vector.specs.declared.Point3f.{Point3f}
 use Rattle.vector.proofs.Distances.{square, squared-is, squared-fits, squared-unsigned, distance-is}
 use Rattle.spatial_hash.proofs.Squares.{root-good}
 use Rattle.ranges.specs.Range.{inside, farthest}
-use Rattle.ranges.proofs.Tests.{both}
+use Rattle.lists.proofs.Bools.{and-both}
 use Rattle.domain.specs.Accepted.{Cloud}
 use Rattle.points.specs.Points.{pointAt}
 use Rattle.sorting.specs.Sorted.{All, whole}
@@ -93,7 +94,7 @@ module _ (n : ℕ) (points : List Float) (cloud : Cloud n points) where
   coordinate : (k : ℕ) → k < length points → Bounded (getD points k nan) farthest
   unfolding inside
   coordinate k l =
-      let b = both (le (neg farthest) (getD points k nan)) (le (getD points k nan) farthest) (cloud .near k l) in
+      let b = and-both {p = le (neg farthest) (getD points k nan)} {q = le (getD points k nan) farthest} (cloud .near k l) in
       record { upper = subst T (sym (b .1)) tt; lower = subst T (sym (b .0)) tt }
 
   number-at : (k : ℕ) → k < length points → T (finite (getD points k nan))

@@ -13,7 +13,8 @@ use lib.Ieee.{Float, nan, inf, fin, binary32, up, down, fits, lt, le, toBits}
 use lib.Ieee.Fits.{down-pos}
 use lib.Ieee.Scale.{finite}
 use borrow.Author.Tests.{lt-ltb, le-ltb}
-use Rattle.numbers.proofs.OrderLaws.{unsigned, lt→side, side→lt}
+use Rattle.numbers.specs.Bounds.{unsigned}
+use Rattle.numbers.proofs.OrderLaws.{lt→side, side→lt}
 use Rattle.numbers.proofs.RootGrid.{f32-whole}
 use Rattle.patterns.specs.Pattern.{unitsOf}
 use Rattle.patterns.proofs.Pattern.{number-bits, bits-units, units-mono}

@@ -14,19 +14,21 @@ use lib.Ieee.Fits.{mul-fits}
 use lib.Ieee.Scale.{finite}
 use borrow.Author.Tests.{eqb-false}
 use Rattle.numbers.specs.Rounded.{f32, _⊖_, _⊗_}
-use Rattle.numbers.proofs.OrderLaws.{unsigned, positive-unsigned, le-trans, lt-le-trans}
+use Rattle.numbers.specs.Bounds.{unsigned}
+use Rattle.numbers.proofs.OrderLaws.{positive-unsigned, le-trans, lt-le-trans}
 use Rattle.numbers.proofs.ProductOrder.{mul-monotone-finite}
 use Rattle.numbers.proofs.Bounded.{mul-unsigned}
 use Rattle.vector.specs.Vector.{distance}
 use Rattle.points.specs.Points.{pointAt}
 use Rattle.ranges.specs.Range.{inside}
-use Rattle.ranges.proofs.Tests.{both}
+use Rattle.lists.proofs.Bools.{and-both}
 use Rattle.settings.specs.Settled.{Settled}
 use Rattle.settings.specs.declared.BallPivotingConfig.{BallPivotingConfig}
 use Rattle.domain.specs.Accepted.{Cloud}
 use Rattle.sorting.specs.Sorted.{insert, insertAll, sorted, All, percentileOf, indexOf}
 use Rattle.sorting.proofs.Rising.{all-take}
-use Rattle.grid.specs.Index.{Below}
+use Rattle.lists.specs.Members.{Below}
+use Rattle.lists.proofs.Members.{below-first, below-rest}
 use Rattle.grid.specs.declared.SpatialGrid.{SpatialGrid}
 use Rattle.grid.proofs.Near.{neighbors-below}
 use Rattle.radii.specs.Radii.{distancesTo, average, nearOf, nearest, densitiesFrom, stepOf, sampleCount, spaced, dedup}
@@ -127,7 +129,7 @@ pub set-fine : (x : Float) → T (fits binary32 x) → inside (f32 0x3a83126f) (
     → Fine (f32 0x447a0000) x
 unfolding inside
 set-fine x f e =
-    let b = both (le (f32 0x3a83126f) x) (le x (f32 0x447a0000)) e in
+    let b = and-both {p = le (f32 0x3a83126f) x} {q = le x (f32 0x447a0000)} e in
     record {
       held = f;
       clear = positive-unsigned x
@@ -149,13 +151,13 @@ module _ (c : BallPivotingConfig) (points : List Float) (n : ℕ) (cloud : Cloud
   distances-fine : (i : ℕ) → i < n → (js : List ℕ) → Below n js → All (Fine far) (distancesTo points i js)
   unfolding distancesTo
   distances-fine i l [] b = tt
-  distances-fine i l (j ∷ js) b = go (eqb j i) (distances-fine i l js (b .1))
+  distances-fine i l (j ∷ js) b = go (eqb j i) (distances-fine i l js (below-rest n j js b))
     where
       go : (t : Bool) → All (Fine far) (distancesTo points i js)
           → All (Fine far)
           (cond t (distancesTo points i js) (distance (pointAt points i) (pointAt points j) ∷ distancesTo points i js))
       go true r = r
-      go false r = (apart-fine n points cloud i j l (b .0), r)
+      go false r = (apart-fine n points cloud i j l (below-first n j js b), r)
 
   near-fine : (i : ℕ) → i < n → All (Fine far) (distancesTo points i (nearOf c g points n i))
   unfolding nearOf

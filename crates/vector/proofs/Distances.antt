@@ -8,7 +8,8 @@ use lib.Ieee.Fits.{add-fits, mul-fits}
 use lib.Ieee.Scale.{finite}
 use Rattle.numbers.specs.Rounded.{f32, _⊕_, _⊖_, _⊗_}
 use Rattle.numbers.specs.Root.{root}
-use Rattle.numbers.proofs.OrderLaws.{le-trans, unsigned, unsigned-le}
+use Rattle.numbers.proofs.OrderLaws.{le-trans, unsigned-le}
+use Rattle.numbers.specs.Bounds.{unsigned}
 use Rattle.numbers.proofs.SumOrder.{add-unsigned, add-above-left, add-above-right, add-number, sub-number}
 use Rattle.numbers.proofs.ProductOrder.{square-unsigned, square-turned}
 use Rattle.vector.specs.Vector.{Finite, difference, magnitudeSquared, squared, distance}

@@ -14,11 +14,12 @@ use borrow.Author.Tests.{le-leb, lt-leb}
 use Rattle.numbers.specs.Rounded.{f32, _⊕_, _⊖_, _⊗_, _⊘_}
 use Rattle.numbers.specs.Root.{root}
 use Rattle.numbers.specs.Acos.{R, abs, cleared, acosMiddle, acosLow, acosHigh, acosInside, acos}
-use Rattle.numbers.proofs.OrderLaws.{unsigned, not-lt-le, le-trans, lt-le}
+use Rattle.numbers.proofs.OrderLaws.{not-lt-le, le-trans, lt-le}
 use Rattle.numbers.proofs.SumOrder.{sub-nonnegative}
 use Rattle.spatial_hash.proofs.Squares.{root-good}
 use Rattle.zeros.proofs.Clear.{Clear, unsigned-clear, add-clear, sub-clear, twice-clear, half-unsigned}
 use Rattle.zeros.proofs.Clear.{clear-unsigned}
+use Rattle.numbers.specs.Bounds.{unsigned}
 
 -- an f32 that is not -0
 abbrev pub Held : Float → Type 0

@@ -17,11 +17,11 @@ use lib.Ieee.Positive.{positive, above, above-of-le}
 use borrow.Author.Tests.{ltb-true, eqb-false, ne-eqb}
 use Rattle.numbers.specs.Rounded.{f32, _⊕_, _⊖_, _⊗_}
 use Rattle.numbers.specs.Root.{root}
-use Rattle.numbers.proofs.OrderLaws.{unsigned}
 use Rattle.numbers.proofs.RoundedOrder.{round-neg, round-unsigned, nonnegative-minus}
 use Rattle.numbers.proofs.RootGrid.{f32-whole}
 use Rattle.spatial_hash.proofs.Squares.{root-good}
 use Rattle.zeros.specs.Zeros.{isZero}
+use Rattle.numbers.specs.Bounds.{unsigned}
 
 -- not -0
 abbrev pub Clear : Float → Type 0

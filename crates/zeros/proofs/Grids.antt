@@ -9,7 +9,7 @@ use lib.Ieee.{Float}
 use Rattle.numbers.specs.Rounded.{f32, _⊗_, _⊘_}
 use Rattle.numbers.specs.Cut.{cut, ceil}
 use Rattle.vector.specs.declared.Point3f.{Point3f}
-use Rattle.points.specs.Points.{pointAt, upFrom}
+use Rattle.points.specs.Points.{pointAt}
 use Rattle.sorting.specs.Insertion.{insertBefore}
 use Rattle.sorting.specs.Sorted.{sorted}
 use Rattle.settings.specs.declared.BallPivotingConfig.{BallPivotingConfig}
@@ -18,6 +18,7 @@ use Rattle.grid.specs.declared.SpatialGrid.{SpatialGrid}
 use Rattle.grid.specs.declared.Cell.{Cell}
 use Rattle.radii.specs.Radii.{distancesTo, average, nearOf, nearest, densitiesFrom, stepOf, sampleCount, radiiAt}
 use Rattle.radii.specs.Radii.{adaptiveRadii}
+use Rattle.lists.specs.Lists.{upFrom}
 
 module _ (g h : SpatialGrid) (size : g .«cell_size» ≡ h .«cell_size»)
     (cells : (p : Point3f) → cellOf g p ≡ cellOf h p) (pts : List Float) where

@@ -5,11 +5,11 @@ use native.Mathlib.Omega.{arith}
 use lib.Dec.{eqb}
 use lib.ListN.{length, take, getD}
 use borrow.Author.Needs.{needs}
-use Rattle.patch.specs.Count.{count}
 use Rattle.coverage.specs.Coverage.{reached as marksOf}
 use Rattle.coverage.proofs.Marks.{reached-start, reached-step, reached-end, set-length}
 use Rattle.coverage.proofs.mark_reached.Statement.{statement}
 use Rattle.coverage.proofs.mark_reached.Tie as tie
+use Rattle.lists.specs.Lists.{count}
 
 abbrev Inv-loop : tie.InvT-loop
 Inv-loop faces reached₀ total₀ i₀ reached total i = (i ≤ length faces) × (length reached ≡ length reached₀) × (total ≤ i) × (reached ≡ marksOf (take i faces) (length reached₀)) × (total ≡ count (eqb 1) reached)

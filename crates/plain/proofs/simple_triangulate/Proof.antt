@@ -1,5 +1,5 @@
 -- `plain::simple_triangulate` meets its contract. The loop's invariant: what is left of the faces leads to all of them. Assumes nothing.
-use Rattle.points.specs.Points.{upFrom}
+use Rattle.lists.specs.Lists.{upFrom}
 use lib.ListN.{length}
 use mathlib.Core.Path.{_≡_, refl, ap}
 use Prim.Native.Nat.{_-_, _/_, _≤_}

@@ -7,7 +7,7 @@ use lib.ListN.{take, drop}
 use lib.Ieee.{Float, inf}
 use borrow.Author.Needs.{needs}
 use Rattle.estimate.specs.Squares.{leastSquare}
-use Rattle.sifting.proofs.Parts.{listed-point}
+use Rattle.lists.proofs.Members.{below-part}
 use Rattle.estimate.proofs.Looking.{square-step, square-end}
 use Rattle.estimate.proofs.nearest.least_square.Statement.{statement}
 use Rattle.estimate.proofs.nearest.least_square.Tie as tie
@@ -49,7 +49,7 @@ lesser-requires : tie.Need-lesser-requires Inv-loop μ-loop
 lesser-requires c κs =
     let l = c .before .before .loop in
     let s = c .before .before .before .before .before .before in
-    let j = listed-point (s .args .w .now) (4 * s .args .n) (s .args .n) (s .args .found) (l .k) (omega (arith, s .pre .2, s .pre .4)) (c .before .loop-test .taken) (s .pre .5) in
+    let j = below-part (s .args .n) (s .args .w .now) (4 * s .args .n) (s .args .found) (l .k) (s .pre .5) (c .before .loop-test .taken) (omega (arith, s .pre .2, s .pre .4)) in
     (omega (arith, s .pre .0, s .pre .3), omega (arith, j, s .pre .3))
 
 add-k : tie.Need-add-k Inv-loop μ-loop

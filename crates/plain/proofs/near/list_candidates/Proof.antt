@@ -4,7 +4,7 @@ use mathlib.Core.Path.{_≡_, refl, sym, ap, _∙_}
 use mathlib.Core.List.{List, _++_, append-nil}
 use native.Mathlib.Omega.{arith}
 use lib.ListN.{length, take}
-use Rattle.points.specs.Points.{upFrom}
+use Rattle.lists.specs.Lists.{upFrom}
 use Rattle.plain.specs.Plain.{candidates}
 use Rattle.plain.specs.Listed.{Lists}
 use Rattle.plain.proofs.Plain.{up-start, from, from-none}

@@ -4,7 +4,7 @@ use mathlib.Core.List.{map}
 use native.Mathlib.Omega.{arith}
 use borrow.Author.Needs.{needs}
 use Rattle.numbers.specs.Root.{root}
-use Rattle.points.specs.Points.{upFrom}
+use Rattle.lists.specs.Lists.{upFrom}
 use Rattle.grid.proofs.Near.{indexed-kept}
 use Rattle.radii.specs.declared.Around.{Around}
 use Rattle.radii.specs.Squares.{aroundOf, isNear, leastSquares}

@@ -5,7 +5,7 @@ use native.Mathlib.Omega.{arith}
 use lib.ListN.{length, take, drop}
 use borrow.Author.Needs.{needs}
 use Rattle.sorting.specs.Sorted.{insertAll}
-use Rattle.sifting.proofs.Parts.{listed-point}
+use Rattle.lists.proofs.Members.{below-part}
 use Rattle.radii.specs.Squares.{isNear, within, squaresTo, leastSquares}
 use Rattle.radii.proofs.Looking.{with-ordered, look-step, look-end}
 use Rattle.radii.proofs.Rising.{Ordered}
@@ -46,7 +46,7 @@ look-at-requires c κs =
     let l = c .before .before .before .loop in
     let s = c .before .before .before .before .before .before .before in (
       s .pre .0,
-      listed-point (s .args .w .now) (4 * s .args .n) (s .args .n) (s .args .found) (l .k) (omega (arith, s .pre .2, s .pre .4)) (c .before .before .loop-test .taken) (s .pre .6),
+      below-part (s .args .n) (s .args .w .now) (4 * s .args .n) (s .args .found) (l .k) (s .pre .6) (c .before .before .loop-test .taken) (omega (arith, s .pre .2, s .pre .4)),
       s .pre .1,
       s .pre .3,
       omega (arith, s .pre .4),
@@ -73,7 +73,7 @@ loop-again c =
           ∙ look-step (within (s .args .limit) (isNear (s .args .around) (s .args .w .now) (s .args .n)) (s .args .points .now) (s .args .i)) (s .args .points .now) (s .args .i) (s .args .w .now) (4 * s .args .n) (s .args .found) (omega (arith, s .pre .2, s .pre .4)) (l .k) (take (l .kept) (drop (s .args .n) (l .f))) (take (e .result) (drop (s .args .n) (e .last .1 .1 .1 .1 .1 .1 .1 .0))) (c .before .before .before .before .before .loop-test .taken) (e .ensures .0),
       e .ensures .2 ∙ l .inv .4,
       with-ordered (within (s .args .limit) (isNear (s .args .around) (s .args .w .now) (s .args .n)) (s .args .points .now) (s .args .i)) (s .args .points .now) (s .args .i) _ (s .args .n) (take (l .kept) (drop (s .args .n) (l .f))) (take (e .result) (drop (s .args .n) (e .last .1 .1 .1 .1 .1 .1 .1 .0))) (s .pre .0)
-          (listed-point (s .args .w .now) (4 * s .args .n) (s .args .n) (s .args .found) (l .k) (omega (arith, s .pre .2, s .pre .4)) (c .before .before .before .before .before .loop-test .taken) (s .pre .6)) (s .pre .7) (e .ensures .0) (l .inv .5),
+          (below-part (s .args .n) (s .args .w .now) (4 * s .args .n) (s .args .found) (l .k) (s .pre .6) (c .before .before .before .before .before .loop-test .taken) (omega (arith, s .pre .2, s .pre .4))) (s .pre .7) (e .ensures .0) (l .inv .5),
     )
 
 same-length : tie.Need-same-length Inv-loop μ-loop

@@ -5,7 +5,7 @@ use native.Mathlib.Omega.{arith}
 use lib.ListN.{length, take, drop}
 use lib.Ieee.{Float}
 use borrow.Author.Needs.{needs}
-use Rattle.points.specs.Points.{upFrom}
+use Rattle.lists.specs.Lists.{upFrom}
 use Rattle.sorting.specs.Sorted.{insertAll}
 use Rattle.radii.specs.Squares.{isNear, within, squaresTo, leastSquares, withSquare}
 use Rattle.radii.proofs.Looking.{with-tenth, with-ordered, all-start, all-step, all-end}

@@ -4,13 +4,13 @@ use native.Mathlib.Omega.{arith}
 use Rattle.vector.specs.declared.Point3f.{Point3f}
 use Rattle.vector.specs.Vector.{Finite}
 use Rattle.spatial_hash.specs.Near.{Near}
-use Rattle.patch.proofs.Counts.{true-not-false}
 use Rattle.nearby.proofs.Keeping.{kept-on, held-kept}
 use Rattle.nearby.proofs.Narrowing.{near-kept, below-listed}
 use Rattle.seed.proofs.Threes.{barren-from}
 use borrow.Author.Needs.{needs}
 use Rattle.seed.proofs.barren.check_first.Statement.{statement}
 use Rattle.seed.proofs.barren.check_first.Tie as tie
+use Rattle.lists.proofs.Bools.{true-not-false}
 
 point-at-requires : tie.Need-point-at-requires
 point-at-requires c κs = search needs

@@ -4,13 +4,13 @@ use borrow.Author.Tests.{not-true}
 use Rattle.vector.specs.declared.Point3f.{Point3f}
 use Rattle.vector.specs.Vector.{Finite}
 use Rattle.spatial_hash.specs.Near.{Near}
-use Rattle.patch.proofs.Counts.{true-not-false}
 use Rattle.nearby.proofs.Keeping.{kept-self, kept-on, held-kept}
 use Rattle.nearby.proofs.Narrowing.{near-kept, below-listed}
 use Rattle.seed.proofs.Threes.{barren-from}
 use borrow.Author.Needs.{needs}
 use Rattle.seed.proofs.barren.pay_unused.Statement.{statement}
 use Rattle.seed.proofs.barren.pay_unused.Tie as tie
+use Rattle.lists.proofs.Bools.{true-not-false}
 
 is-unused-requires : tie.Need-is-unused-requires
 is-unused-requires c κs = (c .before .before .before .pre .0 .work-long, c .before .before .before .pre .0 .few, c .before .before .before .pre .2)

@@ -1,10 +1,10 @@
 -- `known_from` meets its contract. Assumes nothing.
 use mathlib.Core.Path.{refl}
 use native.Mathlib.Omega.{arith}
-use Rattle.patch.proofs.Counts.{true-not-false}
 use borrow.Author.Needs.{needs}
 use Rattle.seed.proofs.triples.known_from.Statement.{statement}
 use Rattle.seed.proofs.triples.known_from.Tie as tie
+use Rattle.lists.proofs.Bools.{true-not-false}
 
 returns : tie.Need-returns
 returns c = record { inside = omega (arith, c .before .pre .0); same = λ _. refl; next = λ h. absurd (true-not-false (c .if1 .taken) h) }

@@ -1,4 +1,4 @@
--- Members of a list, those of them that pass a test, and what an insertion adds. Assumes nothing.
+-- Members of a list, numbers below a limit, and those that pass a test. Assumes nothing.
 use Prim.Native.Nat.{ℕ, zero, suc, _+_, _≤_, _<_}
 use mathlib.Core.Path.{_≡_, refl, sym, ap, _∙_, subst}
 use mathlib.Core.Logic.{⊎-elim}
@@ -6,19 +6,14 @@ use mathlib.Core.Bool.{Bool, true, false, cond, _&&_}
 use mathlib.Core.List.{List, [], _∷_}
 use native.Mathlib.Omega.{arith}
 use lib.Dec.{eqb}
-use lib.ListN.{length, getD}
+use lib.ListN.{length, take, drop, getD, length-drop}
+use lib.Seq.{getD-take, getD-drop, length-take-le}
 use borrow.Author.Tests.{eqb-true, eq-eqb}
-use Rattle.sorting.specs.Insertion.{insertBefore}
-use Rattle.patch.specs.Count.{bit, count}
-use Rattle.patch.proofs.Counts.{either, not-true, true-not-false}
-use Rattle.sifting.specs.Sift.{only}
+use Rattle.lists.specs.Lists.{bit, count, upFrom}
+use Rattle.lists.specs.Members.{In, Below, only}
+use Rattle.lists.proofs.Bools.{either, not-true, true-not-false, and-true, and-false}
 
 -- ---- members, by counting
-
--- k stands in xs
-abbrev pub In : ℕ → List ℕ → Type 0
-In k xs = 1 ≤ count (eqb k) xs
-
 pub in-head : (x : ℕ) (xs : List ℕ) → In x (x ∷ xs)
 in-head x xs = rw (eq-eqb x x refl) (omega arith)
 
@@ -33,6 +28,31 @@ in-cases P x xs here later k h = ⊎-elim
     (λ (t : eqb k x ≡ true). subst P (sym (eqb-true k x t)) here)
     (λ (t : eqb k x ≡ false). later k (let z : bit (eqb k x) ≡ 0 = ap bit t in omega arith))
     (either (eqb k x))
+
+-- ---- numbers below n
+pub below-none : (n : ℕ) → Below n []
+below-none n k h = absurd (omega arith)
+
+module _ (n j : ℕ) (js : List ℕ) where
+  pub below-more : j < n → Below n js → Below n (j ∷ js)
+  below-more h b = in-cases (λ (k : ℕ). k < n) j js h b
+
+  pub below-first : Below n (j ∷ js) → j < n
+  below-first b = b j (in-head j js)
+
+  pub below-rest : Below n (j ∷ js) → Below n js
+  below-rest b k h = b k (omega arith)
+
+-- the k-th of the m words from `at` on
+pub below-part : (n : ℕ) (w : List ℕ) (at m k : ℕ) → Below n (take m (drop at w)) → k < m → at + m ≤ length w → getD w (at + k) 0 < n
+below-part n w at m k below h long =
+    let size : length (take m (drop at w)) ≡ m = length-take-le m (drop at w) (simp length-drop (omega arith)) in
+    subst (λ (j : ℕ). j < n) (getD-take m (drop at w) k 0 h ∙ getD-drop at w k 0) (below (getD (take m (drop at w)) k 0) (in-at (take m (drop at w)) k (omega arith)))
+
+pub up-below : (n i m : ℕ) → i + m ≤ n → Below n (upFrom i m)
+unfolding upFrom
+up-below n i zero h = below-none n
+up-below n i (suc m) h = below-more n i (upFrom (i + 1) m) (omega arith) (up-below n (i + 1) m (omega arith))
 
 -- ---- leaving out
 module _ (test : ℕ → Bool) where
@@ -68,13 +88,8 @@ module _ (test : ℕ → Bool) where
   pub only-fewer : (k : ℕ) (xs : List ℕ) → In k (only test xs) → In k xs
   only-fewer k xs h = let l = only-at-most k xs in omega arith
 
-and-true : (b : Bool) → (b && true) ≡ b
-and-true true = refl
-and-true false = refl
-
-pub and-false : (b : Bool) → (b && false) ≡ false
-and-false true = refl
-and-false false = refl
+pub only-below : (test : ℕ → Bool) (n : ℕ) (ks : List ℕ) → Below n ks → Below n (only test ks)
+only-below test n ks b k h = b k (only-fewer test k ks h)
 
 pub only-both : (p q : ℕ → Bool) (xs : List ℕ) → only p (only q xs) ≡ only (λ (k : ℕ). p k && q k) xs
 unfolding only
@@ -100,13 +115,3 @@ module _ (test : ℕ → Bool) (k : ℕ) (ks : List ℕ) where
   pub only-take : test k ≡ true → only test (k ∷ ks) ≡ k ∷ only test ks
   unfolding only
   only-take h = rw h
-
--- ---- inserting
-pub insert-count : {A : Type 0} (p test : A → Bool) (v : A) (xs : List A) → count p (insertBefore test v xs) ≡ bit (p v) + count p xs
-unfolding insertBefore
-insert-count p test v [] = refl
-insert-count p test v (x ∷ xs) = go (test x) (insert-count p test v xs)
-  where
-    go : (b : Bool) → count p (insertBefore test v xs) ≡ bit (p v) + count p xs → count p (cond b (v ∷ x ∷ xs) (x ∷ insertBefore test v xs)) ≡ bit (p v) + count p (x ∷ xs)
-    go true r = refl
-    go false r = omega arith

@@ -1,25 +1,16 @@
 -- Laws of counting, and that a list of numbers below n, each at most once, is no longer than n. Assumes nothing.
 use Prim.Native.Nat.{ℕ, zero, suc, _+_, _≤_, _<_}
-use mathlib.Core.Path.{_≡_, refl, sym}
-use mathlib.Core.Logic.{_⊎_, inl, inr, ⊎-elim}
-use mathlib.Core.Bool.{Bool, true, false, _&&_}
+use mathlib.Core.Path.{_≡_, refl}
+use mathlib.Core.Logic.{⊎-elim}
+use mathlib.Core.Bool.{Bool, true, false}
 use mathlib.Core.List.{List, [], _∷_, _++_}
 use native.Mathlib.Omega.{arith}
 use lib.Dec.{eqb, ltb}
 use borrow.Author.Tests.{ltb-true, ltb-false, lt-ltb, le-ltb, eqb-true, eqb-false, eq-eqb, ne-eqb}
 use lib.ListN.{length}
-use Rattle.patch.specs.Count.{bit, count, any}
-
-pub either : (b : Bool) → (b ≡ true) ⊎ (b ≡ false)
-either true = inl refl
-either false = inr refl
-
-pub not-true : {b : Bool} → (b ≡ true → ⊥) → b ≡ false
-not-true {b = true} h = absurd (h refl)
-not-true {b = false} h = refl
-
-pub true-not-false : {b : Bool} → b ≡ true → b ≡ false → ⊥
-true-not-false p q = let z : _≡_ {A = ℕ} 0 1 = cc in omega arith
+use Rattle.lists.specs.Lists.{bit, count, any}
+use Rattle.lists.specs.Members.{Below}
+use Rattle.lists.proofs.Bools.{either}
 
 pub bit-le : (b : Bool) → bit b ≤ 1
 bit-le true = omega arith
@@ -28,11 +19,6 @@ bit-le false = omega arith
 pub bit-true : {b : Bool} → 1 ≤ bit b → b ≡ true
 bit-true {b = true} h = refl
 bit-true {b = false} h = absurd (omega arith)
-
-pub and-both : {p q : Bool} → (p && q) ≡ true → (p ≡ true) × (q ≡ true)
-and-both {p = true} {q = true} h = (refl, refl)
-and-both {p = true} {q = false} h = absurd (true-not-false refl (sym h))
-and-both {p = false} {q} h = absurd (true-not-false refl (sym h))
 
 module _ {A : Type 0} where
   pub count-append : (p : A → Bool) (xs ys : List A) → count p (xs ++ ys) ≡ count p xs + count p ys
@@ -102,12 +88,12 @@ few-below : (xs : List ℕ) → ((x : ℕ) → count (eqb x) xs ≤ 1) → (n : 
 few-below xs h zero = let z = count-zero (λ (x : ℕ). ltb x 0) (λ (x : ℕ). le-ltb x 0 (omega arith)) xs in omega arith
 few-below xs h (suc n) = let ih = few-below xs h n in let k = h n in let s = split-upto n xs in omega arith
 
-all-below : (n : ℕ) (xs : List ℕ) → ((x : ℕ) → 1 ≤ count (eqb x) xs → x < n) → count (λ (x : ℕ). ltb x n) xs ≡ length xs
+all-below : (n : ℕ) (xs : List ℕ) → Below n xs → count (λ (x : ℕ). ltb x n) xs ≡ length xs
 all-below n [] h = refl
 all-below n (x ∷ xs) h =
     let here : x < n = h x (rw (eq-eqb x x refl) (omega arith)) in
     let ih = all-below n xs (λ (y : ℕ) (m : 1 ≤ count (eqb y) xs). h y (omega arith)) in
     rw (lt-ltb x n here) (omega arith)
 
-pub pigeons : (n : ℕ) (xs : List ℕ) → ((x : ℕ) → count (eqb x) xs ≤ 1) → ((x : ℕ) → 1 ≤ count (eqb x) xs → x < n) → length xs ≤ n
+pub pigeons : (n : ℕ) (xs : List ℕ) → ((x : ℕ) → count (eqb x) xs ≤ 1) → Below n xs → length xs ≤ n
 pigeons n xs once below = let a = all-below n xs below in let b = few-below xs once n in omega arith

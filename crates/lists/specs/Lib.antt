@@ -1,0 +1,3 @@
+-- Lists of any elements and of numbers, leaves first.
+pub mod Lists
+pub mod Members

@@ -1,0 +1,1 @@
+// Definitions and laws of lists only; see specs/ and proofs/.
