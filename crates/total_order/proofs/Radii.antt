@@ -69,7 +69,7 @@ radius-tops = (tt, tt)
 
 -- ---- lists
 module _ (P : Float → Type 0) where
-  all-insert : (s xs : List Float) → All P s → All P xs → All P (insertAll s xs)
+  pub all-insert : (s xs : List Float) → All P s → All P xs → All P (insertAll s xs)
   unfolding insertAll
   all-insert s [] a b = a
   all-insert s (x ∷ xs) a b = all-insert (insert x s) xs (insert-keeps P (lt x) x s (b .0) a) (b .1)
@@ -83,7 +83,7 @@ module _ (P : Float → Type 0) where
   all-each (x ∷ xs) d zero p a = a .0
   all-each (x ∷ xs) d (suc k) p a = all-each xs d k p (a .1)
 
-  all-first : (count : ℕ) (xs : List Float) → ((k : ℕ) → k < count → P (getD xs k nan)) → All P (take count xs)
+  pub all-first : (count : ℕ) (xs : List Float) → ((k : ℕ) → k < count → P (getD xs k nan)) → All P (take count xs)
   all-first zero xs h = tt
   all-first (suc count) [] h = tt
   all-first (suc count) (x ∷ xs) h = (h 0 (omega arith), all-first count xs (λ k l. h (suc k) (omega arith)))
@@ -159,7 +159,7 @@ module _ (c : BallPivotingConfig) (points : List Float) (n : ℕ) (cloud : Cloud
       go true r = r
       go false r = (apart-fine n points cloud i j l (below-first n j js b), r)
 
-  near-fine : (i : ℕ) → i < n → All (Fine far) (distancesTo points i (nearOf c g points n i))
+  pub near-fine : (i : ℕ) → i < n → All (Fine far) (distancesTo points i (nearOf c g points n i))
   unfolding nearOf
   near-fine i l =
       distances-fine i l _
@@ -171,7 +171,7 @@ module _ (c : BallPivotingConfig) (points : List Float) (n : ℕ) (cloud : Cloud
       ≡ totallySorted (distancesTo points i (nearOf c g points n i))
   near-sorted i l = fine-sorted far (plain-tops .0) _ (near-fine i l)
 
-  nearest-fine : (i : ℕ) → i < n → All (Fine far) (nearest c g points n i)
+  pub nearest-fine : (i : ℕ) → i < n → All (Fine far) (nearest c g points n i)
   unfolding nearest
   nearest-fine i l =
       all-take (Fine far) 10 (sorted (distancesTo points i (nearOf c g points n i)))
@@ -202,16 +202,16 @@ module _ (c : BallPivotingConfig) (points : List Float) (n : ℕ) (cloud : Cloud
         r,
       )
 
-  step-some : 0 < stepOf n
+  pub step-some : 0 < stepOf n
   step-some =
       let some : 0 < min n 1000 = let s = cloud .some in omega arith in
       let once : 1 * min n 1000 ≤ n = let m = min-le-left n 1000 in omega arith in
       le-div-iff-mul-le some .1 once
 
-  abbrev densities : List Float
+  abbrev pub densities : List Float
   densities = densitiesFrom c g points n (stepOf n) 0 (sampleCount n)
 
-  all-fine : All (Fine far) densities
+  pub all-fine : All (Fine far) densities
   all-fine =
       let s = step-some in
       let k = div-mul-le-self (n + stepOf n - 1 - 0) (stepOf n) in
@@ -221,7 +221,7 @@ module _ (c : BallPivotingConfig) (points : List Float) (n : ℕ) (cloud : Cloud
   pub densities-sorted : sorted densities ≡ totallySorted densities
   densities-sorted = fine-sorted far (plain-tops .0) densities all-fine
 
-  candidates-fine : (ds : List Float) → All (Fine far) ds → All (Fine farther) (candidates c ds)
+  pub candidates-fine : (ds : List Float) → All (Fine far) ds → All (Fine farther) (candidates c ds)
   unfolding candidates
   candidates-fine ds a =
       let ps : List Float = take (c .«percentile_count») (c .«adaptive_percentiles») in
