@@ -8,12 +8,12 @@ use mathlib.Core.List.{List, [], _∷_, _++_}
 use lib.Dec.{eqb, leb, ltb}
 use borrow.Author.Tests.{eqb-true, leb-true, eq-eqb, ne-eqb, le-leb, lt-leb}
 use borrow.Author.Tests.{lt-ltb, le-ltb}
-use Rattle.points.specs.Points.{upFrom}
-use Rattle.patch.proofs.Counts.{and-both}
-use Rattle.sifting.specs.Sift.{only}
-use Rattle.sifting.proofs.Only.{In, in-head}
 use Rattle.nearby.proofs.Ordered.{Sorted}
 use Rattle.cell_loop.specs.FindNeighbors.{extended, isAt}
+use Rattle.lists.specs.Lists.{upFrom}
+use Rattle.lists.proofs.Bools.{and-both}
+use Rattle.lists.specs.Members.{only, In}
+use Rattle.lists.proofs.Members.{in-head}
 
 pub only-ext : (p q : ℕ → Bool) → ((k : ℕ) → p k ≡ q k) → (xs : List ℕ) → only p xs ≡ only q xs
 only-ext p q h xs = ap (λ (t : ℕ → Bool). only t xs) (λ i k. h k i)

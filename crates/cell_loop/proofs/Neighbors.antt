@@ -8,20 +8,19 @@ use mathlib.Core.List.{List, [], _∷_}
 use lib.Dec.{eqb, leb, ltb}
 use lib.Ieee.{Float}
 use borrow.Author.Tests.{eqb-true, eqb-false, ltb-false, le-leb, lt-leb, lt-ltb, le-ltb, eq-eqb}
-use Rattle.points.specs.Points.{upFrom}
 use Rattle.grid.specs.Grid.{cellOf, before, orderOf, within, inRange, rangeOf}
 use Rattle.grid.specs.Index.{earlier}
 use Rattle.grid.specs.declared.SpatialGrid.{SpatialGrid}
 use Rattle.grid.specs.declared.Cell.{Cell}
-use Rattle.patch.specs.Count.{count}
-use Rattle.patch.proofs.Counts.{and-both}
-use Rattle.sifting.specs.Sift.{only}
-use Rattle.sifting.proofs.Only.{In, only-count, only-none, only-fewer}
 use Rattle.nearby.specs.Narrow.{cellAt, inCells}
 use Rattle.nearby.proofs.Ordered.{Strict, Sorted, sorted-only, sorted-unique}
 use Rattle.nearby.proofs.Earlier.{earlier-strict, neighbors-only, order-of-sorted, order-of-count}
 use Rattle.cell_loop.specs.FindNeighbors.{extended, isAt, inCell, findNeighbors, CellLoop}
 use Rattle.cell_loop.proofs.Buckets.{only-ext, extended-ext, among, buckets}
+use Rattle.lists.specs.Lists.{upFrom, count}
+use Rattle.lists.proofs.Bools.{and-both}
+use Rattle.lists.specs.Members.{only, In}
+use Rattle.lists.proofs.Members.{only-count, only-none, only-fewer}
 
 -- ---- what the order of two cells says of their coordinates
 pub record Rises (c d : Cell) : Type 0 where

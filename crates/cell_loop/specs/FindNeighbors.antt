@@ -7,11 +7,12 @@ use mathlib.Core.List.{List, [], _∷_, _++_}
 use lib.Dec.{eqb}
 use lib.Ieee.{Float}
 use Rattle.vector.specs.declared.Point3f.{Point3f}
-use Rattle.points.specs.Points.{pointAt, upFrom}
+use Rattle.points.specs.Points.{pointAt}
 use Rattle.grid.specs.Grid.{cellOf, rangeOf, neighbors}
 use Rattle.grid.specs.declared.SpatialGrid.{SpatialGrid}
 use Rattle.grid.specs.declared.Cell.{Cell}
-use Rattle.sifting.specs.Sift.{only}
+use Rattle.lists.specs.Lists.{upFrom}
+use Rattle.lists.specs.Members.{only}
 
 -- a `for` whose body extends the list
 unfoldable pub extended : (ℕ → List ℕ) → List ℕ → List ℕ

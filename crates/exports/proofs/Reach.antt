@@ -37,7 +37,7 @@ pub marks-of-patch : (points normals : List Float) (c : BallPivotingConfig) (fac
     → answer ≡ p .faces + 2 * p .seeds
 marks-of-patch points normals c faces words floats p faces' words' floats' r accepted radii room before after answer entries m =
     let s = r .shape accepted radii in
-    let exact = reached-exactly (facesIn (p .faces) faces') (p .faces + 2 * p .seeds) (pointCount points) (s .points) (s .inside) in
+    let exact = reached-exactly (facesIn (p .faces) faces') (p .faces + 2 * p .seeds) (pointCount points) (s .shape .points) (s .inside) in
     m .counted
     ∙ ap (λ (n : ℕ). count (eqb 1) (reached (take (3 * p .faces) faces') n)) entries
     ∙ ap (λ (f : List ℕ). count (eqb 1) (reached f (pointCount points))) (sym (flat-faces-in (p .faces) faces' room))

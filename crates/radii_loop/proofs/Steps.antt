@@ -16,12 +16,12 @@ use lib.Ieee.{Float, nan, inf, fin, binary32, up, down, below, round, neg, sum, 
 use lib.Ieee.Scale.{finite}
 use borrow.Author.Tests.{lt-ltb, le-ltb}
 use Rattle.numbers.specs.Rounded.{f32, _⊕_, _⊖_}
-use Rattle.numbers.proofs.OrderLaws.{unsigned}
 use Rattle.numbers.proofs.RoundedOrder.{nonnegative-minus}
 use Rattle.numbers.proofs.SumOrder.{sub-nonnegative}
 use Rattle.sorting.specs.Sorted.{All, Rising}
 use Rattle.radii.specs.Radii.{total, spaced, dedup}
 use Rattle.radii_loop.specs.ComputeAdaptiveRadii.{absolute, spacedBy, dedupBy}
+use Rattle.numbers.specs.Bounds.{unsigned}
 
 -- ---- where a sum starts
 start-sum : (b c : ℕ) → sum binary32 true 0 false b c ≡ sum binary32 false 0 false b c
