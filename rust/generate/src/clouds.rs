@@ -151,7 +151,8 @@ fn sizes(random: &mut Random) -> Cloud {
     Cloud { kind: "sizes", points: points.collect(), spacing: f64::from(high) }
 }
 
-/// Points some ten-thousandths apart, and one at a far corner: cells are as wide as a coordinate's rounding there, or narrower.
+/// Points some ten-thousandths apart, and one at a far corner: cells are as wide as a coordinate's rounding there, or
+/// narrower.
 fn far(random: &mut Random) -> Cloud {
     let count = random.whole(4, 24);
     let step = random.pick(&[1e-4, 2.5e-4, 4e-4]);

@@ -26,7 +26,8 @@ fn no_radii(radius: f32) -> Settings {
     Settings { adaptive_radius: false, ..one_radius(radius) }
 }
 
-/// A triangle with right angle, then `alone` points that have no neighbour, then a larger one.
+/// `alone` points that have no neighbour, then a triangle for the larger radius; before them, where asked, one for the
+/// smaller radius.
 fn tries(alone: usize, with_small: bool) -> Case {
     let corner = |x: f32, edge: f32| [x, 0.0, 0.0, x + edge, 0.0, 0.0, x, edge, 0.0];
     let mut points: Vec<f32> = if with_small { corner(-9_000.0, 1.0).to_vec() } else { vec![] };
@@ -37,7 +38,8 @@ fn tries(alone: usize, with_small: bool) -> Case {
     plain("first points", points, settings)
 }
 
-/// Two points on one place, two at a distance, and a triangle, none near another: the first two radii are 0 and twice that distance.
+/// Two points on one place, two at a distance, and a triangle, none near another: the first two radii are 0 and twice
+/// that distance.
 fn radii_apart(distance: f32) -> Case {
     let mut points = vec![0.0; 6];
     points.extend([0.0, 100.0, 0.0, distance, 100.0, 0.0]);
@@ -71,7 +73,7 @@ fn pivots_of_equal_score() -> Case {
     plain("pivots of equal score", points, by_number(1.0))
 }
 
-/// Three points of which those with these two numbers lie at two radii from each other.
+/// Three places in this order; the first two lie at just two radii from each other.
 fn seed_over_two_radii(order: [usize; 3]) -> Case {
     let places = [[0.0, 0.0, 0.0], [2.0, 0.0, 0.0], [1.0, 1.0, 0.0]];
     plain("seed over two radii", order.iter().flat_map(|i| places[*i]).collect(), by_number(1.0))
@@ -83,7 +85,7 @@ fn far(factor: f32, points: &[[f32; 3]]) -> Case {
     plain("far corner", points.iter().flatten().copied().collect(), settings)
 }
 
-/// A seed of three points, and one that lies within a radius of the first edge, two cells away from its middle.
+/// A seed of three points, and one within a radius of the first edge that is not in the range of its middle.
 fn pivot_out_of_range() -> Case {
     let seed = [[0.002_436, 0.0, 0.0], [0.002_436, 0.000_24, 0.0], [0.002_26, 0.000_1, 0.0]];
     far(1.0, &[[-10_000.0, 0.0, 0.0], seed[0], seed[1], seed[2], [0.003_423, 0.000_12, 0.0]])
@@ -111,7 +113,8 @@ fn seed_out_of_range() -> Case {
     far(1.0, &[[-10_000.0, 0.0, 0.0], near[0], near[1], near[2]])
 }
 
-/// Three points within two radii, none of them in another's range: no sample has a neighbour, and the plain path is taken.
+/// Three points within two radii, none of them in another's range: no sample has a neighbour, and the plain path is
+/// taken.
 fn no_density() -> Case {
     let (near, far_off) = (9_999.0 + 1.0 / 1_024.0, 9_999.0 + 3.0 / 1_024.0);
     far(0.6, &[[-10_000.0, -10_000.0, 0.0], [far_off, near, 0.0], [near, far_off, 0.0], [near, near, 0.0]])

@@ -1,18 +1,24 @@
-//! The list of changes to the published Rust, and how they are applied: one alone, or all of them into one text, in which a number decides
-//! which one is in force, so that a single build serves them all.
+//! The list of changes to the Rust beside the port, and how they are applied: one alone, or all of them into one text, in
+//! which a number decides which one is in force, so that a single build serves them all.
 //!
-//! tests/mutants.txt has a block of lines for each change, parted by empty lines; a line that begins with # is a comment.
+//! tests/mutants.txt has a block of lines for each change, parted by empty lines; a line that begins with # is a
+//! comment.
 //!
 //! - `name: NAME`
 //! - `file: PATH`: the file that is changed; without it the published one.
-//! - `in: TEXT`: the change stands between this text and the end of the function that it begins; without it anywhere.
-//! - `old: TEXT` and `new: TEXT`: what stands there, once, and what is put in its place; several pairs are applied in turn.
+//! - `in: TEXT`: the change is in the function that begins with this text; without it anywhere.
+//! - `old: TEXT` and `new: TEXT`: what stands there, once, and what is put in its place; pairs are applied in turn.
 //! - `by: STEP, STEP`: the comparisons that have to notice it, each of them; without it any one will do.
 //! - `same: REASON`: why no comparison can notice it.
 
 /// The files that are changed, the published one first, and how each asks for the number of the change that is in force.
-pub const CHANGED: [(&str, &str); 2] =
-    [("rust/oracle/src/ball_pivoting.rs", "crate::mutant()"), ("rust/expect/src/checks.rs", "oracle::mutant()")];
+pub const CHANGED: [(&str, &str); 5] = [
+    ("rust/oracle/src/ball_pivoting.rs", "crate::mutant()"),
+    ("rust/oracle/src/stand_ins.rs", "crate::mutant()"),
+    ("rust/oracle/src/acosf.rs", "crate::mutant()"),
+    ("rust/expect/src/checks.rs", "oracle::mutant()"),
+    ("rust/expect/src/lib.rs", "oracle::mutant()"),
+];
 
 /// The list.
 pub const LIST: &str = "tests/mutants.txt";
@@ -112,7 +118,8 @@ impl Change {
     }
 }
 
-/// The text of a file with every local change of it, each under the number of its place in the list, from 1; 0 is the text as it was.
+/// The text of a file with every local change of it, each under the number of its place in the list, from 1; 0 is the
+/// text as it was.
 pub fn apply_all(text: &str, (file, number): (&str, &str), changes: &[Change]) -> Result<String, String> {
     let mut out = text.to_string();
     let here = |change: &Change| change.file == file && change.is_local();

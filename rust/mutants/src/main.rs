@@ -1,4 +1,5 @@
-//! mutants [NAME..]: changes the published Rust in one place at a time and says which of the gate's comparisons notices.
+//! mutants [NAME..]: changes the Rust beside the port in one place at a time and says which of the gate's comparisons
+//! notices first.
 //! mutants search NAME COUNT SEED: the first difference in full, of more cases.
 //!
 //! The port stays as it is; a difference between it and the changed Rust shows that an input tells the two apart. Wants
@@ -87,7 +88,8 @@ impl Trial {
         Ok(wrong == 0)
     }
 
-    /// Runs the comparisons over other cases than the gate's; prints what differs, and the smallest cloud that is left of it.
+    /// Runs the comparisons over other cases than the gate's; prints what differs, and the smallest cloud that is left of
+    /// it.
     fn search(&mut self, at: usize, words: &[String]) -> Result<bool, String> {
         self.prepare(at)?;
         let compare = |words: &[&str]| {

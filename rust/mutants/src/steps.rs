@@ -67,6 +67,7 @@ fn lay_cases(root: &Path) -> Option<String> {
 
 pub const STEPS: &[Step] = &[
     Step { name: "defaults", run: defaults },
+    Step { name: "numbers", run: |root| compare(root, "compare", &["numbers", "100000", "1"]) },
     Step { name: "triangles", run: |root| compare(root, "compare", &["triangles", "100000", "1"]) },
     Step { name: "estimate", run: |root| compare(root, "compare", &["estimate", "3000", "1"]) },
     Step { name: "fixed clouds", run: |root| compare(root, "compare", &["reconstruct", "80", "1"]) },
