@@ -27,14 +27,15 @@ fn run(root: &Path, name: &str, words: &[&str], input: Option<&Path>) -> Ran {
     Ran { good: out.status.success(), said: out.stdout }
 }
 
-/// The line of a report that says which case differs, or that the program broke off.
+/// The part of a report that says which case differs, or that the program broke off.
 fn compare(root: &Path, name: &str, words: &[&str]) -> Option<String> {
     let ran = run(root, name, words, None);
     let said = String::from_utf8_lossy(&ran.said).into_owned();
-    let case = said.lines().find_map(|line| line.find("case ").map(|at| line[at..].to_string()));
+    let from = |mark: &str| said.lines().find_map(|line| line.find(mark).map(|at| line[at..].to_string()));
     let until =
         |text: String| text.find([',', ')']).map_or(text.clone(), |at| text[..=at].trim_end_matches(',').into());
-    (!ran.good).then(|| case.map_or_else(|| "it broke off".to_string(), until))
+    let first = || from("case ").or_else(|| from("first difference: ")).map_or("it broke off".to_string(), until);
+    (!ran.good).then(first)
 }
 
 fn unlike(same: bool, what: &str) -> Option<String> {
