@@ -1,6 +1,6 @@
 //! Whole calls over clouds of a fixed seed: a line a cloud, with the ratio that is to be reached.
 
-use crate::clock;
+use crate::{clock, slow};
 use expect::{bits, Lent, BUDGET};
 use generate::clouds::{self, Cloud};
 use generate::{work_lengths, Case, Random};
@@ -30,11 +30,11 @@ impl Times {
     }
 }
 
-/// Both sides in turn, at least 5 times, and up to 100 times while that takes no more than about a second.
-fn race(mut rust: impl FnMut(), mut port: impl FnMut()) -> Times {
+/// Both sides in turn, at least 5 times, and up to so many times while that takes no more than about a second.
+fn race(most: usize, mut rust: impl FnMut(), mut port: impl FnMut()) -> Times {
     let mut best = Times { rust: f64::INFINITY, port: f64::INFINITY };
     let begin = Instant::now();
-    for round in 0..100 {
+    for round in 0..most {
         if round >= 5 && begin.elapsed().as_secs_f64() > 1.0 {
             break;
         }
@@ -49,13 +49,18 @@ fn race(mut rust: impl FnMut(), mut port: impl FnMut()) -> Times {
 }
 
 /// Slices long enough for any cloud of this many points, with words in them that no call leaves there.
-fn lend(points: usize) -> Lent {
+pub fn lend(points: usize) -> Lent {
     let (words, floats) = work_lengths(points);
     Lent { faces: vec![u32::MAX; 30_000], words: vec![u32::MAX; words], floats: vec![1.0; floats] }
 }
 
 /// Times one reconstruction on both sides, which have to come to the same, and tells how many faces there were.
-pub fn reconstruct(points: &[f32], normals: &[f32], settings: &Settings) -> (u32, Times) {
+fn reconstruct(points: &[f32], normals: &[f32], settings: &Settings) -> (u32, Times) {
+    reconstruct_times(100, points, normals, settings)
+}
+
+/// The same, at most so many times.
+pub fn reconstruct_times(most: usize, points: &[f32], normals: &[f32], settings: &Settings) -> (u32, Times) {
     let mut lent = lend(points.len() / 3);
     let mut expected = lent.clone();
     let work = [lent.words.len(), lent.floats.len()];
@@ -65,6 +70,7 @@ pub fn reconstruct(points: &[f32], normals: &[f32], settings: &Settings) -> (u32
     assert_eq!((found, bits(&found.radii)), (rust, bits(&rust.radii)), "the answers differ");
     assert!(lent.is_same(&expected), "the lent slices differ");
     let times = race(
+        most,
         || _ = std::hint::black_box(oracle::reconstruct(points, normals, settings, UNLIMITED)),
         || _ = std::hint::black_box(port::reconstruct(points, normals, settings, &mut lent)),
     );
@@ -151,6 +157,7 @@ fn estimates() -> bool {
         assert_eq!((found, found.radius.to_bits()), (rust, rust.radius.to_bits()), "the estimates differ");
         assert!(lent.is_same(&expected), "the lent slices differ");
         let times = race(
+            100,
             || _ = std::hint::black_box(oracle::estimate(&cloud.points, 0.5, UNLIMITED)),
             || _ = std::hint::black_box(port::estimate(&cloud.points, 0.5, &mut lent.words, &mut lent.floats)),
         );
@@ -193,6 +200,7 @@ pub fn bench() -> bool {
         reached &= line(&name, points.len() / 3, &faces.to_string(), times, reach);
         walls.push(times.port);
     }
+    reached &= slow::rows(None, None);
     reached &= estimates();
     let growth = walls[3] / walls[1];
     println!("bell walls from 1,024 to 4,096 points: {growth:.1} times the time (to reach: below 5)");

@@ -1,46 +1,73 @@
 //! Clouds on which a search for seeds takes long: the families, and a hunt for those on which the port is slower than the Rust.
 
-use crate::clouds::{line, reconstruct};
+use crate::clock;
+use crate::clouds::{line, reconstruct_times, Times};
 use generate::slow::{self, Slow};
 use generate::Random;
 use std::time::Instant;
 
-/// A family, its points, how often the Rust takes what the port may, and whether the Rust is timed at all.
+/// A family, its points, and how many times faster than the Rust the port is to be.
 const ROWS: [(&str, usize, f64); 12] = [
-    ("zero", 4_096, 1.0),
+    ("zero", 4_096, 5.0),
     ("late", 4_096, 1.0),
-    ("second", 1_024, 1.0),
-    ("arc", 200, 1.0),
-    ("arc, low", 128, 1.0),
-    ("two", 128, 1.0),
-    ("score", 200, 1.0),
-    ("area", 200, 1.0),
-    ("dust", 200, 1.0),
-    ("corners", 200, 1.0),
-    ("edge", 200, 1.0),
+    ("second", 150, 3.0),
+    ("arc", 150, 1.2),
+    ("arc, low", 100, 3.0),
+    ("two", 100, 2.5),
+    ("score", 200, 8.0),
+    ("area", 200, 20.0),
+    ("dust", 150, 1.1),
+    ("corners", 150, 2.0),
+    ("edge", 150, 1.0),
     ("pivots", 1_024, 1.0),
 ];
 
-fn normals(slow: &Slow) -> Vec<f32> {
-    vec![0.0; slow.points.len()]
+fn times(cloud: &Slow) -> (u32, Times) {
+    reconstruct_times(5, &cloud.points, &vec![0.0; cloud.points.len()], &cloud.settings)
 }
 
+/// `bench slow [NAME] [POINTS]`: the families, or one of them, at so many points.
 pub fn bench() -> bool {
-    let mut reached = true;
-    let only = std::env::args().nth(2);
     let size = std::env::args().nth(3).and_then(|s| s.parse().ok());
+    rows(std::env::args().nth(2), size)
+}
+
+/// A line for each family, or for one. True if each ratio is reached.
+pub fn rows(only: Option<String>, size: Option<usize>) -> bool {
+    let mut reached = true;
     for (name, n, reach) in ROWS {
-        if only.as_ref().is_some_and(|o| o != name && o != "all") {
+        if only.as_ref().is_some_and(|o| o != name) {
             continue;
         }
         let cloud = slow::family(name, &mut Random::new(1, 0), size.unwrap_or(n));
-        let (faces, times) = reconstruct(&cloud.points, &normals(&cloud), &cloud.settings);
+        let (faces, times) = times(&cloud);
         reached &= line(name, cloud.points.len() / 3, &faces.to_string(), times, reach);
     }
     reached
 }
 
-/// `bench hunt SECONDS SEED`: draws clouds for so long, and tells the least ratio where the Rust takes over 100 µs.
+/// `bench alone NAME POINTS`: the port's time on a family, in seconds, best of three; the Rust is not run.
+pub fn alone() -> bool {
+    let name = std::env::args().nth(2).expect("a family");
+    let size = std::env::args().nth(3).and_then(|s| s.parse().ok()).expect("a number of points");
+    let name = slow::FAMILIES.iter().find(|f| **f == name).expect("a family's name");
+    let cloud = slow::family(name, &mut Random::new(1, 0), size);
+    let normals = vec![0.0; cloud.points.len()];
+    let mut lent = crate::clouds::lend(size);
+    let mut best = f64::INFINITY;
+    for _ in 0..3 {
+        let start = clock::now();
+        std::hint::black_box(port::reconstruct(&cloud.points, &normals, &cloud.settings, &mut lent));
+        best = best.min((clock::now() - start).as_secs_f64());
+        if best > 10.0 {
+            break;
+        }
+    }
+    println!("{name:<12} {size:>6} {best:>9.4} s");
+    true
+}
+
+/// `bench hunt SECONDS SEED`: draws clouds for so long, and tells the least ratio where the Rust takes over 100 µs. True if that is not below 1.
 pub fn hunt() -> bool {
     let number = |i: usize| std::env::args().nth(i).and_then(|s| s.parse::<u64>().ok());
     let (seconds, seed) = (number(2).unwrap_or(60), number(3).unwrap_or(1));
@@ -48,15 +75,15 @@ pub fn hunt() -> bool {
     let (mut drawn, mut slow, mut slower, mut worst) = (0, 0, 0, (f64::INFINITY, 0, ""));
     while begin.elapsed().as_secs() < seconds {
         let cloud = slow::drawn(seed, drawn);
-        let start = Instant::now();
-        let laid = oracle::reconstruct(&cloud.points, &normals(&cloud), &cloud.settings, expect::BUDGET);
-        let took = start.elapsed().as_secs_f64();
         drawn += 1;
-        if laid.is_err() || took < 1e-4 || took > 1.0 {
+        let start = clock::now();
+        let normals = vec![0.0; cloud.points.len()];
+        let laid = oracle::reconstruct(&cloud.points, &normals, &cloud.settings, expect::BUDGET);
+        if laid.is_err() || (clock::now() - start).as_micros() < 100 {
             continue;
         }
         slow += 1;
-        let times = reconstruct(&cloud.points, &normals(&cloud), &cloud.settings).1;
+        let times = times(&cloud).1;
         if times.ratio() < 1.0 {
             slower += 1;
             println!("cloud {} ({}): Rust {:.3} ms, port {:.3} ms", drawn - 1, cloud.name, times.rust, times.port);
@@ -66,6 +93,6 @@ pub fn hunt() -> bool {
         }
     }
     let (ratio, at, name) = worst;
-    println!("{drawn} clouds of seed {seed}, {slow} on which the Rust takes over 100 µs, {slower} slower than the Rust; least ratio {ratio:.2}: cloud {at} ({name})");
+    println!("{drawn} slow clouds of seed {seed}, {slow} on which the Rust takes over 100 µs, {slower} slower than the Rust; least ratio {ratio:.2}: cloud {at} ({name})");
     slower == 0
 }

@@ -108,7 +108,7 @@ pub fn family(name: &'static str, random: &mut Random, n: usize) -> Slow {
 pub fn drawn(seed: u64, number: u64) -> Slow {
     let random = &mut Random::new(seed, number);
     let name = random.pick(&FAMILIES);
-    let n = random.pick(&[12, 20, 30, 40, 64, 90, 128]);
+    let n = random.pick(&[12, 16, 20, 24, 30, 40, 64]);
     let mut slow = family(name, random, n);
     let settings = &mut slow.settings;
     if random.percent(50) {
