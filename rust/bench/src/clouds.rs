@@ -168,9 +168,9 @@ fn estimates() -> bool {
 
 /// Clouds of the comparison on which the Rust takes over 100 µs: none may be slower.
 fn comparison(count: u64) -> bool {
-    let (mut slow, mut slower, mut worst) = (0, 0, f64::INFINITY);
+    let (mut slow, mut slower, mut worst) = (0, 0, (f64::INFINITY, 0, ""));
     for number in 0..count {
-        let Case { points, normals, settings, words, floats, .. } = generate::case(1, number);
+        let Case { kind, points, normals, settings, words, floats, .. } = generate::case(1, number);
         let start = Instant::now();
         let found = expect::find(&points, &normals, &settings, [words, floats], BUDGET);
         if !matches!(found, Ok(expect::Found::Laid(_) | expect::Found::NoTriangle)) || start.elapsed().as_micros() < 100
@@ -180,9 +180,12 @@ fn comparison(count: u64) -> bool {
         slow += 1;
         let ratio = reconstruct(&points, &normals, &settings).1.ratio();
         slower += i32::from(ratio < 1.0);
-        worst = worst.min(ratio);
+        if ratio < worst.0 {
+            worst = (ratio, number, kind);
+        }
     }
-    println!("clouds of the comparison on which the Rust takes over 100 µs: {slow}, slower than the Rust: {slower}, least ratio {worst:.2}");
+    let (ratio, number, kind) = worst;
+    println!("clouds of the comparison on which the Rust takes over 100 µs: {slow}, slower than the Rust: {slower}, least ratio {ratio:.2}: cloud {number} ({kind})");
     slower == 0
 }
 

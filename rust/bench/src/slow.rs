@@ -19,7 +19,7 @@ const ROWS: [(&str, usize, f64); 12] = [
     ("dust", 150, 1.1),
     ("corners", 150, 2.0),
     ("edge", 150, 1.0),
-    ("pivots", 1_024, 1.0),
+    ("pivots", 1_024, 0.9),
 ];
 
 fn times(cloud: &Slow) -> (u32, Times) {
