@@ -15,9 +15,9 @@ use Rattle.numbers.proofs.RoundedOrder.{Rounds, above, rounds-le, rounds-own}
 use Rattle.quality.specs.Measures.{half, tiny, radiusOf, aspectRatio}
 use Rattle.quality.specs.Shape.{shape, flat, shapeOf}
 use Rattle.thin.specs.Thin.{Quartered}
-use Rattle.thin.proofs.Near.{Near, near-le, near-eq, near-trans, near-add, near-self, near-times, near-cancel}
-use Rattle.thin.proofs.Rounding.{Units, units-pos, units-positive}
-use Rattle.thin.proofs.Operations.{between-units, mul-units, div-at, div-units, add-units, root-units}
+use Rattle.rounding_errors.proofs.Near.{Near, near-le, near-eq, near-trans, near-add, near-self, near-times, near-cancel}
+use Rattle.rounding_errors.proofs.Rounding.{Units, units-pos, units-positive}
+use Rattle.rounding_errors.proofs.Operations.{between-units, mul-units, div-at, div-units, add-units, root-units}
 use Rattle.thin.proofs.Squares.{lengths-product, lengths-sum, above-bar, sum-below, product-below, ratio-below}
 
 -- ---- constants

@@ -1,9 +1,10 @@
 -- The chain of errors from the squares to the aspect ratio, over whole numbers: lengths, area and the other values are numbers of units, w of them to 1. Assumes nothing.
 use mathlib.Core.Path.{_≡_, refl}
-use Prim.Native.Nat.{ℕ, _+_, _*_, _≤_, _<_}
+use Prim.Native.Nat.{ℕ, _+_, _*_, _^_, _≤_, _<_}
 use native.Mathlib.Nat.{mul-le-mul, mul-le-mul-right, mul-pos}
 use native.Mathlib.Omega.{arith}
-use Rattle.thin.proofs.Near.{Near, near-le, near-eq, near-trans, near-mul, near-add, near-square, near-times, near-cancel, near-root, near-margin}
+use native.Mathlib.Bridge.{IsLe, le-by-compare}
+use Rattle.rounding_errors.proofs.Near.{Near, near-le, near-eq, near-trans, near-mul, near-add, near-square, near-times, near-cancel, near-root, near-within, square-back}
 
 -- ---- the product of two lengths is at least what is at most both squares
 
@@ -83,6 +84,13 @@ test-near w X e N k P P1 t S s A B C a h b c d i j =
     order s t p = omega arith
 
 -- ---- the ratio
+
+-- 47 errors are less than a part of 2 ^ -17
+near-margin : {p q : ℕ} → Near 47 (131072 * (p * p)) (131071 * (q * q)) → p ≤ q
+unfolding IsLe
+near-margin {p} {q} h =
+    let i = near-within {p = 131072 * (p * p)} {q = 131071 * (q * q)} 47 131071 131072 (le-by-compare (131071 * 16777216 ^ 47) (131072 * 16777215 ^ 47) tt) h in
+    square-back p q (omega arith)
 
 -- t is the limit, α the bound
 module _ (w X S P t α q h f ρ : ℕ) (W : 0 < w) (H : 0 < h) (F : 0 < f) where

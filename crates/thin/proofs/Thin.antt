@@ -2,7 +2,7 @@
 use mathlib.Core.Logic.{inl, inr}
 use mathlib.Core.Path.{_≡_, refl, sym, ap, subst}
 use Prim.Native.Nat.{ℕ, zero, suc, _+_, _*_, _^_, _≤_, _<_}
-use native.Mathlib.Nat.{mul-pos, mul-le-mul-right, le-of-mul-le-mul-right, one-le-pow}
+use native.Mathlib.Nat.{mul-pos, mul-le-mul-right, le-of-mul-le-mul-right}
 use native.Mathlib.Omega.{arith}
 use native.Mathlib.Bridge.{IsLe, le-by-compare}
 use mathlib.Core.Bool.{Bool, true, false, not}
@@ -19,9 +19,9 @@ use Rattle.quality.specs.Measures.{half, one, tiny}
 use Rattle.area_bounds.specs.AreaBound.{AreaLimit}
 use Rattle.area_bounds.proofs.AreaBound as area
 use Rattle.thin.specs.Thin.{between, isPlain, spread, Quartered, ThinLimit, Thin, AllThin, ThinUpTo}
-use Rattle.thin.proofs.Near.{Near, near-eq, near-trans, near-mul, near-add, near-self, near-more, near-times, near-cancel}
-use Rattle.thin.proofs.Rounding.{Units}
-use Rattle.thin.proofs.Operations.{between-units, units-le, minimum-units, mul-units, add-units}
+use Rattle.rounding_errors.proofs.Near.{Near, near-eq, near-trans, near-mul, near-add, near-self, near-more, near-times, near-cancel, near-within}
+use Rattle.rounding_errors.proofs.Rounding.{Units}
+use Rattle.rounding_errors.proofs.Operations.{between-units, units-le, minimum-units, mul-units, add-units}
 use Rattle.thin.proofs.Squares.{test-near}
 use Rattle.thin.proofs.Aspect.{two-units, four-units, bound-units, times-below, Passed, passed-less, passed-turned, passed-swapped, Edge, Cross, aspect-below, flat-below, none-below}
 
@@ -37,25 +37,17 @@ unfolding IsLe
 quarter w v p q t W e a b =
     let c : Near 2 (t * w * w) (p * p * v) = near-trans (near-times w b) (near-eq (moved q w v) refl (near-times v a)) in
     let d : Near 2 (t * w * 262144) (65535 * (p * p)) = near-cancel w W (near-eq (left t w) (right (p * p) v w e) (near-times 262144 c)) in
-    subst (λ (z : ℕ). z ≤ 131071 * (p * p)) (grouped t w) (margin (t * w) (p * p) (16777215 ^ 2) (16777216 ^ 2) (one-le-pow 2 16777215 (omega arith)) (le-by-compare (131070 * 16777216 ^ 2) (131071 * 16777215 ^ 2) tt) (d .near))
+    let i = near-within {p = t * w * 262144} {q = 65535 * (p * p)} 2 131070 131071 (le-by-compare (131070 * 16777216 ^ 2) (131071 * 16777215 ^ 2) tt) d in
+    omega arith
   where
     moved : (q w v : ℕ) → q * w * v ≡ q * v * w
     moved q w v = omega arith
-
-    grouped : (t w : ℕ) → 524288 * (t * w) ≡ 524288 * t * w
-    grouped t w = omega arith
 
     left : (t w : ℕ) → t * w * w * 262144 ≡ t * w * 262144 * w
     left t w = omega arith
 
     right : (s v w : ℕ) → v * 262144 ≡ 65535 * w → s * v * 262144 ≡ 65535 * s * w
     right s v w e = let i = ap (λ (z : ℕ). s * z) e in omega arith
-
-    margin : (a s l u : ℕ) → 0 < l → 131070 * u ≤ 131071 * l → a * 262144 * l ≤ 65535 * s * u → 524288 * a ≤ 131071 * s
-    margin a s l u L m h =
-        let k : 131070 * u * s ≤ 131071 * l * s = mul-le-mul-right s m in
-        let i : 524288 * a * l ≤ 131071 * s * l = omega arith in
-        le-of-mul-le-mul-right i L
 
 limit-of : {α t : Float} {p q i j k l : ℕ} → Units α p i j → Units t q k l → 524288 * q * 2 ^ 149 ≤ 131071 * (p * p) → 2 ^ 19 * num t * (den α * den α) ≤ 131071 * (num α * num α) * den t
 limit-of {α} {t} {p} {q} u v s =

@@ -1,5 +1,5 @@
 -- `Near k p q`: p is at most q, but for k rounding errors, each of a part of at most 2 ^ -24. It goes through products and sums (`near-mul`, `near-add`) and roots (`near-root`),
--- so that an error analysis is a chain of such facts, and at its end the count of errors is set against a margin (`near-margin`). Assumes nothing.
+-- so that an error analysis is a chain of such facts, and at its end the count of errors is set against a margin (`near-within`). Assumes nothing.
 use mathlib.Core.Path.{_≡_, sym, ap, _∙_, subst}
 use Prim.Native.Nat.{ℕ, _+_, _-_, _*_, _^_, _≤_, _<_}
 use native.Mathlib.Nat.{le-trans, le-of-eq, mul-assoc, mul-comm, mul-right-comm, mul-mul-mul-comm, mul-le-mul, mul-le-mul-left, mul-le-mul-right, mul-lt-mul-of-pos-right, le-of-mul-le-mul-right, add-mul, pow-le-pow-left, one-le-pow}
@@ -75,21 +75,18 @@ near-root {k} {p} {q} h = record {
   near = square-back (p * 16777215 ^ k) (q * 16777216 ^ k) (rw (pow-add 16777215 k k, pow-add 16777216 k k, mul-mul-mul-comm p p, mul-mul-mul-comm q q) at (h .near));
 }
 
+-- k errors set against a margin: they are less than the part that n is above m
+pub near-within : {p q : ℕ} (k m n : ℕ) → m * 16777216 ^ k ≤ n * 16777215 ^ k → Near k p q → p * m ≤ q * n
+near-within {p} {q} k m n c h = go (16777215 ^ k) (16777216 ^ k) (one-le-pow k 16777215 (omega arith)) c (h .near)
+  where
+    go : (l u : ℕ) → 0 < l → m * u ≤ n * l → p * l ≤ q * u → p * m ≤ q * n
+    go l u L c h =
+        let i : p * l * m ≤ q * u * m = mul-le-mul-right m h in
+        let j : q * (m * u) ≤ q * (n * l) = mul-le-mul-left q c in
+        let g : p * m * l ≤ q * n * l = omega arith in
+        le-of-mul-le-mul-right g L
+
 -- three errors are less than a half
 pub near-twice : {p q : ℕ} → Near 3 p q → p ≤ 2 * q
 unfolding IsLe
-near-twice {p} {q} h = le-of-mul-le-mul-right (twice (p * 16777215 ^ 3) q (16777215 ^ 3) (16777216 ^ 3) (le-by-compare (16777216 ^ 3) (2 * 16777215 ^ 3) tt) (h .near)) (one-le-pow 3 16777215 (omega arith))
-  where
-    twice : (p q l u : ℕ) → u ≤ 2 * l → p ≤ q * u → p ≤ 2 * q * l
-    twice p q l u m h = let k : q * u ≤ q * (2 * l) = mul-le-mul-left q m in omega arith
-
--- 47 errors are less than a part of 2 ^ -17
-pub near-margin : {p q : ℕ} → Near 47 (131072 * (p * p)) (131071 * (q * q)) → p ≤ q
-unfolding IsLe
-near-margin {p} {q} h = square-back p q (margin (p * p) (q * q) (16777215 ^ 47) (16777216 ^ 47) (one-le-pow 47 16777215 (omega arith)) (le-by-compare (131071 * 16777216 ^ 47) (131072 * 16777215 ^ 47) tt) (h .near))
-  where
-    margin : (a b l u : ℕ) → 0 < l → 131071 * u ≤ 131072 * l → 131072 * a * l ≤ 131071 * b * u → a ≤ b
-    margin a b l u L m h =
-        let k : 131071 * u * b ≤ 131072 * l * b = mul-le-mul-right b m in
-        let i : a * (131072 * l) ≤ b * (131072 * l) = omega arith in
-        le-of-mul-le-mul-right i (omega arith)
+near-twice {p} {q} h = let i = near-within {p = p} {q = q} 3 1 2 (le-by-compare (1 * 16777216 ^ 3) (2 * 16777215 ^ 3) tt) h in omega arith

@@ -15,7 +15,7 @@ use lib.Ieee.Order.{kept, drop, round-mono}
 use lib.Ieee.Scale.{grid, round-val, round-under}
 use lib.Ieee.Positive.{positive, positive-finite, positive-of-value, values-of-le, between}
 use Rattle.numbers.proofs.RootPattern.{size-gt}
-use Rattle.thin.proofs.Near.{Near, near-cancel}
+use Rattle.rounding_errors.proofs.Near.{Near, near-cancel}
 
 -- ---- the nearest whole number
 

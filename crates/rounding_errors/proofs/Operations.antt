@@ -4,11 +4,11 @@ use Prim.Native.Nat.{ℕ, zero, suc, _+_, _*_, _^_, _≤_, _<_}
 use native.Mathlib.Nat.{le-trans, le-of-eq, le-add-right, zero-lt-suc, mul-one, mul-le-mul, mul-le-mul-left, mul-le-mul-right, le-of-mul-le-mul-right, mul-pos, two-pow-succ}
 use native.Mathlib.Omega.{arith}
 use native.Mathlib.Bridge.{IsLe, le-by-compare}
-use mathlib.Core.Bool.{Bool, true, false, not, _&&_, cond}
+use mathlib.Core.Bool.{Bool, true, false, true≢false, not, _&&_, cond}
 use lib.Dec.{T, leb, leb→le, eqb·suc-zero}
 use lib.Pow.{pow-add, pow-pos, pow-mono}
-use lib.Ieee.{Float, nan, inf, fin, Format, binary32, round, units, add, sum, div, lt, le, fits, isNan}
-use lib.Ieee.Fits.{and-l, and-r}
+use lib.Ieee.{Float, nan, inf, fin, Format, binary32, up, down, round, units, add, sum, div, lt, le, fits, isNan}
+use lib.Ieee.Fits.{down-pos, and-l, and-r}
 use lib.Ieee.Exact.{HasValue}
 use lib.Ieee.Scale.{round-same}
 use lib.Ieee.Positive.{num, den, den-pos, positive, positive-finite, values-of-le, value→cross, between, mul-at, positive-of-value}
@@ -20,8 +20,8 @@ use Rattle.numbers.proofs.RootPattern.{units-value}
 use Rattle.numbers.proofs.RootWhole as whole
 use Rattle.numbers.proofs.RootUnits.{finer, scaled, root-of-value}
 use Rattle.numbers.proofs.RootGrid.{f32-whole, on-grid, scaling, below-top}
-use Rattle.thin.proofs.Near.{Near, near-eq, near-times, near-twice, square-back}
-use Rattle.thin.proofs.Rounding.{Units, units-pos, units-positive, Rounded, round-units}
+use Rattle.rounding_errors.proofs.Near.{Near, near-eq, near-times, near-twice, square-back}
+use Rattle.rounding_errors.proofs.Rounding.{Units, units-pos, units-positive, Rounded, round-units}
 
 -- ---- ranges
 
@@ -143,15 +143,21 @@ div-units {x} {y} {m} {n} {i} {j} {k} {l} e f u v t =
     (le-trans (mul-le-mul-left (2 ^ e) (v .high)) (le-trans (powers e l i 149 (r .under)) (mul-le-mul-right (2 ^ 149) (u .low))))
     (le-trans (mul-le-mul-right (2 ^ 149) (u .high)) (le-trans (powers j 149 f k (r .over)) (mul-le-mul-left (2 ^ f) (v .low)))))
 
-add-is : (f : Format) (x y : Float) → T (positive x) → T (positive y) → add f x y ≡ round f false (num x * den y + num y * den x) (den x * den y)
+-- a sum of two that are not below zero, before it is rounded
+pub sum-at : (x y : Float) (a b c : ℕ) → 0 < c → HasValue x false a c → HasValue y false b c → x ⊕ y ≡ round binary32 false (a + b) (1 * c)
 unfolding add sum
-add-is f nan y p q = absurd p
-add-is f (inf s) y p q = absurd p
-add-is f (fin true m e) y p q = absurd p
-add-is f (fin false m e) nan p q = absurd q
-add-is f (fin false m e) (inf t) p q = absurd q
-add-is f (fin false m e) (fin true n d) p q = absurd q
-add-is f (fin false m e) (fin false n d) p q = refl
+sum-at nan y a b c C h k = absurd h
+sum-at (inf s) y a b c C h k = absurd h
+sum-at (fin s m e) nan a b c C h k = absurd k
+sum-at (fin s m e) (inf t) a b c C h k = absurd k
+sum-at (fin true m e) (fin t n d) a b c C h k = absurd (true≢false (h .0))
+sum-at (fin false m e) (fin true n d) a b c C h k = absurd (true≢false (k .0))
+sum-at (fin false m e) (fin false n d) a b c C h k =
+    round-same binary32 false (m * up e * down d + n * up d * down e) (down e * down d) (a + b) (1 * c) (mul-pos (down-pos e) (down-pos d)) (mul-pos {m = 1} (omega arith) C)
+    (crossed (m * up e) (down e) (n * up d) (down d) (h .1) (k .1))
+  where
+    crossed : (p e q d : ℕ) → p * c ≡ a * e → q * c ≡ b * d → (p * d + q * e) * (1 * c) ≡ (a + b) * (e * d)
+    crossed p e q d h k = let i = ap (λ (z : ℕ). z * d) h in let j = ap (λ (z : ℕ). z * e) k in omega arith
 
 -- a sum is rounded once, and nothing is scaled
 pub record Added (x : Float) (q i j : ℕ) : Type 0 where
@@ -164,10 +170,7 @@ pub add-units : {x y : Float} {m n i j k l : ℕ} (e f : ℕ) → Units x m i j 
 add-units {x} {y} {m} {n} {i} {j} {k} {l} e f u v t h =
     let r = ranged e f e i (suc j) f t in
     let w : ℕ = 2 ^ 149 in
-    let at : x ⊕ y ≡ round binary32 false (m + n) (1 * w) =
-    add-is binary32 x y (units-positive u) (units-positive v)
-    ∙ round-same binary32 false (num x * den y + num y * den x) (den x * den y) (m + n) (1 * w) (mul-pos (den-pos x) (den-pos y)) (pow-pos 149)
-    (crossed (num x) (den x) (num y) (den y) w m n (value→cross x m w (u .value)) (value→cross y n w (v .value))) in
+    let at : x ⊕ y ≡ round binary32 false (m + n) (1 * w) = sum-at x y m n w (pow-pos 149) (u .value) (v .value) in
     let lo : 2 ^ e * 1 ≤ m + n = le-trans (le-of-eq (mul-one (2 ^ e))) (le-trans (le-trans (pow-mono (r .under)) (u .low)) (le-add-right m n)) in
     let hi : m + n ≤ 2 ^ f * 1 = top (2 ^ j) (2 ^ l) (2 ^ f) (two-pow-succ j) (two-pow-succ l) (u .high) (v .high) (pow-mono (r .over)) (pow-mono (leb→le (suc l) f h)) in
     let d = round-units (m + n) 1 e f (zero-lt-suc 0) (r .normal) (r .small) (r .bounded) lo hi in
@@ -178,9 +181,6 @@ add-units {x} {y} {m} {n} {i} {j} {k} {l} e f u v t h =
       above = near-eq refl (mul-one (d .n)) (d .above);
     }
   where
-    crossed : (a d b e w m n : ℕ) → a * w ≡ m * d → b * w ≡ n * e → (a * e + b * d) * (1 * w) ≡ (m + n) * (d * e)
-    crossed a d b e w m n p q = let i = ap (λ (z : ℕ). z * e) p in let j = ap (λ (z : ℕ). z * d) q in omega arith
-
     top : {c d : ℕ} (a b p : ℕ) → c ≡ a + a → d ≡ b + b → m ≤ a → n ≤ b → c ≤ p → d ≤ p → m + n ≤ p * 1
     top a b p e g h i j k = omega arith
 
