@@ -234,6 +234,12 @@ float yb_max(float a, float b);
 /* v held to lo .. hi; a not-a-number is passed on. */
 float yb_clamp(float v, float lo, float hi);
 
+/*
+ * The distance of two points. Where the coordinates are multiples of 1/64 and at most 1,000 in size its square differs
+ * from the exact one by at most a part of 1/2,097,152 (docs/ACCURACY.md). Equal points have distance 0.
+ */
+float yb_distance(float x1, float y1, float z1, float x2, float y2, float z2);
+
 /* The radius of the circle through three points. */
 float yb_compute_circumradius(float x1, float y1, float z1, float x2, float y2, float z2, float x3, float y3, float z3);
 

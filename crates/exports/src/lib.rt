@@ -5,7 +5,7 @@ ghost use Rattle.numbers.specs.Root.{root};
 ghost use Rattle.numbers.specs.Order.{minimum, maximum, clamp};
 ghost use Rattle.numbers.specs.Cut.{cut, ceil};
 ghost use Rattle.numbers.specs.Acos.{acos};
-ghost use Rattle.vector.specs.Vector.{point};
+ghost use Rattle.vector.specs.Vector.{point, distance};
 ghost use Rattle.triangle.specs.Quality.{circumradius, quality, acceptable};
 ghost use Rattle.settings.specs.Settings.{defaults};
 ghost use Rattle.estimate.specs.Estimate.{Estimated};
@@ -85,6 +85,13 @@ pub extern "C" fn yb_clamp(v: f32, lo: f32, hi: f32) -> f32
     ensures { λ r. ⌜ r ≡ clamp v lo hi ⌝ }
 {
     numbers::clamp(v, lo, hi)
+}
+
+#[no_mangle]
+pub extern "C" fn yb_distance(x1: f32, y1: f32, z1: f32, x2: f32, y2: f32, z2: f32) -> f32
+    ensures { λ r. ⌜ r ≡ distance (point x1 y1 z1) (point x2 y2 z2) ⌝ }
+{
+    vector::distance(vector::point(x1, y1, z1), vector::point(x2, y2, z2))
 }
 
 #[no_mangle]

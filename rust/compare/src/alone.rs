@@ -2,9 +2,10 @@
 
 use crate::report::Report;
 use crate::sides::{Mirror, Number};
-use crate::{clouds, numbers, triangles};
+use crate::{clouds, lengths, numbers, triangles};
 use expect::{Found, BUDGET};
 use generate::case;
+use std::cell::Cell;
 
 /// On the multi-radius path looks are 3F and pivots 2F + S; on the plain path seeds, looks and pivots are 0.
 pub fn oracle(count: u64, seed: u64, first: u64) -> Report {
@@ -65,6 +66,12 @@ const PATCH_FAULTS: [&str; 13] = [
 const ESTIMATE_FAULTS: [&str; 4] = ["answer", "radius", "last work word", "last work float"];
 const TRIANGLE_FAULTS: [&str; 4] = ["circumradius", "aspect_ratio", "quality_score", "acceptable"];
 
+/// The machine's lengths; the first of all is `off` f32 too long.
+fn stretched(off: u32) -> impl Fn(&[f32; 3], &[f32; 3]) -> f32 {
+    let left = Cell::new(off);
+    move |p, q| f32::from_bits(lengths::machine(p, q).to_bits() + left.take())
+}
+
 /// Puts the oracle in the port's place, then turns one bit of one result: each turned bit must be found, alone.
 pub fn selftest() -> Report {
     let mut report = Report::new("selftest");
@@ -78,6 +85,10 @@ pub fn selftest() -> Report {
     found("", 0, &|| triangles::triangles(&Mirror::new(""), count, seed, first));
     found("", 0, &|| clouds::estimate(&Mirror::new(""), count, seed, first));
     found("", 0, &|| clouds::reconstruct(&Mirror::new(""), count, seed, first));
+    found("", 0, &|| lengths::lengths(&stretched(0), count, seed));
+    // Another length than the machine's; and, further off, one past the bound.
+    found("length", 1, &|| lengths::lengths(&stretched(1), count, seed));
+    found("length", 2, &|| lengths::lengths(&stretched(8), count, seed));
     for call in Number::ALL.map(Number::call) {
         found(call, 1, &|| numbers::numbers(&Mirror::new(call), count, seed));
     }

@@ -4,6 +4,7 @@
 
 mod alone;
 mod clouds;
+mod lengths;
 mod numbers;
 mod report;
 mod shrink;
@@ -15,6 +16,7 @@ use sides::Linked;
 const USAGE: &str = "usage:
   compare numbers COUNT SEED              roots, arc cosines, cuts, min, max, clamp
   compare roots STEP                      the root of every STEP-th pattern
+  compare lengths COUNT SEED              the largest error of a length, beside its bound
   compare triangles COUNT SEED [FIRST]    circumradius, quality, acceptance
   compare estimate COUNT SEED [FIRST]     the radius estimate on generated clouds
   compare reconstruct COUNT SEED [FIRST]  the reconstruction on generated clouds
@@ -32,6 +34,7 @@ fn main() {
     let report = match (command, numbers.as_slice()) {
         ("numbers", [count, seed]) => numbers::numbers(&Linked, *count, *seed),
         ("roots", [step]) if *step > 0 => numbers::roots(&Linked, *step),
+        ("lengths", [count, seed]) => lengths::lengths(&port::distance, *count, *seed),
         ("triangles", [count, seed, first @ ..]) => triangles::triangles(&Linked, *count, *seed, start(first)),
         ("estimate", [count, seed, first @ ..]) => clouds::estimate(&Linked, *count, *seed, start(first)),
         ("reconstruct", [count, seed, first @ ..]) => clouds::reconstruct(&Linked, *count, *seed, start(first)),

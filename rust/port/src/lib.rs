@@ -1,8 +1,8 @@
 //! The port's calls, through the Rust crate's raw layer, on the comparison's types.
 
 pub use yarrowbleat::sys::{
-    acos, ceil_cut, clamp, compute_circumradius as circumradius, compute_triangle_quality as quality, cut, max, min,
-    sqrt, TriangleQuality as Quality,
+    acos, ceil_cut, clamp, compute_circumradius as circumradius, compute_triangle_quality as quality, cut, distance,
+    max, min, sqrt, TriangleQuality as Quality,
 };
 
 use expect::{Estimate, Lent, Patch};

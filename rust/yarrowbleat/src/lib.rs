@@ -79,6 +79,12 @@ fn work(points: usize) -> (Vec<u32>, Vec<f32>) {
     (vec![0; 24 * n + 64], vec![0.0; 4 * n + 64])
 }
 
+/// The distance of two points. Where the coordinates are multiples of 1/64 and at most 1,000 in size its square differs
+/// from the exact one by at most a part of 1/2,097,152; docs/ACCURACY.md says what that means for a tolerance.
+pub fn distance(p: &[f32; 3], q: &[f32; 3]) -> f32 {
+    sys::distance(p, q)
+}
+
 /// A radius that suits the cloud: 2.5 times this percentile of its points' least distances, or 0.1 if there are none.
 pub fn estimate_optimal_radius(points: &[[f32; 3]], percentile: f32) -> Result<f32, Error> {
     let (mut words, mut floats) = work(points.len());

@@ -251,6 +251,7 @@ mod linked {
         pub fn yb_min(a: f32, b: f32) -> f32;
         pub fn yb_max(a: f32, b: f32) -> f32;
         pub fn yb_clamp(v: f32, lo: f32, hi: f32) -> f32;
+        pub fn yb_distance(x1: f32, y1: f32, z1: f32, x2: f32, y2: f32, z2: f32) -> f32;
         pub fn yb_compute_circumradius(
             x1: f32,
             y1: f32,
@@ -363,6 +364,11 @@ pub fn max(a: f32, b: f32) -> f32 {
 /// `v` held to `lo` .. `hi`; a not-a-number is passed on.
 pub fn clamp(v: f32, lo: f32, hi: f32) -> f32 {
     unsafe { linked::yb_clamp(v, lo, hi) }
+}
+
+/// How far two points are from each other, rounded as the reconstruction has it.
+pub fn distance(p: &[f32; 3], q: &[f32; 3]) -> f32 {
+    unsafe { linked::yb_distance(p[0], p[1], p[2], q[0], q[1], q[2]) }
 }
 
 /// The radius of the circle through three points.
