@@ -1,10 +1,10 @@
--- Laws of cutting an f32 to a u32, and of `ceil` and then the cut, by cases on the float. Assumes nothing.
+-- Laws of `ceil` and then the cut, by cases on the float. Assumes nothing.
 use mathlib.Core.Path.{_≡_, refl, sym, ap, _∙_, subst}
 use mathlib.Core.Bool.{Bool, true, false, not, _&&_, _||_}
 use Prim.Native.Nat.{ℕ, zero, suc, _+_, _*_, _/_, _%_, _^_, _≤_, _<_, min}
-use native.Mathlib.Nat.{mul-pos, mul-one, one-mul, mul-right-comm, mul-div-cancel, div-add-mod', le-div-iff-mul-le, div-lt-iff-lt-mul, le-of-eq, mul-lt-mul-of-pos-right, mul-le-mul-right, mod-one}
+use native.Mathlib.Nat.{mul-one, one-mul, mul-right-comm, mul-div-cancel, div-add-mod', div-lt-iff-lt-mul, le-of-eq, mul-lt-mul-of-pos-right, mul-le-mul-right, mod-one}
 use native.Mathlib.Omega.{arith}
-use lib.Dec.{T, ltb, eqb, leb, lt→ltb, ltb→lt}
+use lib.Dec.{T, ltb, eqb, leb, ltb→lt}
 use borrow.Author.Tests.{ltb-true, ltb-false, eqb-true, eqb-false, lt-ltb, le-ltb}
 use lib.IntN.{ℤ, pos, negsuc}
 use lib.Pow.{pow-pos}
@@ -13,6 +13,7 @@ use lib.Ieee.Fits.{down-pos, and-l, and-r}
 use lib.Ieee.Exact.{HasValue, odd-sign}
 use lib.Ieee.Back.{round-whole}
 use Rattle.numbers.specs.Cut.{ceil}
+use Rattle.numbers.proofs.FieldCases.{cut-positive, cut-below-zero}
 
 clash : {A : Type 0} → true ≡ false → A
 clash e = absurd (subst T e tt)
@@ -46,84 +47,13 @@ under-power : (k m : ℕ) (e : ℤ) → le (power k) (fin false m e) ≡ false �
 unfolding le lt eq
 under-power k m e h = rw (one-mul, mul-one) at (or-gt (1 * 2 ^ k * down e) (m * up e * 1) h)
 
-no-negative : (k m : ℕ) (e : ℤ) → le (power k) (fin true m e) ≡ true → ⊥
-unfolding le lt eq
-no-negative k m e h = no (1 * 2 ^ k * down e) (m * up e * 1) (eqb (1 * 2 ^ k * down e) 0) refl (rw one-mul (mul-pos (pow-pos k) (down-pos e))) h
-  where
-    no : (a b : ℕ) (z : Bool) → eqb a 0 ≡ z → 0 < a → (eqb a b && z) ≡ true → ⊥
-    no a b true ez p k = omega (arith, eqb-true a 0 ez)
-    no a b false ez p k = go (eqb a b) k
-      where
-        go : (t : Bool) → (t && false) ≡ true → ⊥
-        go true q = clash (sym q)
-        go false q = clash (sym q)
-
--- ---- the cut
-
-capped : (q : ℕ) → 4294967296 ≤ q → 4294967295 ≡ min q 4294967295
-capped q h = omega arith
-
--- from 2 ^ 32 on it stops at the type's end
-pub large : (x : Float) → le (power 32) x ≡ true → 4294967295 ≡ toUnsigned 32 x
-unfolding le lt eq toUnsigned
-large nan h = clash (sym h)
-large (inf true) h = clash (sym h)
-large (inf false) h = refl
-large (fin true m e) h = absurd (no-negative 32 m e h)
-large (fin false m e) h = capped (m * up e / down e) (le-div-iff-mul-le (down-pos e) .1 (from-power 32 m e h))
-
-abbrev pub minus-one : Float
-minus-one = fin true 1 (pos 0)
-
--- above -1 and below 2 ^ 32 it is the cut to a u64
-pub record Small (x : Float) : Type 0 where
-  pub lt64 : T (lt x (power 64))
-  pub same : toUnsigned 64 x ≡ toUnsigned 32 x
-  pub less : toUnsigned 64 x < 2 ^ 32
-
-pub small : (x : Float) → le (power 32) x ≡ false → lt minus-one x ≡ true → Small x
-unfolding le lt eq toUnsigned
-small nan h k = clash (sym k)
-small (inf true) h k = clash (sym k)
-small (inf false) h k = clash h
-small (fin true m e) h k = record { lt64 = lt→ltb 0 (m * up e * 1 + 1 * 2 ^ 64 * down e) (omega (arith, down-pos e)); same = refl; less = omega arith }
-small (fin false m e) h k =
-    let l : m * up e < 4294967296 * down e = under-power 32 m e h in
-    let u : m * up e / down e < 4294967296 = div-lt-iff-lt-mul (down-pos e) .1 l in
-    record { lt64 = lt→ltb (m * up e * 1) (1 * 2 ^ 64 * down e) (omega (arith, down-pos e)); same = omega arith; less = omega arith }
-
--- otherwise it is 0
-pub none : (x : Float) → lt minus-one x ≡ false → 0 ≡ toUnsigned 32 x
-unfolding lt toUnsigned
-none nan k = refl
-none (inf true) k = refl
-none (inf false) k = clash k
-none (fin true m e) k = refl
-none (fin false m e) k = absurd (go (ltb-false 0 (1 * 1 * down e + m * up e * 1) k))
-  where
-    go : 1 * 1 * down e + m * up e * 1 ≤ 0 → ⊥
-    go p = omega (arith, down-pos e)
-
 -- ---- `ceil`, and then the cut
 
--- a float with a whole number's value, cut
-cut-value : (y : Float) (n : ℕ) → HasValue y false n 1 → toUnsigned 32 y ≡ min n 4294967295
-unfolding toUnsigned
-cut-value nan n v = absurd v
-cut-value (inf s) n v = absurd v
-cut-value (fin true m e) n v = clash (v .0)
-cut-value (fin false m e) n v =
-    let q : m * up e ≡ n * down e = sym (mul-one (m * up e)) ∙ v .1 in
-    let d : m * up e / down e ≡ n = ap (λ (a : ℕ). a / down e) q ∙ mul-div-cancel n (down-pos e) in
-    ap (λ (a : ℕ). min a 4294967295) d
-
 cut-whole : (n : ℕ) → toUnsigned 32 (odd 128 false n 0 0) ≡ min n 4294967295
-cut-whole n = cut-value (odd 128 false n 0 0) n (subst (λ (a : ℕ). HasValue (odd 128 false n 0 0) false a 1) (mul-one n) (odd-sign 128 false n 0 0))
+cut-whole n = cut-positive (odd 128 false n 0 0) (n * 2 ^ 0) (2 ^ 0) (pow-pos 0) (odd-sign 128 false n 0 0) ∙ ap (λ (a : ℕ). min a 4294967295) (mul-div-cancel n (pow-pos 0))
 
 cut-negative : (n : ℕ) → 0 ≡ toUnsigned 32 (odd 128 true n 0 0)
-unfolding odd toUnsigned
-cut-negative zero = refl
-cut-negative (suc n) = refl
+cut-negative n = sym (cut-below-zero (odd 128 true n 0 0) (n * 2 ^ 0) (2 ^ 0) (odd-sign 128 true n 0 0))
 
 -- where nothing is dropped `ceil` changes nothing
 cut-exact : (m : ℕ) (e : ℤ) → m * up e % down e ≡ 0 → toUnsigned 32 (fin false m e) ≡ toUnsigned 32 (ceil (fin false m e))

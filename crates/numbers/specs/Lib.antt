@@ -4,5 +4,6 @@ pub mod Root
 pub mod Nearest
 pub mod Order
 pub mod Cut
+pub mod CutFields
 pub mod Acos
 pub mod Bounds

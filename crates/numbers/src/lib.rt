@@ -1,5 +1,6 @@
 // f32 arithmetic that the language lacks.
 mod arc;
+mod by_fields;
 mod root;
 
 ghost use mathlib.Core.Path.{_≡_};
@@ -64,18 +65,15 @@ pub fn clamp(v: f32, lo: f32, hi: f32) -> f32
     w
 }
 
-// Rust's `x as u32`.
+// Rust's `x as u32`, by the fields of its bits. A not-a-number is asked for first: the language leaves its bits open.
 pub fn cut(x: f32) -> u32
     ensures { λ r. ⌜ r ≡ cut x ⌝ }
 {
-    if x >= 4294967296.0 {
-        return 4294967295;
+    if x != x {
+        return 0;
     }
-    if x > -1.0 {
-        let n = std::num::truncating_f32_to_u64(x);
-        return n as u32;
-    }
-    0
+    let b = f32::to_bits(x);
+    by_fields::cut_fields(b >= 0x8000_0000, b / 0x80_0000 % 256, b % 0x80_0000)
 }
 
 // Rust's `x.ceil() as u32`.

@@ -16,6 +16,7 @@ use sides::Linked;
 const USAGE: &str = "usage:
   compare numbers COUNT SEED              roots, arc cosines, cuts, min, max, clamp
   compare roots STEP                      the root of every STEP-th pattern
+  compare cuts STEP                       the cut of every STEP-th pattern, and of its ceil
   compare lengths COUNT SEED              the largest error of a length, beside its bound
   compare triangles COUNT SEED [FIRST]    circumradius, quality, acceptance
   compare estimate COUNT SEED [FIRST]     the radius estimate on generated clouds
@@ -34,6 +35,7 @@ fn main() {
     let report = match (command, numbers.as_slice()) {
         ("numbers", [count, seed]) => numbers::numbers(&Linked, *count, *seed),
         ("roots", [step]) if *step > 0 => numbers::roots(&Linked, *step),
+        ("cuts", [step]) if *step > 0 => numbers::cuts(&Linked, *step),
         ("lengths", [count, seed]) => lengths::lengths(&port::distance, *count, *seed),
         ("triangles", [count, seed, first @ ..]) => triangles::triangles(&Linked, *count, *seed, start(first)),
         ("estimate", [count, seed, first @ ..]) => clouds::estimate(&Linked, *count, *seed, start(first)),

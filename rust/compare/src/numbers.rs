@@ -50,11 +50,23 @@ pub fn numbers(side: &dyn Side, count: u64, seed: u64) -> Report {
     report
 }
 
-/// The root of every `step`-th pattern against the machine's.
-pub fn roots(side: &dyn Side, step: u64) -> Report {
-    let mut report = Report::new("roots");
+/// Some calls on every `step`-th pattern.
+fn every(side: &dyn Side, name: &str, calls: &[Number], step: u64) -> Report {
+    let mut report = Report::new(name);
     for bits in (0..=u64::from(u32::MAX)).step_by(step as usize) {
-        compare(&mut report, side, Number::Sqrt, f32::from_bits(bits as u32), 0.0, 0.0);
+        for call in calls {
+            compare(&mut report, side, *call, f32::from_bits(bits as u32), 0.0, 0.0);
+        }
     }
     report
+}
+
+/// The root of every `step`-th pattern against the machine's.
+pub fn roots(side: &dyn Side, step: u64) -> Report {
+    every(side, "roots", &[Number::Sqrt], step)
+}
+
+/// The cut of every `step`-th pattern, and that of its `ceil`, against Rust's `as u32`.
+pub fn cuts(side: &dyn Side, step: u64) -> Report {
+    every(side, "cuts", &[Number::Cut, Number::CeilCut], step)
 }

@@ -1,34 +1,30 @@
--- `cut` meets its contract: from 2 ^ 32 on the type's end, at -1 and below 0, between them the cut to a u64.
-use mathlib.Core.Path.{sym, subst, _∙_}
-use Prim.Native.Nat.{ℕ, _^_, _<_}
+-- `cut` meets its contract: the cases of the fields are the cut of the number that the pattern stands for (`pattern-cut`).
+use mathlib.Core.Path.{_≡_, sym, _∙_, subst}
 use lib.Dec.{T}
-use lib.Ieee.{ofBits, neg}
-use Rattle.numbers.proofs.Cuts.{large, small, none, Small}
+use lib.Ieee.{Float, binary32, fits, toBits, toUnsigned}
+use borrow.Author.Needs.{needs}
+use Rattle.numbers.proofs.RootSpecial.{not-self, pattern-lt, by-bits}
+use Rattle.numbers.proofs.FieldCases.{pattern-cut, nan-cut}
 use Rattle.numbers.proofs.cut.Statement.{statement}
 use Rattle.numbers.proofs.cut.Tie as tie
 
+-- what owning an `f32` tells: the format holds it
+held : (c : tie.Start) → T (fits binary32 (c .args .x))
+held c = subst T (sym (c .good .0 .1)) tt
+
 returns : tie.Need-returns
-unfolding ofBits neg
-returns c = large _ (c .if1 .taken)
+returns c = nan-cut _ (c .if1 .taken)
 
-sm : (c : tie.Then2) → Small (c .before .before .args .x)
-unfolding ofBits neg
-sm c = small _ (c .before .if1 .left) (c .if2 .taken)
+float-to-bits-b : tie.Need-float-to-bits-b
+float-to-bits-b c = not-self _ (c .if1 .left)
 
-truncating-f32-to-u64-requires : tie.Need-truncating-f32-to-u64-requires
-unfolding ofBits neg
-truncating-f32-to-u64-requires c κs = (subst T (sym (c .if2 .taken)) tt, sm c .lt64)
-
-cast-result : tie.Need-cast-result
-cast-result c = record { fits = subst (λ (n : ℕ). n < 2 ^ 32) (sym (c .truncating-f32-to-u64 .ensures)) (sm (c .before) .less) }
+cut-fields-requires : tie.Need-cut-fields-requires
+cut-fields-requires c κs = search needs
 
 returns-2 : tie.Need-returns-2
-returns-2 c = c .truncating-f32-to-u64 .ensures ∙ sm (c .before) .same
-
-returns-3 : tie.Need-returns-3
-unfolding ofBits neg
-returns-3 c = none _ (c .if2 .left)
+returns-2 c =
+    let s = c .before .before in
+    by-bits (λ (v : Float). c .cut-fields .result ≡ toUnsigned 32 v) (s .args .x) (held s) (c .cut-fields .ensures ∙ pattern-cut (toBits binary32 (s .args .x)) (pattern-lt _ (held s)))
 
 pub cut-spec : {M : Type 1} → statement M
-cut-spec =
-    tie.close (tie.spec returns truncating-f32-to-u64-requires cast-result returns-2 returns-3)
+cut-spec = tie.close (tie.spec returns float-to-bits-b cut-fields-requires returns-2)
