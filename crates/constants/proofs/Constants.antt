@@ -45,6 +45,7 @@ constants = record {
   high-square = refl;
   low-bound = refl;
   low-limit = refl;
-  thin = refl;
-  thin-next = refl;
+  beyond-ten-thousand = refl;
+  second-radius = refl;
+  third-radius = refl;
 }

@@ -11,5 +11,5 @@ pub fn version() -> u32
 pub fn layout() -> u32
     ensures { λ r. ⌜ r ≡ layout ⌝ }
 {
-    1910780496
+    609736451
 }
