@@ -6,9 +6,7 @@ use Prim.Native.Nat.{ℕ, zero, suc, _+_, _-_, _*_, _^_, _≤_, _<_}
 use native.Mathlib.Numerals.{add-one}
 use native.Mathlib.Omega.{arith}
 use native.Mathlib.Nat.{pow-suc, pow-le-pow-right}
-use lib.Dec.{T, eqb, lit<, le→leb}
-use lib.IntN.{pos}
-use lib.Ieee.{binary32, inFloat}
+use lib.Dec.{T, eqb, lit<}
 use borrow.Author.Tests.{leb-true}
 use lib.ListN.{length, take, drop, getD, drop-of-length-le}
 use lib.Seq.{drop-cons, drop-drop}
@@ -111,11 +109,3 @@ grow v d at i h below digit =
 
 pub small : (v n : ℕ) → v < 10 ^ n → n ≤ 5 → v < 100000
 small v n below few = let h : 10 ^ n ≤ 10 ^ 5 = pow-le-pow-right (lit< tt) few in omega arith
-
--- ---- whole numbers that are f32
-pub exact : (n : ℕ) → n ≤ 2 ^ 24 → T (inFloat binary32 (pos n))
-unfolding inFloat
-exact n h = le→leb n (2 ^ 24) h
-
-pub exact-power : (n places : ℕ) → n ≡ 10 ^ places → places ≤ 6 → T (inFloat binary32 (pos n))
-exact-power n places e few = let h : 10 ^ places ≤ 10 ^ 6 = pow-le-pow-right (lit< tt) few in exact n (omega arith)

@@ -1,7 +1,10 @@
 -- Laws about the definitions of specs/, which the functions' proofs cite.
 pub mod Bytes
 pub mod Numeral
-pub mod Whole
+pub mod Closest
+pub mod Nearest
+pub mod Quotient
+pub mod Decimal
 pub mod Means
 pub mod Shorter
 pub mod Lines

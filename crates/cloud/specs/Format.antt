@@ -3,10 +3,8 @@ use Prim.Native.Nat.{ℕ, zero, suc, _+_, _-_, _*_, _^_}
 use mathlib.Core.Bool.{Bool, true, false, cond, _&&_}
 use mathlib.Core.List.{List, [], _∷_}
 use lib.Dec.{leb, eqb}
-use lib.IntN.{pos}
 use lib.ListN.{length, take, drop}
-use lib.Ieee.{Float, binary32, ofInt, neg}
-use Rattle.numbers.specs.Rounded.{_⊕_, _⊘_}
+use lib.Ieee.{Float, binary32, round, neg}
 use Rattle.cloud.specs.declared.line.Triple.{Triple}
 use Rattle.cloud.specs.declared.line.Point.{Point}
 
@@ -48,11 +46,12 @@ whole v [] = v
 whole v (d ∷ ds) = whole (v * 10 + (d - 48)) ds
 
 -- ---- a number
--- The f32 of a number: its whole part plus (its fraction's digits divided by their power of ten), each step rounded, then the sign.
+-- The f32 of a number: the one nearest to the decimal as written, the even one on a tie, and then the sign. All digits, those of the whole part and those of the
+-- fraction, write one whole number, which is over a power of ten; that fraction is rounded once. (`Nearest` of specs/Nearest.antt says over whole numbers what nearest is.)
 -- Without a fraction there are 0 digits, which write 0, and it is the whole part (`decimal-whole`).
 unfoldable pub decimal : Bool → ℕ → ℕ → ℕ → Float
 decimal negative units parts places =
-    let v = ofInt binary32 (pos units) ⊕ (ofInt binary32 (pos parts) ⊘ ofInt binary32 (pos (10 ^ places))) in
+    let v = round binary32 false (units * 10 ^ places + parts) (10 ^ places) in
     cond negative (neg v) v
 
 -- what follows the whole part: a point (byte 46) and 1 to 6 digits, or nothing

@@ -1,5 +1,6 @@
 -- What the crate's contracts cite, leaves first.
 pub mod Format
+pub mod Nearest
 pub mod Answers
 pub mod Ready
 pub mod Reading

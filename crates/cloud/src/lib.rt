@@ -5,6 +5,7 @@ mod line;
 mod number;
 mod point_lines;
 pub mod reader;
+mod rounding;
 
 pub use line::Point;
 pub use line::PointRead;

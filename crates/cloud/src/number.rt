@@ -2,9 +2,10 @@
 ghost use mathlib.Core.Path.{_≡_};
 ghost use Prim.Native.Nat.{_+_, _-_, _^_, _≤_, _<_};
 ghost use lib.ListN.{take, drop};
-ghost use Rattle.cloud.specs.Format.{startsWith, startsDigit, digits, few, whole, decimal, fraction, magnitude, number};
+ghost use Rattle.cloud.specs.Format.{startsWith, startsDigit, digits, few, whole, fraction, magnitude, number};
 ghost use Rattle.cloud.specs.Answers.{numberMeans};
-ghost use Rattle.cloud.specs.Ready.{Digits, Decimal};
+ghost use Rattle.cloud.specs.Ready.{Digits};
+use crate::rounding::decimal_value;
 
 // What stands at a place of the bytes: a number, with the place after it, or none.
 pub enum NumberRead {
@@ -60,31 +61,6 @@ fn whole_of(s: &[u8], at: usize, end: usize) -> u32
         i += 1;
     }
     v
-}
-
-fn power_of_ten(places: usize) -> u32
-    requires { ⌜ places ≤ 6 ⌝ }
-    ensures { λ r. ⌜ r ≡ 10 ^ places ⌝ }
-{
-    match places {
-        0 => 1,
-        1 => 10,
-        2 => 100,
-        3 => 1000,
-        4 => 10000,
-        5 => 100000,
-        _ => 1000000,
-    }
-}
-
-// The f32 that a number stands for: the one place that says how it is rounded.
-fn decimal_value(negative: bool, units: u32, parts: u32, places: usize) -> f32
-    requires { ⌜ Decimal units parts places ⌝ }
-    ensures { λ r. ⌜ r ≡ decimal negative units parts places ⌝ }
-{
-    let ten = power_of_ten(places);
-    let v = units as f32 + parts as f32 / ten as f32;
-    if negative { -v } else { v }
 }
 
 // What follows a whole part: a point with digits, or nothing.

@@ -4,12 +4,12 @@ use mathlib.Core.Bool.{true}
 use mathlib.Core.Path.{_≡_, sym, _∙_}
 use native.Mathlib.Omega.{arith}
 use borrow.Author.Needs.{needs}
-use lib.Dec.{lit≤}
+use lib.Dec.{lit≤, lit<}
 use lib.ListN.{drop}
 use Rattle.cloud.specs.Answers.{numberMeans}
 use Rattle.cloud.specs.Format.{startsWith, digits, few}
 use Rattle.cloud.proofs.Bytes.{starts-inside}
-use Rattle.cloud.proofs.Numeral.{few-most, found-digits, below-power, fraction-none, fraction-bad, fraction-read}
+use Rattle.cloud.proofs.Numeral.{few-most, found-digits, fraction-none, fraction-bad, fraction-read}
 use Rattle.cloud.proofs.number.fraction_at.Statement.{statement}
 use Rattle.cloud.proofs.number.fraction_at.Tie as tie
 
@@ -44,10 +44,10 @@ whole-of-requires c κs = found-digits _ _ _ (found c) 6 (lit≤ tt) (few-digits
 decimal-value-requires : tie.Need-decimal-value-requires
 decimal-value-requires c κs =
     let b = c .before in
-    record { units-small = b .before .before .before .before .before .before .pre; parts-small = below-power _ _ 6 (c .whole-of .ensures .1) (few-digits b); places-few = few-most _ 6 (few-digits b) .1 }
+    record { units-small = b .before .before .before .before .before .before .pre; parts-small = c .whole-of .ensures .1; places-few = few-most _ 6 (few-digits b) .1 }
 
 decimal-value-requires-2 : tie.Need-decimal-value-requires-2
-decimal-value-requires-2 c κs = search needs
+decimal-value-requires-2 c κs = record { units-small = c .before .before .before .pre; parts-small = lit< tt; places-few = lit≤ tt }
 
 returns : tie.Need-returns
 unfolding numberMeans

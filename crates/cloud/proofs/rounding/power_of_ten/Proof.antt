@@ -1,8 +1,8 @@
--- `cloud::number::power_of_ten` meets its contract: each case is a power that computes. Assumes nothing.
+-- `cloud::rounding::power_of_ten` meets its contract: each case is a power that computes. Assumes nothing.
 use mathlib.Core.Path.{_≡_}
 use native.Mathlib.Omega.{arith}
-use Rattle.cloud.proofs.number.power_of_ten.Statement.{statement}
-use Rattle.cloud.proofs.number.power_of_ten.Tie as tie
+use Rattle.cloud.proofs.rounding.power_of_ten.Statement.{statement}
+use Rattle.cloud.proofs.rounding.power_of_ten.Tie as tie
 
 returns : tie.Need-returns
 returns c = rw (c .match .keys1)
