@@ -85,3 +85,12 @@ module _ (n d q : ℕ) (D : 0 < d) (h : Close n d q) where
 
   pub as-near : (c : ℕ) → c ≢ q → gap (c * d) n ≡ gap (q * d) n → q % 2 ≡ 0
   as-near c ne e = ⊎-elim (h .tie-up) (h .tie-down) (tied c ne e)
+
+-- a whole number that is nearer than half of the divisor is the one
+pub closest-is : (n d q : ℕ) → 0 < d → q * d * 2 < n * 2 + d → n * 2 < q * d * 2 + d → closest n d ≡ q
+closest-is n d q D up down = go (closest n d) (closest-close n d D) (decLt (closest n d) q) (decLt q (closest n d))
+  where
+    go : (c : ℕ) → Close n d c → Dec (c < q) → Dec (q < c) → c ≡ q
+    go c h (yes l) k = let a = more n d c D h q l in let u = h .lower in absurd (omega arith)
+    go c h (no l) (yes k) = let a = less n d c D h q k in let u = h .upper in absurd (omega arith)
+    go c h (no l) (no k) = omega arith

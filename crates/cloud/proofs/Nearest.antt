@@ -24,7 +24,7 @@ use Rattle.patterns.specs.Pattern.{unitsOf}
 use Rattle.patterns.proofs.Pattern.{one-count, bits-value, units-next, units-mono}
 use Rattle.cloud.specs.Nearest.{gap, error, Nearest, Alone, NotSubnormal}
 use Rattle.cloud.specs.Ready.{Tenths, Scaling}
-use Rattle.cloud.proofs.Closest.{Close, closest-close, nearer, tied}
+use Rattle.cloud.proofs.Closest.{Close, closest-close, closest-is, nearer, tied}
 
 -- ---- one pattern for a value
 pub number-no-nan : (b : ℕ) → b < 0x7f800000 → T (not (isNan (ofBits binary32 b)))
@@ -270,6 +270,28 @@ module _ (m d n h : ℕ) (s : Scaling m d n h) where
     where
       go : (q r : ℕ) → q * d + r ≡ n → r * 2 ≡ d → (2 * q + 1) * d ≡ 256 * (m * 2 ^ (142 - h))
       go q r e f = let g = multiple-of-128 m n h (s .high-h) (s .is) in let k : (2 * q + 1) * d ≡ n * 2 = omega arith in omega arith
+
+-- ---- a guess at the digits, where m is shifted by s and the test is passed
+pub guessed : (m d s q : ℕ) → Tenths m d → 7 ≤ s → s ≤ 22 → q < 16777216 → 8388608 * d ≤ m * 2 ^ s → q * d * 2 < m * 2 ^ s * 2 + d → m * 2 ^ s * 2 < q * d * 2 + d → Rounded m d ((149 - s) * 8388608 + q)
+guessed m d s q t lo hi small low up down =
+    subst (λ (c : ℕ). Rounded m d ((149 - s) * 8388608 + c)) (closest-is (m * 2 ^ s) d q (positive m d t) up down)
+    (scaling-end m d (m * 2 ^ s) (149 - s) record {
+      is = mul-assoc m (2 ^ s) (2 ^ (149 - s)) ∙ ap (λ (x : ℕ). m * x) (sym (pow-add 2 s (149 - s)) ∙ ap (λ (k : ℕ). 2 ^ k) whole);
+      high = under (m * 2 ^ s) down;
+      low-h = omega arith;
+      high-h = omega arith;
+      reach = le-trans low (larger (m * 2 ^ s) (2 ^ (149 - s - 106)) (pow-pos (149 - s - 106)));
+    } t low)
+  where
+    whole : s + (149 - s) ≡ 149
+    whole = omega arith
+
+    under : (n : ℕ) → n * 2 < q * d * 2 + d → n < 16777216 * d
+    under n h = let a : suc q * d ≤ 16777216 * d = mul-le-mul-right d small in omega arith
+
+    larger : (n p : ℕ) → 0 < p → n ≤ n * p
+    larger n zero h = absurd (omega arith)
+    larger n (suc p) h = omega arith
 
 record Found (m d : ℕ) : Type 0 where
   pub pattern : ℕ

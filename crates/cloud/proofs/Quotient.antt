@@ -1,13 +1,13 @@
 -- Whole numbers up to 2 ^ 24 are f32, and a division of two of them is their fraction, rounded. Assumes nothing.
 use mathlib.Core.Path.{_≡_, sym, ap, _∙_, subst}
-use mathlib.Core.Bool.{true, false}
+use mathlib.Core.Bool.{true, false, not}
 use Prim.Native.Nat.{ℕ, zero, suc, _+_, _*_, _^_, _≤_, _<_}
 use native.Mathlib.Nat.{mul-pos, lt-irrefl}
 use native.Mathlib.Omega.{arith}
 use borrow.Author.Tests.{ne-eqb}
 use lib.Dec.{T, le→leb}
 use lib.IntN.{pos}
-use lib.Ieee.{Float, nan, inf, fin, binary32, up, down, ofInt, inFloat, div, round}
+use lib.Ieee.{Float, nan, inf, fin, Format, prec, binary32, lt, isNan, up, down, ofInt, inFloat, div, round}
 use lib.Ieee.Fits.{up-pos, down-pos}
 use lib.Ieee.Exact.{HasValue}
 use lib.Ieee.Back.{round-whole}
@@ -44,6 +44,13 @@ pub exact-quotient : (m d : ℕ) → m ≤ 2 ^ 24 → d ≤ 2 ^ 24 → 0 < d →
 unfolding ofInt
 exact-quotient m d M L D = divided (round binary32 false m 1) (round binary32 false d 1) m d D (round-whole binary32 false m M) (round-whole binary32 false d L)
 
-pub exact : (n : ℕ) → n ≤ 2 ^ 24 → T (inFloat binary32 (pos n))
+pub exact : (f : Format) (n : ℕ) → n ≤ 2 ^ prec f → T (inFloat f (pos n))
 unfolding inFloat
-exact n h = le→leb n (2 ^ 24) h
+exact f n h = le→leb n (2 ^ prec f) h
+
+-- a number below another is no NaN
+pub below-no-nan : (x y : Float) → lt x y ≡ true → T (not (isNan x))
+unfolding lt isNan
+below-no-nan nan y e = subst T (sym e) tt
+below-no-nan (inf s) y e = tt
+below-no-nan (fin s m k) y e = tt

@@ -1,16 +1,17 @@
 -- `cloud::rounding::quotient` meets its contract: of whole numbers up to 2 ^ 24 the division is the fraction, rounded. Assumes nothing.
 use native.Mathlib.Omega.{arith}
 use borrow.Author.Needs.{needs}
+use lib.Ieee.{binary32}
 use Rattle.cloud.proofs.Nearest.{positive, at-most}
 use Rattle.cloud.proofs.Quotient.{exact, exact-quotient}
 use Rattle.cloud.proofs.rounding.quotient.Statement.{statement}
 use Rattle.cloud.proofs.rounding.quotient.Tie as tie
 
 int-to-float-result : tie.Need-int-to-float-result
-int-to-float-result c = exact _ (c .before .if1 .taken)
+int-to-float-result c = exact binary32 _ (c .before .if1 .taken)
 
 int-to-float-result-2 : tie.Need-int-to-float-result-2
-int-to-float-result-2 c = let l = at-most _ _ (c .before .before .before .pre) in exact _ (omega arith)
+int-to-float-result-2 c = let l = at-most _ _ (c .before .before .before .pre) in exact binary32 _ (omega arith)
 
 quotient-bits-requires : tie.Need-quotient-bits-requires
 quotient-bits-requires c κs = search needs

@@ -1,86 +1,93 @@
--- `cloud::rounding::quotient_bits` meets its contract: each doubling keeps the fraction (`Scaling`), and where it has 24 digits its nearest whole number are the pattern's digits. Assumes nothing.
-use Prim.Native.Nat.{_+_, _*_, _<_}
+-- `cloud::rounding::quotient_bits` meets its contract: a guess that stands the test is the nearest whole number of the shifted fraction. Assumes nothing.
+use Prim.Native.Nat.{ℕ, _+_, _-_, _*_, _/_, _%_, _^_, _≤_, _<_}
+use mathlib.Core.Path.{_≡_, subst}
+use native.Mathlib.Nat.{mod-eq-of-lt, mul-lt-mul-of-pos-right, pow-le-pow-right}
 use native.Mathlib.Omega.{arith}
-use lib.Ieee.Nearest.{closest}
+use borrow.Author.Needs.{needs}
+use lib.Dec.{lit<}
+use lib.Pow.{pow-pos}
 use Rattle.numbers.proofs.RootPattern.{no-nan-bits}
-use Rattle.cloud.specs.Ready.{Scaling}
-use Rattle.cloud.proofs.Nearest.{Rounded, number-no-nan, positive, at-most, scaling-start, scaling-more, scaling-next, scaling-end, scaling-no-tie}
+use Rattle.cloud.specs.Ready.{Tenths}
+use Rattle.cloud.proofs.Nearest.{Rounded, number-no-nan, at-most, guessed}
 use Rattle.cloud.proofs.rounding.quotient_bits.Statement.{statement}
 use Rattle.cloud.proofs.rounding.quotient_bits.Tie as tie
 
-abbrev Inv-loop : tie.InvT-loop
-Inv-loop m d least n₀ h₀ n h = Scaling m d n h
+small : (m d : ℕ) → Tenths m d → m < 2 ^ 37
+small m d t = let b = t .below in let l = at-most m d t in omega arith
 
-abbrev μ-loop : tie.MeasureT-loop
-μ-loop m d least n₀ h₀ n h = h
+-- no digit is shifted out
+short : (m s : ℕ) → m < 2 ^ 37 → s ≤ 22 → m * 2 ^ s < 2 ^ 59
+short m s M h =
+    let p : 2 ^ s ≤ 2 ^ 22 = pow-le-pow-right (lit< tt) h in
+    let a : m * 2 ^ s < 2 ^ 37 * 2 ^ s = mul-lt-mul-of-pos-right M (pow-pos s) in
+    omega arith
 
-mul-least : tie.Need-mul-least Inv-loop μ-loop
-mul-least c = let l = at-most _ _ (c .pre .1) in omega arith
+unmoved : (m s : ℕ) → m < 2 ^ 37 → s ≤ 22 → m * 2 ^ s % 2 ^ 64 ≡ m * 2 ^ s
+unmoved m s M h = let b = short m s M h in mod-eq-of-lt (omega arith)
 
-mul-n : tie.Need-mul-n Inv-loop μ-loop
-mul-n c = let s = scaling-start _ _ (c .pre .0) (c .pre .1) .high in let l = at-most _ _ (c .pre .1) in omega arith
+tested : (m d s q : ℕ) → Tenths m d → 7 ≤ s → s ≤ 22 → q < 16777216 → (8388608 * d ≤ m * 2 ^ s % 2 ^ 64) × (q * d * 2 < m * 2 ^ s % 2 ^ 64 * 2 + d) × (m * 2 ^ s % 2 ^ 64 * 2 < q * d * 2 + d)
+    → Rounded m d ((149 - s) * 8388608 + q)
+tested m d s q t lo hi l f =
+    let g = subst (λ (n : ℕ). (8388608 * d ≤ n) × (q * d * 2 < n * 2 + d) × (n * 2 < q * d * 2 + d)) (unmoved m s (small m d t) hi) f in
+    guessed m d s q t lo hi l (g .0) (g .1) (g .2)
 
-loop-holds : tie.Need-loop-holds Inv-loop μ-loop
-loop-holds c = scaling-start _ _ (c .pre .0) (c .pre .1)
+-- where the guess stands the test
+found : (c : tie.Then1) → Rounded (c .before .before .before .args .m) (c .before .before .before .args .d) ((149 - (22 - c .before .before .guess .result / 8388608 % 16)) * 8388608 + (c .before .before .guess .result % 8388608 + 8388608))
+found c = tested _ _ _ _ (c .before .before .before .pre .1) (omega arith) (omega arith) (omega arith) (c .before .is-nearest .ensures (c .if1 .taken))
 
--- where the loop goes on
-again : (c : tie.In-loop Inv-loop μ-loop) → c .before .loop .n < 8388608 * c .before .before .args .d
-again c = let h = c .loop-test .taken in omega arith
+guess-requires : tie.Need-guess-requires
+guess-requires c κs = let t = c .pre .1 in (small _ _ t, at-most _ _ t)
 
-mul-n-2 : tie.Need-mul-n-2 Inv-loop μ-loop
-mul-n-2 c = let h = again c in let l = at-most _ _ (c .before .before .pre .1) in omega arith
+sub-s : tie.Need-sub-s
+sub-s c = search needs
 
-sub-h : tie.Need-sub-h Inv-loop μ-loop
-sub-h c = let h = scaling-more _ _ _ _ (c .before .loop .inv) (again c) in omega arith
+add-q : tie.Need-add-q
+add-q c = search needs
 
-loop-less : tie.Need-loop-less Inv-loop μ-loop
-loop-less c = let h = scaling-more _ _ _ _ (c .before .loop .inv) (again c) in omega arith
+cast-is-nearest : tie.Need-cast-is-nearest
+cast-is-nearest c = search needs
 
-loop-again : tie.Need-loop-again Inv-loop μ-loop
-loop-again c = scaling-next _ _ _ _ (c .before .loop .inv) (again c)
+shl-is-nearest : tie.Need-shl-is-nearest
+shl-is-nearest c = search needs
 
--- where it ends
-rounded : (c : tie.After-loop Inv-loop μ-loop) → Rounded (c .before .before .args .m) (c .before .before .args .d) (c .before .loop .h * 8388608 + closest (c .before .loop .n) (c .before .before .args .d))
-rounded c = scaling-end _ _ _ _ (c .before .loop .inv) (c .before .before .pre .1) (let h = c .loop-test .left in omega arith)
+cast-is-nearest-2 : tie.Need-cast-is-nearest-2
+cast-is-nearest-2 c = search needs
 
-pattern : (c : tie.After-nearest-quotient Inv-loop μ-loop) → c .before .before .loop .h * 8388608 + c .nearest-quotient .result < 0x7f800000
-pattern c = let n = rounded (c .before) .nearest .number in let e = c .nearest-quotient .ensures in omega arith
+is-nearest-requires : tie.Need-is-nearest-requires
+is-nearest-requires c κs = let t = c .before .pre .1 in let h = short (c .before .args .m) (22 - c .guess .result / 8388608 % 16) (small _ _ t) (omega arith) in (rw (unmoved (c .before .args .m) (22 - c .guess .result / 8388608 % 16) (small _ _ t) (omega arith)) (omega arith), at-most _ _ t, omega arith)
 
-mul-result : tie.Need-mul-result Inv-loop μ-loop
-mul-result c = let h = c .before .loop .inv .high-h in omega arith
+sub-result : tie.Need-sub-result
+sub-result c = search needs
 
-nearest-quotient-requires : tie.Need-nearest-quotient-requires Inv-loop μ-loop
-nearest-quotient-requires c κs =
-    let t = c .before .before .pre .1 in
-    let l = at-most _ _ t in
-    let s = c .before .loop .inv in
-    let h = s .high in
-    (positive _ _ t, l, omega arith, scaling-no-tie _ _ _ _ s t)
+mul-result : tie.Need-mul-result
+mul-result c = search needs
 
-cast-result : tie.Need-cast-result Inv-loop μ-loop
-cast-result c = let h = pattern c in omega arith
+add-result : tie.Need-add-result
+add-result c = search needs
 
-add-result : tie.Need-add-result Inv-loop μ-loop
-add-result c = let h = pattern c in omega arith
+doubled-bits-requires : tie.Need-doubled-bits-requires
+doubled-bits-requires c κs = search needs
 
-returns : tie.Need-returns Inv-loop μ-loop
-returns c = (rw (c .nearest-quotient .ensures) (rounded (c .before) .value), no-nan-bits _ (number-no-nan _ (pattern c)))
+returns : tie.Need-returns
+returns c = let r = found c in (r .value, no-nan-bits _ (number-no-nan _ (r .nearest .number)))
+
+returns-2 : tie.Need-returns-2
+returns-2 c = search needs
 
 pub quotient-bits-spec : {M : Type 1} → statement M
 quotient-bits-spec =
     tie.close
     (tie.spec
-    Inv-loop
-    μ-loop
-    mul-least
-    mul-n
-    loop-holds
-    mul-n-2
-    sub-h
-    loop-less
-    loop-again
+    guess-requires
+    sub-s
+    add-q
+    cast-is-nearest
+    shl-is-nearest
+    cast-is-nearest-2
+    is-nearest-requires
+    sub-result
     mul-result
-    nearest-quotient-requires
-    cast-result
     add-result
-    returns)
+    doubled-bits-requires
+    returns
+    returns-2)
