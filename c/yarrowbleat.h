@@ -291,7 +291,8 @@ YbPatch yb_reconstruct_with_normals(const float *points, size_t points_len, cons
 
 /*
  * Reads a cloud file: a line with the radius, then a line x,y,z,nx,ny,nz for each point, each line ended by LF. A
- * number is an optional minus, 1 to 5 digits, and optionally a point and 1 to 6 digits.
+ * number is an optional minus, 1 to 5 digits, and optionally a point and 1 to 6 digits; it is read as the nearest
+ * float.
  *
  * points, normals: get three numbers a point; as many points as there are LFs in the file are always enough.
  *

@@ -2,11 +2,12 @@
 //!
 //! `bench` times the root and a triangle's quality, `bench clouds` whole calls over clouds of a fixed seed, the families of
 //! slow clouds among them, which `bench slow [NAME] [POINTS]` times alone. `bench hunt SECONDS SEED` looks for clouds on which
-//! the port is slower than the Rust. Both sides are called in turn, and the best of their rounds counts. It fails where a ratio
+//! the port is slower than the Rust. `bench files` times the reading of cloud files. Both sides are called in turn, and the best of their rounds counts. It fails where a ratio
 //! that is to be reached is not. `bench alone NAME POINTS` times the port on a family without the Rust.
 
 mod clock;
 mod clouds;
+mod files;
 mod numbers;
 mod slow;
 
@@ -14,11 +15,12 @@ fn main() {
     let reached = match std::env::args().nth(1).as_deref() {
         None => numbers::bench(),
         Some("clouds") => clouds::bench(),
+        Some("files") => files::bench(),
         Some("slow") => slow::bench(),
         Some("alone") => slow::alone(),
         Some("hunt") => slow::hunt(),
         Some(other) => panic!(
-            "bench {other}: there are only `bench`, `bench clouds`, `bench slow`, `bench alone` and `bench hunt`"
+            "bench {other}: there are only `bench`, `bench clouds`, `bench files`, `bench slow`, `bench alone` and `bench hunt`"
         ),
     };
     std::process::exit(i32::from(!reached));

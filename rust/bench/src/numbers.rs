@@ -11,7 +11,7 @@ const ROUNDS: usize = 400;
 const ITEMS: usize = 4_096;
 
 /// Nanoseconds an item of both sides, each the best of its rounds.
-fn race(mut ours: impl FnMut(), mut theirs: impl FnMut()) -> [f64; 2] {
+pub fn race(mut ours: impl FnMut(), mut theirs: impl FnMut()) -> [f64; 2] {
     let mut best = [f64::INFINITY; 2];
     for _ in 0..ROUNDS {
         let start = Instant::now();
@@ -66,7 +66,7 @@ fn qualities(random: &mut Random) -> [f64; 2] {
 }
 
 /// Prints both times and tells whether their ratio is at most `most`.
-fn judge(name: &str, [ours, theirs]: [f64; 2], most: f64) -> bool {
+pub fn judge(name: &str, [ours, theirs]: [f64; 2], most: f64) -> bool {
     let ratio = ours / theirs;
     println!("{name}: port {ours:.2} ns, Rust {theirs:.2} ns, ratio {ratio:.2} (to reach: at most {most})");
     ratio <= most

@@ -1,5 +1,6 @@
 //! Holds a reader of cloud files against the one of this crate, on files drawn from a seed.
 
+pub mod decimals;
 pub mod files;
 pub mod reader;
 

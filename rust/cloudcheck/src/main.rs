@@ -1,4 +1,5 @@
 //! cloudcheck COUNT SEED [FIRST]: the port's reader of cloud files against the independent one.
+//! cloudcheck decimals COUNT SEED: its decimals against the standard library's, every short one and COUNT random ones.
 
 use cloudcheck::CloudRead;
 
@@ -8,11 +9,17 @@ fn port(bytes: &[u8], points: &mut [f32], normals: &mut [f32]) -> CloudRead {
 }
 
 fn main() {
-    let numbers: Vec<u64> = std::env::args().skip(1).filter_map(|word| word.parse().ok()).collect();
-    let [count, seed, first @ ..] = numbers.as_slice() else {
-        eprintln!("usage: cloudcheck COUNT SEED [FIRST]");
-        std::process::exit(2);
+    let words: Vec<String> = std::env::args().skip(1).collect();
+    let numbers: Vec<u64> = words.iter().filter_map(|word| word.parse().ok()).collect();
+    let right = match (words.first().map(String::as_str), numbers.as_slice()) {
+        (Some("decimals"), [count, seed]) => cloudcheck::decimals::compare(*count, *seed, port),
+        (Some(_), [count, seed, first @ ..]) if numbers.len() == words.len() => {
+            cloudcheck::compare("cloud files", *count, *seed, first.first().copied().unwrap_or(0), port)
+        }
+        _ => {
+            eprintln!("usage: cloudcheck COUNT SEED [FIRST] | cloudcheck decimals COUNT SEED");
+            std::process::exit(2);
+        }
     };
-    let right = cloudcheck::compare("cloud files", *count, *seed, first.first().copied().unwrap_or(0), port);
     std::process::exit(i32::from(!right));
 }

@@ -1,4 +1,4 @@
-//! The cloud file, read a second time and in another way: split into lines, lines into fields, fields into digits.
+//! The cloud file, read a second time and in another way: split into lines, lines into fields, and the standard library reads the numbers.
 
 /// What a reader answers: the refusal's number or 0, its detail, and what was read.
 #[derive(Clone, Copy, Debug)]
@@ -21,29 +21,19 @@ impl CloudRead {
     }
 }
 
-/// A run of ASCII digits of an allowed length, as the number that it writes.
-fn digits(field: &[u8], most: usize) -> Option<u32> {
-    let right = (1..=most).contains(&field.len()) && field.iter().all(u8::is_ascii_digit);
-    right.then(|| std::str::from_utf8(field).unwrap().parse().unwrap())
+/// Whether this is a run of ASCII digits of an allowed length.
+fn digits(field: &[u8], most: usize) -> bool {
+    (1..=most).contains(&field.len()) && field.iter().all(u8::is_ascii_digit)
 }
 
-/// The f32 of a field, each step rounded.
+/// The f32 of a field: the standard library's, where the field has a number's form.
 pub fn number(field: &[u8]) -> Option<f32> {
-    if let Some(rest) = field.strip_prefix(b"-") {
-        return magnitude(rest).map(|v| -v);
-    }
-    magnitude(field)
-}
-
-fn magnitude(field: &[u8]) -> Option<f32> {
-    match field.iter().position(|&b| b == b'.') {
-        None => digits(field, 5).map(|whole| whole as f32),
-        Some(at) => {
-            let (whole, fraction) = (digits(&field[..at], 5)?, &field[at + 1..]);
-            let parts = digits(fraction, 6)?;
-            Some(whole as f32 + parts as f32 / 10u32.pow(fraction.len() as u32) as f32)
-        }
-    }
+    let magnitude = field.strip_prefix(b"-").unwrap_or(field);
+    let right = match magnitude.iter().position(|&b| b == b'.') {
+        None => digits(magnitude, 5),
+        Some(at) => digits(&magnitude[..at], 5) && digits(&magnitude[at + 1..], 6),
+    };
+    right.then(|| std::str::from_utf8(field).unwrap().parse().unwrap())
 }
 
 /// The numbers of a line that has `count` of them and a line feed.
@@ -85,7 +75,7 @@ mod tests {
     #[test]
     fn numbers_have_one_form() {
         let bits = |text: &[u8]| number(text).map(f32::to_bits);
-        assert_eq!(bits(b"1.57"), Some(0x3fc8_f5c2));
+        assert_eq!(bits(b"1.57"), Some(0x3fc8_f5c3));
         assert_eq!(bits(b"-0"), Some(0x8000_0000));
         assert_eq!(bits(b"00012.50"), Some(0x4148_0000));
         for wrong in ["", "-", "+1", "1.", ".5", "1e3", " 1", "1 ", "123456", "1.1234567", "--1", "1.2.3", "\"1\""] {

@@ -133,6 +133,8 @@ pub struct Cloud {
 }
 
 /// Reads a cloud file: a line with the radius, then a line `x,y,z,nx,ny,nz` for each point, each ended by LF.
+/// A number is an optional minus, 1 to 5 digits, and optionally a point and 1 to 6 digits; it becomes the nearest f32, as
+/// `str::parse` gives it.
 pub fn read_cloud(bytes: &[u8]) -> Result<Cloud, Error> {
     let lines = bytes.iter().filter(|b| **b == b'\n').count();
     let mut points = vec![[0.0; 3]; lines];
