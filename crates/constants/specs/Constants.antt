@@ -1,6 +1,6 @@
 -- Which number each bit pattern is that stands in a definition: one table, proved by computation (`constants` in
 -- proofs/Constants). Definitions only.
-use Prim.Native.Nat.{ℕ, _*_, _^_, _-_}
+use Prim.Native.Nat.{ℕ, _+_, _*_, _^_, _-_}
 use mathlib.Core.Path.{_≡_}
 use mathlib.Core.Bool.{false}
 use lib.Ieee.{Float, binary32, round}
