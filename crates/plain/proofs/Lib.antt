@@ -1,4 +1,7 @@
 -- Laws of the definitions, leaves first.
 pub mod Laid
 pub mod Plain
+pub mod RootBounds
+pub mod QuotientBounds
+pub mod Judged
 pub mod Listing

@@ -29,10 +29,9 @@ module _ (points : List Float) (radius : Float) (i j : ℕ) {l : Limits} (h : Li
   square-is : s ≡ squared (pointAt points i) (pointAt points j)
   square-is = cc
 
-  pub far-none : lt (l .square) s ≡ true → candidate points radius i j ≡ false
+  pub far-none : T (lt (l .square) s) → candidate points radius i j ≡ false
   unfolding candidate distance
-  far-none e =
-      let k = subst T (sym e) tt in
+  far-none k =
       let S = squared (pointAt points i) (pointAt points j) in
       let m = h .far S (squared-fits (pointAt points i) (pointAt points j)) (subst (λ (v : Float). T (lt (l .square) v)) square-is k) in
       is-false (le (root S) (radius ⊗ f32 0x40000000)) (not-T (le (root S) (radius ⊗ f32 0x40000000)) (λ n. le-not-lt (root S) (radius ⊗ f32 0x40000000) n (subst (λ (v : Float). T (lt v (root S))) (h .reach-is) m)))

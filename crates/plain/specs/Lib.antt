@@ -1,4 +1,5 @@
 -- What the crate's contracts cite, leaves first.
 pub mod Plain
 pub mod Laid
+pub mod Bounds
 pub mod Listed

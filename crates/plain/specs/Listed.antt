@@ -4,7 +4,8 @@ use mathlib.Core.Path.{_≡_}
 use mathlib.Core.Bool.{cond}
 use mathlib.Core.List.{List}
 use lib.ListN.{length, take, getD, set}
-use lib.Ieee.{Float, nan}
+use lib.Dec.{T}
+use lib.Ieee.{Float, nan, binary32, fits}
 use Rattle.numbers.specs.Rounded.{f32, _⊗_}
 use Rattle.vector.specs.Vector.{distance}
 use Rattle.points.specs.Points.{pointAt}
@@ -14,10 +15,12 @@ use Rattle.plain.specs.Plain.{candidate, candidates}
 use Rattle.plain.specs.Laid.{Ready}
 use Rattle.plain.specs.declared.Limits.{Limits}
 
--- the limits of a radius
+-- the limits of a radius; of the guesses nothing is said
 pub record Limited (radius : Float) (l : Limits) : Type 0 where
   pub reach-is : l .reach ≡ radius ⊗ f32 0x40000000
   pub far : Limit (l .reach) (l .square)
+  pub widest-is : l .widest ≡ radius ⊗ f32 0x3fc00000
+  pub beyond-fits : T (fits binary32 (l .beyond))
 
 -- the distance of the point j from i
 abbrev pub apart : List Float → ℕ → ℕ → Float

@@ -18,19 +18,30 @@ ghost use Rattle.plain.specs.Listed.{Limited, Listed};
 
 const MAX_TRIANGLES: usize = 10000;
 
-// What candidates are held to: none is farther than the reach, and none of the squares above `square` is that of one.
+// What the points of a face are held to: a candidate is no farther than the reach, and none of the squares above `square` is that of one; the circumradius
+// is at most the widest. The others are guesses: something beyond the widest, and what a product of edges is multiplied by for a cross product whose
+// circumradius is a little above or below the widest.
 pub struct Limits {
     pub reach: f32,
     pub square: f32,
+    pub widest: f32,
+    pub beyond: f32,
+    pub low: f32,
+    pub high: f32,
 }
 
 fn limits_of(radius: f32) -> Limits
     ensures { λ r. ⌜ Limited radius r ⌝ }
 {
     let reach = radius * 2.0;
+    let widest = radius * 1.5;
     Limits {
         reach: reach,
         square: bounds::square_limit(reach),
+        widest: widest,
+        beyond: widest * 1.00001,
+        low: 0.49999 / widest,
+        high: 0.50001 / widest,
     }
 }
 
@@ -39,6 +50,7 @@ fn limits_of(radius: f32) -> Limits
 fn try_face(
     points: &[f32],
     radius: f32,
+    limits: Limits,
     i: usize,
     a: usize,
     b: usize,
@@ -47,7 +59,7 @@ fn try_face(
     faces: &mut [u32],
     count: usize,
 ) -> usize
-    requires { ⌜ Ready (now points) i × (a < i) × (b < i) × (count ≤ 10000)
+    requires { ⌜ Ready (now points) i × Limited radius limits × (a < i) × (b < i) × (count ≤ 10000)
         × (la ≡ distance (pointAt (now points) i) (pointAt (now points) a)) × (lb ≡ distance (pointAt (now points) i) (pointAt (now points) b)) ⌝ }
     ensures { λ r. ⌜ Lays (cond (valid (now (points .entry)) radius i a b) (face i a b ∷ []) []) (now (faces .entry)) count (now (faces .exit)) r ⌝ }
 {
@@ -57,7 +69,7 @@ fn try_face(
     let p1 = points::point_at(points, i);
     let p2 = points::point_at(points, a);
     let p3 = points::point_at(points, b);
-    if !soundness::is_sound(p1, p2, p3, la, lb, radius) {
+    if !soundness::is_sound(p1, p2, p3, la, lb, radius, limits) {
         return count;
     }
     frontier::put_face(faces, count, i as u32, a as u32, b as u32);
@@ -68,6 +80,7 @@ fn try_face(
 fn faces_over(
     points: &[f32],
     radius: f32,
+    limits: Limits,
     i: usize,
     w: &[u32],
     lengths: &[f32],
@@ -76,7 +89,7 @@ fn faces_over(
     faces: &mut [u32],
     count: usize,
 ) -> usize
-    requires { ⌜ Listed (now points) radius i (now w) (now lengths) listed × (at < listed) × (count ≤ 10000) ⌝ }
+    requires { ⌜ Limited radius limits × Listed (now points) radius i (now w) (now lengths) listed × (at < listed) × (count ≤ 10000) ⌝ }
     ensures { λ r. ⌜ Lays (facesOver (now (points .entry)) radius i (getD (now (w .entry)) at 0) (drop (at + 1) (take listed (now (w .entry))))) (now (faces .entry)) count (now (faces .exit)) r ⌝ }
 {
     if MAX_TRIANGLES <= count {
@@ -90,6 +103,7 @@ fn faces_over(
         laid = try_face(
             points,
             radius,
+            limits,
             i,
             a,
             w[k] as usize,
@@ -107,6 +121,7 @@ fn faces_over(
 fn faces_among(
     points: &[f32],
     radius: f32,
+    limits: Limits,
     i: usize,
     w: &[u32],
     lengths: &[f32],
@@ -114,13 +129,24 @@ fn faces_among(
     faces: &mut [u32],
     count: usize,
 ) -> usize
-    requires { ⌜ Listed (now points) radius i (now w) (now lengths) listed × (count ≤ 10000) ⌝ }
+    requires { ⌜ Limited radius limits × Listed (now points) radius i (now w) (now lengths) listed × (count ≤ 10000) ⌝ }
     ensures { λ r. ⌜ Lays (facesAt (now (points .entry)) radius i (take listed (now (w .entry)))) (now (faces .entry)) count (now (faces .exit)) r ⌝ }
 {
     let mut laid = count;
     let mut at: usize = 0;
     while at < listed {
-        laid = faces_over(points, radius, i, w, lengths, listed, at, faces, laid);
+        laid = faces_over(
+            points,
+            radius,
+            limits,
+            i,
+            w,
+            lengths,
+            listed,
+            at,
+            faces,
+            laid,
+        );
         at += 1;
     }
     laid
@@ -144,7 +170,7 @@ fn faces_at(
         return count;
     }
     let listed = near::list_candidates(points, radius, limits, i, w, lengths);
-    faces_among(points, radius, i, w, lengths, listed, faces, count)
+    faces_among(points, radius, limits, i, w, lengths, listed, faces, count)
 }
 
 // Faces go to the front of the slice as far as they fit; all of them, up to the limit, are counted. The front of the two work slices is used.

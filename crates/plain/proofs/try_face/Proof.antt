@@ -21,7 +21,7 @@ point-at-requires-3 : tie.Need-point-at-requires-3
 point-at-requires-3 c κs = search needs
 
 is-sound-requires : tie.Need-is-sound-requires
-is-sound-requires c κs = let s = c .before .before .before .before .before .before in ((cc), (cc))
+is-sound-requires c κs = let s = c .before .before .before .before .before .before in (s .pre .1, (cc), (cc))
 
 returns-2 : tie.Need-returns-2
 returns-2 c =

@@ -1,4 +1,5 @@
 -- `plain::near::add_candidate` meets its contract. Assumes nothing.
+use Rattle.plain.proofs.Judged.{holds}
 use Rattle.plain.proofs.Listing.{far-none, apart-is, near-is, adds-none, adds-one}
 use borrow.Author.Needs.{needs}
 use Rattle.plain.proofs.near.add_candidate.Statement.{statement}
@@ -19,7 +20,7 @@ returns c =
     let s = d .before .before .before .before .before .before in
     let a = s .args in
     adds-none (a .points .now) (a .radius) (a .i) (a .j) (a .w .now) (a .lengths .now) (a .count)
-    (far-none (a .points .now) (a .radius) (a .i) (a .j) (s .pre .1) (d .before .before .point-at .ensures) (d .before .point-at2 .ensures) (d .distance-squared .ensures) (c .if1 .taken))
+    (far-none (a .points .now) (a .radius) (a .i) (a .j) (s .pre .1) (d .before .before .point-at .ensures) (d .before .point-at2 .ensures) (d .distance-squared .ensures) (holds (c .if1 .taken)))
 
 sqrt-requires : tie.Need-sqrt-requires
 sqrt-requires c κs = search needs
