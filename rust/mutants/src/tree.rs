@@ -48,7 +48,9 @@ pub fn build(root: &Path, texts: &[(String, String)]) -> Result<(), String> {
     for (file, text) in texts {
         fs::write(tree.join(file), text).map_err(|e| e.to_string())?;
     }
+    // The copy has no Rattle source to build the library from: it is linked to the one that is there.
     let out = Command::new("cargo")
+        .env("YARROWBLEAT_ARCHIVE", root.join("target/staticlib/libexports.a"))
         .arg("--config")
         .arg(tree.join("rust/.cargo/config.toml"))
         .args(["build", "--release", "--offline", "--quiet", "--jobs=1"])
