@@ -6,6 +6,7 @@ use mathlib.Core.List.{List, [], _∷_, _++_}
 use lib.Dec.{eqb, ltb}
 use lib.ListN.{length, replicate}
 use lib.Ieee.{Float}
+use Rattle.answers.specs.Answers.{noTriangle, shortFaces}
 use Rattle.numbers.specs.Rounded.{f32, _⊗_}
 use Rattle.domain.specs.Refusals.{reconstructRefusal}
 use Rattle.settings.specs.declared.BallPivotingConfig.{BallPivotingConfig}
@@ -101,8 +102,8 @@ accepted f rs = record {
 -- 8 where no triangle was found, 9 where there are more than a third of the face slice's length, rounded down
 unfoldable pub delivered : Found → List Float → ℕ → Patch
 delivered f rs room =
-    cond (eqb (length (f .faces)) 0) (refused 8 0)
-    (cond (ltb (room / 3) (length (f .faces))) (refused 9 0) (accepted f rs))
+    cond (eqb (length (f .faces)) 0) (refused noTriangle 0)
+    (cond (ltb (room / 3) (length (f .faces))) (refused shortFaces 0) (accepted f rs))
 
 -- the answer, detail, counts and radii of the call; `room`, `words` and `floats` are the lengths of the face
 -- slice and of the work slices
@@ -116,4 +117,4 @@ reconstructed pts normals c room words floats =
 unfoldable pub facesAfter : Patch → Found → List ℕ → List ℕ
 facesAfter p f slice =
     cond (eqb (p .answer) 0) (written (f .faces) slice)
-    (cond (eqb (p .answer) 9) (replicate (length slice) 0) slice)
+    (cond (eqb (p .answer) shortFaces) (replicate (length slice) 0) slice)

@@ -53,11 +53,11 @@ fn deliver(found: Finding, faces: &mut [u32]) -> Patch
 {
     let count = found.faces;
     if count == 0 {
-        return refuse(8, 0);
+        return refuse(answers::NO_TRIANGLE, 0);
     }
     if faces.len() / 3 < count {
         clearing::clear_u32(faces);
-        return refuse(9, 0);
+        return refuse(answers::FACES, 0);
     }
     let radii = found.radii;
     let list = radii.list;

@@ -6,6 +6,7 @@ use mathlib.Core.List.{List, [], _∷_, _++_, map}
 use lib.Dec.{leb}
 use lib.ListN.{length, drop}
 use lib.Ieee.{Float}
+use Rattle.answers.specs.Answers.{badLine, noRoom}
 use Rattle.numbers.specs.Rounded.{f32}
 use Rattle.cloud.specs.Format.{Parsed, parsed, malformed, Lines, good, wrong, File, cloud, malformedLine, file}
 use Rattle.cloud.specs.declared.number.NumberRead.{NumberRead}
@@ -41,8 +42,8 @@ pub data Outcome : Type 0 where
 
 -- The points fit if three times their number is at most the length of each slice.
 unfoldable pub judged : ℕ → ℕ → File → Outcome
-judged p n (malformedLine line) = refused 10 line
-judged p n (cloud radius ps) = cond (leb (3 * length ps) p && leb (3 * length ps) n) (accepted radius ps) (refused 11 0)
+judged p n (malformedLine line) = refused badLine line
+judged p n (cloud radius ps) = cond (leb (3 * length ps) p && leb (3 * length ps) n) (accepted radius ps) (refused noRoom 0)
 
 -- of the file's bytes and the two slices' lengths
 unfoldable pub outcome : List ℕ → ℕ → ℕ → Outcome

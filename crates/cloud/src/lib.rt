@@ -51,13 +51,13 @@ fn read_points(
     ensures { λ r. ⌜ Answered (judged (length (now (points .entry))) (length (now (normals .entry))) (under radius (body (drop from (now (bytes .entry)))))) (now (points .entry)) (now (normals .entry)) r (now (points .exit)) (now (normals .exit)) ⌝ }
 {
     match count_points(bytes, from) {
-        Counted::Malformed { line } => refused(10, line + 1),
+        Counted::Malformed { line } => refused(answers::LINE, line + 1),
         Counted::Lines { count } => {
             if points.len() / 3 < count {
-                return refused(11, 0);
+                return refused(answers::ROOM, 0);
             }
             if normals.len() / 3 < count {
-                return refused(11, 0);
+                return refused(answers::ROOM, 0);
             }
             store_points(bytes, from, points, normals);
             CloudRead {
@@ -75,6 +75,6 @@ pub fn read_cloud(bytes: &[u8], points: &mut [f32], normals: &mut [f32]) -> Clou
 {
     match radius_at(bytes, 0) {
         NumberRead::Number { value, next } => read_points(bytes, next, value, points, normals),
-        NumberRead::Malformed => refused(10, 1),
+        NumberRead::Malformed => refused(answers::LINE, 1),
     }
 }

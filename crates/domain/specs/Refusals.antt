@@ -5,6 +5,8 @@ use mathlib.Core.List.{List, [], _∷_, _++_}
 use lib.Dec.{leb, ltb, eqb}
 use lib.ListN.{length}
 use lib.Ieee.{Float}
+use Rattle.answers.specs.Answers.{noPoints, wrongLengths, tooManyPoints, outsidePoint, outsideSetting}
+use Rattle.answers.specs.Answers.{outsidePercentile, shortWork}
 use Rattle.ranges.specs.Range.{firstOutside, firstBadPoint, farthest, percentileInside}
 use Rattle.settings.specs.Settings.{firstBadSetting}
 use Rattle.settings.specs.declared.BallPivotingConfig.{BallPivotingConfig}
@@ -33,16 +35,16 @@ roomy n words floats = leb (24 * n + 64) words && leb (4 * n + 64) floats
 -- 1 to 3, of the lengths of the points' and the normals' slices
 abbrev pub sizeChecks : ℕ → ℕ → List Check
 sizeChecks points normals =
-    check (ltb 0 points) 1 0
-    ∷ check (eqb (points % 3) 0 && eqb normals points) 2 0
-    ∷ check (leb (points / 3) 4096) 3 0
+    check (ltb 0 points) noPoints 0
+    ∷ check (eqb (points % 3) 0 && eqb normals points) wrongLengths 0
+    ∷ check (leb (points / 3) 4096) tooManyPoints 0
     ∷ []
 
 abbrev pub pointCheck : ℕ → ℕ → Check
-pointCheck n bad = check (leb n bad) 4 bad
+pointCheck n bad = check (leb n bad) outsidePoint bad
 
 abbrev pub settingCheck : ℕ → Check
-settingCheck bad = check (eqb bad 0) 5 bad
+settingCheck bad = check (eqb bad 0) outsideSetting bad
 
 -- the estimate: 1, 2, 3, 4, 6, 7; it has no normals, so of 2 only the first half can fail
 unfoldable pub estimateRefusal : List Float → Float → ℕ → ℕ → Refusal
@@ -51,8 +53,8 @@ estimateRefusal points percentile words floats =
     firstRefusal
     (sizeChecks (length points) (length points)
     ++ (pointCheck n (firstOutside farthest points)
-    ∷ check (percentileInside percentile) 6 0
-    ∷ check (roomy n words floats) 7 0
+    ∷ check (percentileInside percentile) outsidePercentile 0
+    ∷ check (roomy n words floats) shortWork 0
     ∷ []))
 
 -- the reconstruction: 1, 2, 3, 4, 5, 7
@@ -63,5 +65,5 @@ reconstructRefusal points normals settings words floats =
     (sizeChecks (length points) (length normals)
     ++ (pointCheck n (firstBadPoint points normals)
     ∷ settingCheck (firstBadSetting settings)
-    ∷ check (roomy n words floats) 7 0
+    ∷ check (roomy n words floats) shortWork 0
     ∷ []))

@@ -27,13 +27,13 @@ pub fn refusal_of_estimate(points: &[f32], percentile: f32, words: usize, floats
     let first = ranges::first_outside(points, 10000.0);
     if first < n {
         return Refusal {
-            answer: 4,
+            answer: answers::POINT,
             detail: first as u32,
         };
     }
     if !ranges::percentile_ok(percentile) {
         return Refusal {
-            answer: 6,
+            answer: answers::PERCENTILE,
             detail: 0,
         };
     }
@@ -64,14 +64,14 @@ pub fn refusal_of_reconstruct(
     let first = ranges::first_bad_point(points, normals);
     if first < n {
         return Refusal {
-            answer: 4,
+            answer: answers::POINT,
             detail: first as u32,
         };
     }
     let setting = settings::first_bad_setting(settings);
     if setting != 0 {
         return Refusal {
-            answer: 5,
+            answer: answers::SETTING,
             detail: setting,
         };
     }

@@ -6,6 +6,7 @@ use mathlib.Core.List.{List, map}
 use lib.Dec.{ltb, eqb}
 use lib.ListN.{length, take}
 use lib.Ieee.{Float}
+use Rattle.answers.specs.Answers.{noRoom}
 use Rattle.settings.specs.Settings.{defaults}
 use Rattle.patch.specs.View as patch
 use Rattle.ball_pivoting.specs.Reconstruct.{Found, found, reconstructed}
@@ -37,7 +38,7 @@ outcomeText (cloud.refused answer detail) faces words floats = refusal answer de
 -- a whole file, with slices of these lengths; one of more than 65,536 bytes is refused before any line is read
 unfoldable pub fileText : List ℕ → ℕ → ℕ → ℕ → ℕ → ℕ → List ℕ
 fileText bytes points normals faces words floats =
-    cond (ltb 65536 (length bytes)) (refusal 11 0) (outcomeText (cloud.outcome bytes points normals) faces words floats)
+    cond (ltb 65536 (length bytes)) (refusal noRoom 0) (outcomeText (cloud.outcome bytes points normals) faces words floats)
 
 -- the program: room for 512 points and 5,000 faces, and work slices for so many points
 unfoldable pub printed : List ℕ → List ℕ

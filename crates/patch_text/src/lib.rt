@@ -58,7 +58,7 @@ pub fn lay_text(
     ensures { λ r. ⌜ Prints (fileText (now (input .entry)) (length (now (points .entry))) (length (now (normals .entry))) (length (now (faces .entry))) (length (now (words .entry))) (length (now (floats .entry)))) (now (out .entry)) r (now (out .exit)) ⌝ }
 {
     if MOST_BYTES < input.len() {
-        return listing::write_refusal(11, 0, out);
+        return listing::write_refusal(answers::ROOM, 0, out);
     }
     let read = cloud::read_cloud(input, points, normals);
     if read.answer != 0 {

@@ -4,6 +4,7 @@ use mathlib.Core.Bool.{true}
 use mathlib.Core.List.{List}
 use Prim.Native.Nat.{_+_, _*_, _-_, _≤_, _<_}
 use lib.ListN.{length}
+use Rattle.answers.specs.Answers.{tallyEmpty}
 use Rattle.fractions.specs.Terms.{Lowest}
 use Rattle.tally.specs.declared.SeasonPatch.{SeasonPatch}
 use Rattle.tally.specs.declared.Tally.{Tally}
@@ -43,7 +44,7 @@ pub record Seasons : Type 0 where
   pub only : (ps : List SeasonPatch) (f g : Figures) → Figured ps f → Figured ps g → f ≡ g
   -- with none entered it is empty
   pub empty : (t : Tally) (calls : List SeasonPatch) → Empty t → length (entered t calls) ≡ 0
-      → figuresOf (after t calls) ≡ noFigures 21
+      → figuresOf (after t calls) ≡ noFigures tallyEmpty
   -- it is never refused with 24
   pub taken : (t : Tally) (calls : List SeasonPatch) → Empty t → sound (after t calls) ≡ true
   -- in any order of entry the figures are the same but for which of two equally covered patches is named

@@ -2,6 +2,7 @@
 use mathlib.Core.Bool.{Bool, cond}
 use Prim.Native.Nat.{ℕ, _+_, _*_}
 use lib.Dec.{ltb, eqb}
+use Rattle.answers.specs.Answers.{tallyFull, badSeasonPatch, badTally}
 use Rattle.tally.specs.declared.SeasonPatch.{SeasonPatch}
 use Rattle.tally.specs.declared.Tally.{Tally}
 use Rattle.tally.specs.declared.Outcome.{Outcome}
@@ -44,6 +45,6 @@ addedTo t p =
     (cond (enterable p)
     (cond (ltb (t .patches) maxPatches)
     (answering 0 (withPatch t p))
-    (answering 19 t))
-    (answering 20 t))
-    (answering 24 t)
+    (answering tallyFull t))
+    (answering badSeasonPatch t))
+    (answering badTally t)

@@ -2,6 +2,7 @@
 use mathlib.Core.Bool.{cond}
 use Prim.Native.Nat.{ℕ, _*_, _-_}
 use lib.Dec.{eqb}
+use Rattle.answers.specs.Answers.{tallyEmpty, badTally}
 use Rattle.fractions.specs.declared.Fraction.{Fraction}
 use Rattle.fractions.specs.Terms.{lowest}
 use Rattle.tally.specs.declared.SeasonPatch.{SeasonPatch}
@@ -52,4 +53,4 @@ soundFigures t = record {
 
 -- 24 a tally that is not taken, 21 an empty one
 unfoldable pub figuresOf : Tally → Figures
-figuresOf t = cond (sound t) (cond (eqb (t .patches) 0) (noFigures 21) (soundFigures t)) (noFigures 24)
+figuresOf t = cond (sound t) (cond (eqb (t .patches) 0) (noFigures tallyEmpty) (soundFigures t)) (noFigures badTally)

@@ -101,13 +101,22 @@ pub fn added(tally: Tally, patch: SeasonPatch) -> Outcome
     let best = tally.best;
     let worst = tally.worst;
     if !checks::is_sound(tally) {
-        return Outcome { answer: 24, tally };
+        return Outcome {
+            answer: answers::TALLY,
+            tally,
+        };
     }
     if !checks::is_enterable(patch) {
-        return Outcome { answer: 20, tally };
+        return Outcome {
+            answer: answers::SEASON_PATCH,
+            tally,
+        };
     }
     if tally.patches >= checks::MAX_PATCHES {
-        return Outcome { answer: 19, tally };
+        return Outcome {
+            answer: answers::TALLY_FULL,
+            tally,
+        };
     }
     if tally.patches == 0 {
         return Outcome {
@@ -186,10 +195,10 @@ pub fn figures_of(tally: Tally) -> Figures
     ensures { λ r. ⌜ r ≡ figuresOf tally ⌝ }
 {
     if !checks::is_sound(tally) {
-        return no_figures(24);
+        return no_figures(answers::TALLY);
     }
     if tally.patches == 0 {
-        return no_figures(21);
+        return no_figures(answers::TALLY_EMPTY);
     }
     sound_figures(tally)
 }
