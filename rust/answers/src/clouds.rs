@@ -8,7 +8,7 @@ use oracle::Settings;
 const SEED: u64 = 2_026;
 const MAX_WORDS: usize = 4_096;
 
-/// Mostly small clouds: the fixed ones that the program `replay` has room for, and a larger one now and then.
+/// Mostly small clouds: the fixed ones of at most 400 points, and a larger one now and then.
 fn cases(count: usize) -> impl Iterator<Item = Case> {
     let small = |number: u64| if number < fixed_count() || number % 40 == 0 { 1_200 } else { 90 };
     (0..)

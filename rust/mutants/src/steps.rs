@@ -48,7 +48,7 @@ fn defaults(root: &Path) -> Option<String> {
 }
 
 fn answers(root: &Path) -> Option<String> {
-    let stored = fs::read(root.join("crates/replay/stdin")).expect("the stored answers");
+    let stored = fs::read(root.join("tests/stored-answers.txt")).expect("the stored answers");
     unlike(run(root, "answers", &[], None).said == stored, "")
 }
 
