@@ -1,0 +1,61 @@
+-- What the two calls answer, and what they leave in the lent slices. Definitions only.
+use Prim.Native.Nat.{ℕ, _+_, _*_, _/_, _%_, _<_}
+use mathlib.Core.Path.{_≡_}
+use mathlib.Core.Bool.{Bool, true, cond, not, _&&_}
+use mathlib.Core.List.{List, [], _∷_, _++_}
+use lib.Dec.{T, ltb, eqb}
+use lib.ListN.{length, getD, drop}
+use lib.Ieee.{Float, nan, binary32, fits}
+use Rattle.ranges.specs.Range.{firstOutside, farthest}
+use Rattle.stl_file.specs.Format.{fileLength, stl, count, isFile, corners}
+use Rattle.stl_file.specs.declared.StlWritten.{StlWritten}
+use Rattle.stl_file.specs.declared.StlRead.{StlRead}
+
+-- every number is below a bound
+unfoldable pub allBelow : ℕ → List ℕ → Bool
+allBelow bound [] = true
+allBelow bound (f ∷ fs) = ltb f bound && allBelow bound fs
+
+-- every number of the faces names a point
+pub record Known (points : List Float) (faces : List ℕ) : Type 0 where
+  pub known : (k : ℕ) → k < length faces → 3 * getD faces k 0 + 2 < length points
+
+-- ---- writing
+abbrev pub notWritten : ℕ → ℕ → StlWritten
+notWritten answer detail = record { answer = answer; detail = detail; length = 0 }
+
+-- the checks in order, the first that fails tells; `room` is the output's length
+unfoldable pub judged : List Float → List ℕ → ℕ → StlWritten
+unfolding allBelow
+judged points faces room =
+    cond (not (eqb (length points % 3) 0)) (notWritten 2 0)
+    (cond (not (eqb (length faces % 3) 0)) (notWritten 2 0)
+    (cond (ltb 1000000 (length faces / 3)) (notWritten 3 0)
+    (cond (ltb (firstOutside farthest points) (length points / 3)) (notWritten 4 (firstOutside farthest points))
+    (cond (not (allBelow (length points / 3) faces)) (notWritten 14 0)
+    (cond (ltb room (fileLength (length faces / 3))) (notWritten 13 0)
+    (record { answer = 0; detail = 0; length = fileLength (length faces / 3) }))))))
+
+-- every coordinate is an f32, as a slice of them has it; the answer; and what the output holds then: the file in front of
+-- what it held, or at a refusal what it held
+pub record Wrote (points : List Float) (faces bytes : List ℕ) (told : StlWritten) (after : List ℕ) : Type 0 where
+  pub coordinates : (k : ℕ) → T (fits binary32 (getD points k nan))
+  pub answer-is : told ≡ judged points faces (length bytes)
+  pub after-is : after ≡ cond (eqb (told .answer) 0) (stl points faces ++ drop (told .length) bytes) bytes
+
+-- ---- reading
+abbrev pub notRead : ℕ → StlRead
+notRead answer = record { answer = answer; detail = 0; faces = 0 }
+
+-- `room` is the output's length
+unfoldable pub found : List ℕ → ℕ → StlRead
+unfolding isFile
+found bytes room =
+    cond (not (isFile bytes)) (notRead 12)
+    (cond (ltb room (9 * count bytes)) (notRead 13)
+    (record { answer = 0; detail = 0; faces = count bytes }))
+
+-- the answer, and what the output holds then: the corners in front of what it held, or at a refusal what it held
+pub record Got (bytes : List ℕ) (slice : List Float) (told : StlRead) (after : List Float) : Type 0 where
+  pub answer-is : told ≡ found bytes (length slice)
+  pub after-is : after ≡ cond (eqb (told .answer) 0) (corners bytes ++ drop (9 * told .faces) slice) slice
