@@ -14,8 +14,8 @@
  * names for the numbers, yb_answer_text words:
  *
  *    1  the points slice is empty
- *    2  the points' length is not a multiple of 3, or the normals' length differs from it
- *    3  there are more than 4,096 points
+ *    2  the points' (or faces') length is not a multiple of 3, or the normals' length differs from it
+ *    3  there are more than 4,096 points, or more than 1,000,000 faces to write
  *    4  a coordinate is not within -10,000 to 10,000, or a normal's component is not finite; detail: the first such
  *       point, from 0
  *    5  a setting is outside its bounds; detail: the first such setting's number, see YbBallPivotingConfig
@@ -25,13 +25,16 @@
  *    9  the faces found don't fit the face slice
  *   10  a line of the cloud file is malformed; detail: the first such line, from 1
  *   11  all lines are well formed, but the points don't fit the slices
+ *   12  the bytes are no STL file: fewer than 84, or not 84 + 50 times the count that they name
+ *   13  the output slice is too short
+ *   14  a face or a number names a point that isn't there
  *   19  the tally is full: it has 100,000 patches
  *   20  a season's patch has no points, more than 4,096, more covered than scanned or more than 10,000 faces
  *   21  figures are asked of an empty tally
  *   24  no season can have left the tally, see YbTally
  *
- * The checks are made in this order, but for a tally's, whose calls name theirs and have no detail; a not-a-number is
- * within no bounds. At a refusal every other field is 0.
+ * The checks are made in this order, but for a tally's and an STL file's, whose calls name theirs; a not-a-number is
+ * within no bounds. At a refusal every other field is 0. A tally's answers have no detail.
  *
  * A slice that stays as it was, or the part of one, does so bit for bit, but for one thing: what is proved treats all
  * not-a-numbers as one, so of a float slice that held one it says that it holds one still, not with which payload.
@@ -68,6 +71,9 @@ typedef enum {
     YB_FACES = 9,
     YB_LINE = 10,
     YB_ROOM = 11,
+    YB_BAD_STL = 12,
+    YB_OUTPUT_TOO_SHORT = 13,
+    YB_NO_SUCH_POINT = 14,
     YB_TALLY_FULL = 19,
     YB_SEASON_PATCH = 20,
     YB_TALLY_EMPTY = 21,
@@ -79,8 +85,8 @@ static inline const char *yb_answer_text(uint32_t answer) {
     switch (answer) {
     case YB_ACCEPTED: return "accepted";
     case YB_NO_POINTS: return "there are no points";
-    case YB_LENGTHS: return "the numbers of coordinates and of normals don't belong together";
-    case YB_TOO_MANY_POINTS: return "there are more than 4,096 points";
+    case YB_LENGTHS: return "the lengths of the slices don't belong together";
+    case YB_TOO_MANY_POINTS: return "there are too many points, or too many faces to write";
     case YB_POINT: return "a coordinate or normal is outside the domain";
     case YB_SETTING: return "a setting is outside its bounds";
     case YB_PERCENTILE: return "the percentile is not within 0 to 1";
@@ -89,6 +95,9 @@ static inline const char *yb_answer_text(uint32_t answer) {
     case YB_FACES: return "the faces found don't fit the face slice";
     case YB_LINE: return "a line of the cloud file is malformed";
     case YB_ROOM: return "the file's points don't fit the slices";
+    case YB_BAD_STL: return "the bytes are no STL file, or not as many as it says";
+    case YB_OUTPUT_TOO_SHORT: return "the output slice is too short";
+    case YB_NO_SUCH_POINT: return "a face or a number names a point that isn't there";
     case YB_TALLY_FULL: return "the tally has 100,000 patches";
     case YB_SEASON_PATCH: return "the patch's counts can't be entered";
     case YB_TALLY_EMPTY: return "the tally is empty";
@@ -106,6 +115,9 @@ static inline const char *yb_answer_text(uint32_t answer) {
 
 /* The length of a face slice that never gets a 9, whatever the cloud: 3 numbers a face, at most 10,000 faces. */
 #define YB_FACE_NUMBERS 30000
+
+/* The length of an STL file of n faces. */
+#define YB_STL_BYTES(n) (84 + 50 * (size_t)(n))
 
 /* The six measures of a triangle. */
 typedef struct {
@@ -158,6 +170,20 @@ typedef struct {
     float radius;
     size_t count; /* points */
 } YbCloudRead;
+
+/* The answer of the STL writer. */
+typedef struct {
+    uint32_t answer;
+    size_t detail;
+    size_t length; /* bytes written: YB_STL_BYTES(faces) */
+} YbStlWritten;
+
+/* The answer of the STL reader. */
+typedef struct {
+    uint32_t answer;
+    size_t detail;
+    size_t faces; /* facets read, nine numbers each */
+} YbStlRead;
 
 /* What is entered of a patch: a number of the caller's own, the cloud's points, those that a face touches, faces. */
 typedef struct {
@@ -314,6 +340,34 @@ YbCloudRead yb_read_cloud(const uint8_t *bytes, size_t bytes_len, float *points,
  */
 size_t yb_mark_reached(const uint32_t *faces, size_t faces_len, uint32_t *reached, size_t reached_len);
 
+/* ---- STL files ---- */
+
+/*
+ * Writes faces as binary STL: 80 zero bytes, the number of faces, then 50 bytes a face: its normal, its three corners
+ * and two zero bytes, every number with its lowest byte first. A normal is the cross product of second less first
+ * corner with third less first, divided by its length; zeros where that length is computed as 0.
+ *
+ * points: three coordinates a point, any number of points, none too. faces: three point numbers a face, none too.
+ * bytes: gets the file; YB_STL_BYTES(faces_len / 3) bytes are enough.
+ *
+ * Answers, tried in this order: 2 points or faces not in threes, 3 more than 1,000,000 faces, 4 (coordinates of any
+ * point, in a face or not), 14, 13; there is no 1. At 0 what lies past the file stays as it was, at a refusal all does.
+ */
+YbStlWritten yb_write_stl(const float *points, size_t points_len, const uint32_t *faces, size_t faces_len,
+                          uint8_t *bytes, size_t bytes_len);
+
+/*
+ * Reads the corners of a binary STL file, of any number of facets; whatever header, normals and last two bytes of the
+ * facets are is read past, and coordinates are not looked at: a not-a-number is stored as some not-a-number.
+ *
+ * corners: gets nine numbers a facet, corner after corner; a tenth of what lies past the first 84 bytes is enough.
+ *
+ * Answers 0, 12 or 13. At 0 what lies past the last corner stays as it was, at a refusal all does. Of a file that
+ * yb_write_stl wrote these are the faces' corners, bit for bit and in their order; written again, as points 0, 1, 2, ..
+ * with faces (0,1,2), (3,4,5), .., they give the same bytes. Both are proved (Calls.antt of crate stl_file).
+ */
+YbStlRead yb_read_stl(const uint8_t *bytes, size_t bytes_len, float *corners, size_t corners_len);
+
 /* ---- Seasons ---- */
 
 /*
@@ -371,6 +425,16 @@ YB_AT(YbCloudRead, answer, 0);
 YB_AT(YbCloudRead, detail, 8);
 YB_AT(YbCloudRead, radius, 16);
 YB_AT(YbCloudRead, count, 24);
+
+YB_SIZE(YbStlWritten, 24);
+YB_AT(YbStlWritten, answer, 0);
+YB_AT(YbStlWritten, detail, 8);
+YB_AT(YbStlWritten, length, 16);
+
+YB_SIZE(YbStlRead, 24);
+YB_AT(YbStlRead, answer, 0);
+YB_AT(YbStlRead, detail, 8);
+YB_AT(YbStlRead, faces, 16);
 
 YB_SIZE(YbSeasonPatch, 16);
 YB_AT(YbSeasonPatch, number, 0);

@@ -12,6 +12,7 @@ ghost use Rattle.estimate.specs.Estimate.{Estimated};
 ghost use Rattle.cloud.specs.Answers.{Answered, outcome};
 ghost use Rattle.ball_pivoting.specs.Outcome.{Reconstructs};
 ghost use Rattle.coverage.specs.Coverage.{Marked};
+ghost use Rattle.stl_file.specs.Answers.{Wrote, Got};
 ghost use Rattle.release.specs.Release.{version, layout};
 ghost use Rattle.tally.specs.Tallies.{addedTo};
 ghost use Rattle.tally.specs.Working.{figuresOf};
@@ -20,6 +21,8 @@ use cloud::CloudRead;
 use estimate::Estimate;
 use quality::TriangleQuality;
 use settings::BallPivotingConfig;
+use stl_file::StlRead;
+use stl_file::StlWritten;
 use tally::Figures;
 use tally::SeasonPatch;
 use tally::Tally;
@@ -200,6 +203,20 @@ pub extern "C" fn yb_mark_reached(faces: &[u32], reached: &mut [u32]) -> usize
     ensures { λ r. ⌜ Marked (now (faces .entry)) (now (reached .entry)) r (now (reached .exit)) ⌝ }
 {
     coverage::mark_reached(faces, reached)
+}
+
+#[no_mangle]
+pub extern "C" fn yb_write_stl(points: &[f32], faces: &[u32], bytes: &mut [u8]) -> StlWritten
+    ensures { λ r. ⌜ Wrote (now (points .entry)) (now (faces .entry)) (now (bytes .entry)) r (now (bytes .exit)) ⌝ }
+{
+    stl_file::write_stl(points, faces, bytes)
+}
+
+#[no_mangle]
+pub extern "C" fn yb_read_stl(bytes: &[u8], corners: &mut [f32]) -> StlRead
+    ensures { λ r. ⌜ Got (now (bytes .entry)) (now (corners .entry)) r (now (corners .exit)) ⌝ }
+{
+    stl_file::read_stl(bytes, corners)
 }
 
 // Adds a patch to a lent tally, where it is.

@@ -10,7 +10,7 @@ pub enum Error {
     NoPoints,
     /// 2. The lengths don't belong together.
     Lengths,
-    /// 3. There are more than 4,096 points.
+    /// 3. There are more than 4,096 points, or more than 1,000,000 faces to write.
     TooManyPoints,
     /// 4. A coordinate or normal of this point, from 0, is outside the domain.
     Point(usize),
@@ -28,6 +28,12 @@ pub enum Error {
     Line(usize),
     /// 11. The file's points don't fit the point slices.
     Room,
+    /// 12. The bytes are no STL file: fewer than 84, or not 84 + 50 times the count that they name.
+    BadStl,
+    /// 13. The output slice is too short.
+    OutputTooShort,
+    /// 14. A face or a number names a point that isn't there.
+    NoSuchPoint,
     /// 19. The tally has 100,000 patches.
     TallyFull,
     /// 20. A season's patch has no points, more than 4,096, more covered than scanned or more than 10,000 faces.
@@ -50,8 +56,8 @@ pub fn answer_text(answer: u32) -> &'static str {
     match answer {
         0 => "accepted",
         1 => "there are no points",
-        2 => "the numbers of coordinates and of normals don't belong together",
-        3 => "there are more than 4,096 points",
+        2 => "the lengths of the slices don't belong together",
+        3 => "there are too many points, or too many faces to write",
         4 => "a coordinate or normal is outside the domain",
         5 => "a setting is outside its bounds",
         6 => "the percentile is not within 0 to 1",
@@ -60,6 +66,9 @@ pub fn answer_text(answer: u32) -> &'static str {
         9 => "the faces found don't fit the face slice",
         10 => "a line of the cloud file is malformed",
         11 => "the file's points don't fit the slices",
+        12 => "the bytes are no STL file, or not as many as it says",
+        13 => "the output slice is too short",
+        14 => "a face or a number names a point that isn't there",
         19 => "the tally has 100,000 patches",
         20 => "the patch's counts can't be entered",
         21 => "the tally is empty",
@@ -95,6 +104,9 @@ impl Error {
             9 => Error::Faces,
             10 => Error::Line(detail),
             11 => Error::Room,
+            12 => Error::BadStl,
+            13 => Error::OutputTooShort,
+            14 => Error::NoSuchPoint,
             19 => Error::TallyFull,
             20 => Error::SeasonPatch,
             21 => Error::TallyEmpty,
@@ -117,6 +129,9 @@ impl Error {
             Error::Faces => 9,
             Error::Line(_) => 10,
             Error::Room => 11,
+            Error::BadStl => 12,
+            Error::OutputTooShort => 13,
+            Error::NoSuchPoint => 14,
             Error::TallyFull => 19,
             Error::SeasonPatch => 20,
             Error::TallyEmpty => 21,

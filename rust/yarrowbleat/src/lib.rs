@@ -12,11 +12,13 @@ struct Readme;
 
 mod config;
 mod error;
+mod stl;
 pub mod sys;
 pub mod tally;
 
 pub use config::BallPivotingConfig;
 pub use error::{answer_text, Error};
+pub use stl::{read_stl, write_stl};
 
 /// The most points of a cloud.
 pub const MAX_POINTS: usize = 4_096;

@@ -99,6 +99,30 @@ pub struct CloudRead {
     pub count: usize,
 }
 
+/// The answer of the STL writer.
+#[repr(C)]
+#[derive(Clone, Copy, Debug, Default, PartialEq, Eq)]
+pub struct StlWritten {
+    /// The answer's number, 0 where the call accepts.
+    pub answer: u32,
+    /// The answer's detail, 0 where none is named.
+    pub detail: usize,
+    /// The file's length.
+    pub length: usize,
+}
+
+/// The answer of the STL reader.
+#[repr(C)]
+#[derive(Clone, Copy, Debug, Default, PartialEq, Eq)]
+pub struct StlRead {
+    /// The answer's number, 0 where the call accepts.
+    pub answer: u32,
+    /// The answer's detail, which is 0.
+    pub detail: usize,
+    /// The facets read.
+    pub faces: usize,
+}
+
 /// What is entered of a patch: the number that its caller gave, and its counts.
 #[repr(C)]
 #[derive(Clone, Copy, Debug, Default, PartialEq, Eq)]
@@ -190,6 +214,8 @@ layouts! {
         use_spatial_index 92, spatial_cell_factor 96;
     Patch 96: answer 0, detail 4, faces 8, seeds 12, looks 16, pivots 20, radii_count 24, radii 28;
     CloudRead 32: answer 0, detail 8, radius 16, count 24;
+    StlWritten 24: answer 0, detail 8, length 16;
+    StlRead 24: answer 0, detail 8, faces 16;
     SeasonPatch 16: number 0, scanned 4, covered 8, faces 12;
     Tally 72: patches 0, faces 8, face_squares 16, scanned 24, covered 32, best 40, worst 56;
     Fraction 16: numerator 0, denominator 8;
@@ -313,6 +339,15 @@ mod linked {
             normals_len: usize,
         ) -> CloudRead;
         pub fn yb_mark_reached(faces: *const u32, faces_len: usize, reached: *mut u32, reached_len: usize) -> usize;
+        pub fn yb_write_stl(
+            points: *const f32,
+            points_len: usize,
+            faces: *const u32,
+            faces_len: usize,
+            bytes: *mut u8,
+            bytes_len: usize,
+        ) -> StlWritten;
+        pub fn yb_read_stl(bytes: *const u8, bytes_len: usize, corners: *mut f32, corners_len: usize) -> StlRead;
         pub fn yb_tally_add(tally: *mut Tally, patch: SeasonPatch) -> u32;
         pub fn yb_tally_figures(tally: *const Tally) -> Figures;
     }
@@ -455,6 +490,25 @@ pub fn read_cloud(bytes: &[u8], points: &mut [f32], normals: &mut [f32]) -> Clou
 /// Marks the points that faces have with 1, the others with 0; the answer is how many are marked.
 pub fn mark_reached(faces: &[u32], reached: &mut [u32]) -> usize {
     unsafe { linked::yb_mark_reached(faces.as_ptr(), faces.len(), reached.as_mut_ptr(), reached.len()) }
+}
+
+/// Writes faces as binary STL into a lent slice; the answer is 0, 2, 3, 4, 14 or 13.
+pub fn write_stl(points: &[f32], faces: &[u32], bytes: &mut [u8]) -> StlWritten {
+    unsafe {
+        linked::yb_write_stl(
+            points.as_ptr(),
+            points.len(),
+            faces.as_ptr(),
+            faces.len(),
+            bytes.as_mut_ptr(),
+            bytes.len(),
+        )
+    }
+}
+
+/// Reads the corners of a binary STL file into a lent slice, nine numbers a facet; the answer is 0, 12 or 13.
+pub fn read_stl(bytes: &[u8], corners: &mut [f32]) -> StlRead {
+    unsafe { linked::yb_read_stl(bytes.as_ptr(), bytes.len(), corners.as_mut_ptr(), corners.len()) }
 }
 
 /// Adds a patch to a tally, where it is; the answer is 0, 24, 20 or 19.

@@ -25,10 +25,10 @@ fn covered(patch: &Patch) -> (usize, usize) {
 /// A number that the crate has no name for is an error like the others.
 #[test]
 fn unknown_answers() {
-    for answer in [12, 1000, u32::MAX] {
+    for answer in [1000, u32::MAX] {
         assert_eq!(told(Error::check(answer, 7)), (answer, 7));
     }
-    assert!(Error::check(12, 7).unwrap_err().to_string().ends_with("no words for: 12, 7"));
+    assert!(Error::check(1000, 7).unwrap_err().to_string().ends_with("no words for: 1000, 7"));
     assert_eq!(Error::check(0, 7), Ok(()));
 }
 
