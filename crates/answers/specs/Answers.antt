@@ -38,6 +38,15 @@ badLine = 10
 abbrev pub noRoom : ℕ
 noRoom = 11
 
+abbrev pub badStl : ℕ
+badStl = 12
+
+abbrev pub shortOutput : ℕ
+shortOutput = 13
+
+abbrev pub missingPoint : ℕ
+missingPoint = 14
+
 abbrev pub tallyFull : ℕ
 tallyFull = 19
 
@@ -63,8 +72,8 @@ unfoldable pub answers : List Answer
 answers =
     says 0 "accepted"
     ∷ says noPoints "there are no points"
-    ∷ says wrongLengths "the numbers of coordinates and of normals don't belong together"
-    ∷ says tooManyPoints "there are more than 4,096 points"
+    ∷ says wrongLengths "the lengths of the slices don't belong together"
+    ∷ says tooManyPoints "there are too many points, or too many faces to write"
     ∷ says outsidePoint "a coordinate or normal is outside the domain"
     ∷ says outsideSetting "a setting is outside its bounds"
     ∷ says outsidePercentile "the percentile is not within 0 to 1"
@@ -73,6 +82,9 @@ answers =
     ∷ says shortFaces "the faces found don't fit the face slice"
     ∷ says badLine "a line of the cloud file is malformed"
     ∷ says noRoom "the file's points don't fit the slices"
+    ∷ says badStl "the bytes are no STL file, or not as many as it says"
+    ∷ says shortOutput "the output slice is too short"
+    ∷ says missingPoint "a face or a number names a point that isn't there"
     ∷ says tallyFull "the tally has 100,000 patches"
     ∷ says badSeasonPatch "the patch's counts can't be entered"
     ∷ says tallyEmpty "the tally is empty"

@@ -23,6 +23,12 @@ pub const LINE: u32 = 10;
 
 pub const ROOM: u32 = 11;
 
+pub const BAD_STL: u32 = 12;
+
+pub const OUTPUT_TOO_SHORT: u32 = 13;
+
+pub const NO_SUCH_POINT: u32 = 14;
+
 pub const TALLY_FULL: u32 = 19;
 
 pub const SEASON_PATCH: u32 = 20;

@@ -6,6 +6,7 @@ use mathlib.Core.List.{List, [], _∷_, _++_}
 use lib.Dec.{T, ltb, eqb}
 use lib.ListN.{length, getD, drop}
 use lib.Ieee.{Float, nan, binary32, fits}
+use Rattle.answers.specs.Answers.{wrongLengths, tooManyPoints, outsidePoint, badStl, shortOutput, missingPoint}
 use Rattle.ranges.specs.Range.{firstOutside, farthest}
 use Rattle.stl_file.specs.Format.{fileLength, stl, count, isFile, corners}
 use Rattle.stl_file.specs.declared.StlWritten.{StlWritten}
@@ -28,12 +29,12 @@ notWritten answer detail = record { answer = answer; detail = detail; length = 0
 unfoldable pub judged : List Float → List ℕ → ℕ → StlWritten
 unfolding allBelow
 judged points faces room =
-    cond (not (eqb (length points % 3) 0)) (notWritten 2 0)
-    (cond (not (eqb (length faces % 3) 0)) (notWritten 2 0)
-    (cond (ltb 1000000 (length faces / 3)) (notWritten 3 0)
-    (cond (ltb (firstOutside farthest points) (length points / 3)) (notWritten 4 (firstOutside farthest points))
-    (cond (not (allBelow (length points / 3) faces)) (notWritten 14 0)
-    (cond (ltb room (fileLength (length faces / 3))) (notWritten 13 0)
+    cond (not (eqb (length points % 3) 0)) (notWritten wrongLengths 0)
+    (cond (not (eqb (length faces % 3) 0)) (notWritten wrongLengths 0)
+    (cond (ltb 1000000 (length faces / 3)) (notWritten tooManyPoints 0)
+    (cond (ltb (firstOutside farthest points) (length points / 3)) (notWritten outsidePoint (firstOutside farthest points))
+    (cond (not (allBelow (length points / 3) faces)) (notWritten missingPoint 0)
+    (cond (ltb room (fileLength (length faces / 3))) (notWritten shortOutput 0)
     (record { answer = 0; detail = 0; length = fileLength (length faces / 3) }))))))
 
 -- every coordinate is an f32, as a slice of them has it; the answer; and what the output holds then: the file in front of
@@ -51,8 +52,8 @@ notRead answer = record { answer = answer; detail = 0; faces = 0 }
 unfoldable pub found : List ℕ → ℕ → StlRead
 unfolding isFile
 found bytes room =
-    cond (not (isFile bytes)) (notRead 12)
-    (cond (ltb room (9 * count bytes)) (notRead 13)
+    cond (not (isFile bytes)) (notRead badStl)
+    (cond (ltb room (9 * count bytes)) (notRead shortOutput)
     (record { answer = 0; detail = 0; faces = count bytes }))
 
 -- the answer, and what the output holds then: the corners in front of what it held, or at a refusal what it held

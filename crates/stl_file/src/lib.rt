@@ -40,24 +40,24 @@ pub fn write_stl(points: &[f32], faces: &[u32], bytes: &mut [u8]) -> StlWritten
     ensures { λ r. ⌜ Wrote (now (points .entry)) (now (faces .entry)) (now (bytes .entry)) r (now (bytes .exit)) ⌝ }
 {
     if points.len() % 3 != 0 {
-        return not_written(2, 0);
+        return not_written(answers::LENGTHS, 0);
     }
     if faces.len() % 3 != 0 {
-        return not_written(2, 0);
+        return not_written(answers::LENGTHS, 0);
     }
     let n = faces.len() / 3;
     if n > 1000000 {
-        return not_written(3, 0);
+        return not_written(answers::TOO_MANY_POINTS, 0);
     }
     let bad = ranges::first_outside(points, 10000.0);
     if bad < points.len() / 3 {
-        return not_written(4, bad);
+        return not_written(answers::POINT, bad);
     }
     if !names_points(faces, points.len() / 3) {
-        return not_written(14, 0);
+        return not_written(answers::NO_SUCH_POINT, 0);
     }
     if bytes.len() < 84 + 50 * n {
-        return not_written(13, 0);
+        return not_written(answers::OUTPUT_TOO_SHORT, 0);
     }
     put_file(bytes, points, faces);
     StlWritten {
@@ -81,14 +81,14 @@ pub fn read_stl(bytes: &[u8], corners: &mut [f32]) -> StlRead
     ensures { λ r. ⌜ Got (now (bytes .entry)) (now (corners .entry)) r (now (corners .exit)) ⌝ }
 {
     if bytes.len() < 84 {
-        return not_read(12);
+        return not_read(answers::BAD_STL);
     }
     let n = words::word_at(bytes, 80) as usize;
     if bytes.len() != 84 + 50 * n {
-        return not_read(12);
+        return not_read(answers::BAD_STL);
     }
     if corners.len() < 9 * n {
-        return not_read(13);
+        return not_read(answers::OUTPUT_TOO_SHORT);
     }
     read_facets(bytes, corners, n);
     StlRead {
