@@ -273,7 +273,10 @@ float yb_compute_circumradius(float x1, float y1, float z1, float x2, float y2, 
 YbTriangleQuality yb_compute_triangle_quality(float x1, float y1, float z1, float x2, float y2, float z2, float x3,
                                               float y3, float z3);
 
-/* True if a triangle with these measures is laid at this radius, under these three settings. */
+/*
+ * True if a triangle with these measures is laid at this radius, under these three settings. Any bits are taken. An
+ * area of exactly zero, of either sign, is turned down under every setting; a not-a-number is not for that.
+ */
 bool yb_is_triangle_acceptable(YbTriangleQuality quality, float radius, float min_triangle_area,
                                float quality_threshold, float max_edge_factor);
 

@@ -20,7 +20,8 @@ use Rattle.numbers.proofs.Maximum.{maximum-right, minimum-finite, maximum-finit
 use Rattle.numbers.proofs.AtLeastOne.{ratio-above, mul-above}
 use Rattle.vector.specs.Vector.{Finite, difference, magnitudeSquared, magnitude, cross, squared, distance}
 use Rattle.quality.specs.Measures.{half, one, tiny, least, largest, edgeRatio, measures, degenerate}
-use Rattle.triangle.specs.Quality.{area, circumradius, quality, acceptable}
+use Rattle.triangle.specs.Quality.{area, circumradius, quality, sourceAcceptable, acceptable}
+use Rattle.triangle.proofs.Acceptance.{still-refused, edges-refused}
 use Rattle.area_bounds.specs.AreaBound.{TooLong, LargeLimit}
 use Rattle.vector.specs.declared.Point3f.{Point3f}
 use Rattle.vector.proofs.Distances.{squared-fits, squared-unsigned, magnitude-unsigned}
@@ -37,8 +38,8 @@ quality-area p1 p2 p3 = go (lt (area p1 p2 p3) tiny)
     go false = refl
 
 pub small-refused : (p1 p2 p3 : Point3f) (r m threshold factor : Float) → T (lt (area p1 p2 p3) m) → acceptable (quality p1 p2 p3) r m threshold factor ≡ false
-unfolding acceptable
-small-refused p1 p2 p3 r m threshold factor h = rw (quality-area p1 p2 p3, is-true (lt (area p1 p2 p3) m) h)
+unfolding sourceAcceptable
+small-refused p1 p2 p3 r m threshold factor h = still-refused (quality p1 p2 p3) r m threshold factor (rw (quality-area p1 p2 p3, is-true (lt (area p1 p2 p3) m) h))
 
 -- ---- too long
 
@@ -81,15 +82,10 @@ too-long-above r m s factor h l = record {
 }
 
 measures-refused : (a b c s t r m threshold factor : Float) → T (finite a) → T (finite b) → T (finite c) → T (fits binary32 s) → TooLong r s factor → acceptable (measures a b c s t) r m threshold factor ≡ false
-unfolding acceptable measures
+unfolding measures
 measures-refused a b c s t r m threshold factor f g h i l =
-    let e = is-true (lt (r ⊗ factor) (edgeRatio a b c ⊗ root s)) (l .long (edgeRatio a b c) s i (edge-ratio-above a b c f g h) (le-refl s (le-right tiny s (l .some)))) in
-    rw e (neither (lt s m) (lt (measures a b c s t .«quality_score») threshold))
-  where
-    neither : (x y : Bool) → cond x false (cond y false false) ≡ false
-    neither true y = refl
-    neither false true = refl
-    neither false false = refl
+    edges-refused (measures a b c s t) r m threshold factor
+    (is-true (lt (r ⊗ factor) (edgeRatio a b c ⊗ root s)) (l .long (edgeRatio a b c) s i (edge-ratio-above a b c f g h) (le-refl s (le-right tiny s (l .some)))))
 
 module _ (p1 p2 p3 : Point3f) (r m threshold factor : Float) (f : T (finite (distance p2 p1))) (g : T (finite (distance p3 p2))) (h : T (finite (distance p1 p3))) where
   pub large-refused : TooLong r (area p1 p2 p3) factor → acceptable (quality p1 p2 p3) r m threshold factor ≡ false

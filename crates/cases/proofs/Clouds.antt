@@ -16,7 +16,7 @@ use Rattle.numbers.specs.Cut.{ceil}
 use Rattle.numbers.specs.Order.{minimum, maximum, clamp}
 use Rattle.numbers.specs.Root.{isqrt, nearestRoot, rootOfUnits, root}
 use Rattle.quality.specs.Measures.{radiusOf, angle, least, largest, aspectRatio, edgeRatio, score, measures, degenerate}
-use Rattle.triangle.specs.Quality.{area, circumradius, quality, acceptable}
+use Rattle.triangle.specs.Quality.{area, circumradius, quality, sourceAcceptable, acceptable}
 use Rattle.vector.specs.Vector.{difference, magnitudeSquared, magnitude, cross, squared, distance}
 use Rattle.points.specs.Points.{pointAt}
 use Rattle.lists.specs.Lists.{upFrom, any}
@@ -173,13 +173,13 @@ pub record CloudCases : Type 0 where
   pub two-radii : Gives two-radii-settings two-radii-points 42 (answer 0 4 2 12 10 (0x3ff5d345 ∷ 0x4082c055 ∷ 0x40a25122 ∷ 0x40b84cd0 ∷ [])) (face 0 5 6 ∷ face 1 4 3 ∷ face 1 4 7 ∷ face 4 3 2 ∷ [])
   -- two seeds
   pub two-seeds : Gives two-seeds-settings two-seeds-points 8 (answer 0 2 2 6 6 (0x4006bcc7 ∷ 0x403d470c ∷ 0x408ccccd ∷ 0x409fba3b ∷ [])) (face 0 1 2 ∷ face 3 4 5 ∷ [])
-  -- a seed and three pivots
-  pub pivots : Gives pivots-settings pivots-points 16 (answer 0 4 1 12 9 (0x403ab052 ∷ 0x404307f3 ∷ 0x41b51984 ∷ 0x41b51985 ∷ 0x41ccf105 ∷ [])) (face 0 1 2 ∷ face 0 1 3 ∷ face 3 0 4 ∷ face 2 0 5 ∷ [])
+  -- a seed and three pivots; points 1 and 2 are equal, so that 0, 1, 2 has no area and is no seed
+  pub pivots : Gives pivots-settings pivots-points 16 (answer 0 4 1 12 9 (0x403ab052 ∷ 0x404307f3 ∷ 0x41b51984 ∷ 0x41b51985 ∷ 0x41ccf105 ∷ [])) (face 0 1 3 ∷ face 0 1 5 ∷ face 1 3 4 ∷ face 5 0 2 ∷ [])
   -- without the index
   pub unindexed : Gives unindexed-settings unindexed-points 10 (answer 0 3 1 9 7 (0x3dd8f07b ∷ 0x3e0a0370 ∷ 0x3e54362b ∷ [])) (face 0 1 3 ∷ face 0 1 4 ∷ face 4 0 2 ∷ [])
   -- the plain path
   pub plain : Gives plain-settings plain-points 28 (answer 0 8 0 0 0 ([])) (face 3 0 1 ∷ face 3 0 2 ∷ face 3 1 2 ∷ face 4 0 2 ∷ face 4 0 3 ∷ face 4 1 2 ∷ face 4 1 3 ∷ face 4 2 3 ∷ [])
 
 pub cloud-cases : CloudCases
-unfolding trailingZeros span climb size odd units round neg sum add sub mul div lt eq le ne ofInt toUnsigned isNan ofFields ofBits toBits R abs cleared acosMiddle acosLow acosHigh acosInside acos ceil minimum maximum clamp isqrt nearestRoot rootOfUnits root area radiusOf circumradius angle least largest aspectRatio edgeRatio score measures degenerate quality acceptable difference magnitudeSquared magnitude cross squared distance pointAt upFrom insertBefore place insertAll percentileOf inside leading firstOutside listInside firstRefusal firstBadPoint roomy reconstructRefusal firstFailing settingTests firstBadSetting defaults leastFrom boundsMin cellOn cellOf before precedes byCell orderOf within inRange rangeOf keep neighbors distancesTo total average nearOf nearest densitiesFrom spaced dedup candidates radiiAt adaptiveRadii any sift afterPop same push marked withFace cleared-patch seeded popped met pivoted judged look next run begun layOne layAll patch isSecond isThird thirdOf secondOf firstOf scoreOf bestOf searching apart qualityAt isClose accepts middle around pivotable scoreAt completes floatsOf candidate candidates-plain sound valid facesOver facesAt facesOf plainFaces indexOf sceneOf radiiOf laidOf laid plainly foundAt found slots refused accepted delivered reconstructed swept facesAfter
+unfolding trailingZeros span climb size odd units round neg sum add sub mul div lt eq le ne ofInt toUnsigned isNan ofFields ofBits toBits R abs cleared acosMiddle acosLow acosHigh acosInside acos ceil minimum maximum clamp isqrt nearestRoot rootOfUnits root area radiusOf circumradius angle least largest aspectRatio edgeRatio score measures degenerate quality sourceAcceptable acceptable difference magnitudeSquared magnitude cross squared distance pointAt upFrom insertBefore place insertAll percentileOf inside leading firstOutside listInside firstRefusal firstBadPoint roomy reconstructRefusal firstFailing settingTests firstBadSetting defaults leastFrom boundsMin cellOn cellOf before precedes byCell orderOf within inRange rangeOf keep neighbors distancesTo total average nearOf nearest densitiesFrom spaced dedup candidates radiiAt adaptiveRadii any sift afterPop same push marked withFace cleared-patch seeded popped met pivoted judged look next run begun layOne layAll patch isSecond isThird thirdOf secondOf firstOf scoreOf bestOf searching apart qualityAt isClose accepts middle around pivotable scoreAt completes floatsOf candidate candidates-plain sound valid facesOver facesAt facesOf plainFaces indexOf sceneOf radiiOf laidOf laid plainly foundAt found slots refused accepted delivered reconstructed swept facesAfter
 cloud-cases = record { listing = (refl, refl); two-points = (refl, refl); two-radii = (refl, refl); two-seeds = (refl, refl); pivots = (refl, refl); unindexed = (refl, refl); plain = (refl, refl) }

@@ -7,7 +7,7 @@ use Rattle.numbers.specs.Cut.{ceil}
 use Rattle.numbers.specs.Order.{minimum, maximum, clamp}
 use Rattle.numbers.specs.Root.{isqrt, nearestRoot, rootOfUnits, root}
 use Rattle.quality.specs.Measures.{radiusOf, angle, least, largest, aspectRatio, edgeRatio, score, measures, degenerate}
-use Rattle.triangle.specs.Quality.{area, circumradius, quality, acceptable}
+use Rattle.triangle.specs.Quality.{area, circumradius, quality, sourceAcceptable, acceptable}
 use Rattle.vector.specs.Vector.{difference, magnitudeSquared, magnitude, cross, squared, distance}
 use Rattle.points.specs.Points.{pointAt}
 use Rattle.sorting.specs.Insertion.{insertBefore, place}
@@ -33,5 +33,5 @@ use Rattle.lists.specs.Lists.{upFrom, any}
 use Rattle.clearing.specs.Swept.{swept}
 
 pub text-cases : TextCases
-unfolding trailingZeros span climb size odd units round neg sum add sub mul div lt eq le ne ofInt toUnsigned isNan ofFields ofBits toBits R abs cleared acosMiddle acosLow acosHigh acosInside acos ceil minimum maximum clamp isqrt nearestRoot rootOfUnits root area radiusOf circumradius angle least largest aspectRatio edgeRatio score measures degenerate quality acceptable difference magnitudeSquared magnitude cross squared distance pointAt upFrom insertBefore place insertAll percentileOf inside leading firstOutside listInside firstRefusal firstBadPoint roomy reconstructRefusal firstFailing settingTests firstBadSetting defaults leastFrom boundsMin cellOn cellOf before precedes byCell orderOf within inRange rangeOf keep neighbors distancesTo total average nearOf nearest densitiesFrom spaced dedup candidates radiiAt adaptiveRadii any sift afterPop same push marked withFace cleared-patch seeded popped met pivoted judged look next run begun layOne layAll patch isSecond isThird thirdOf secondOf firstOf scoreOf bestOf searching apart qualityAt isClose accepts middle around pivotable scoreAt completes floatsOf candidate candidates-plain sound valid facesOver facesAt facesOf plainFaces indexOf sceneOf radiiOf laidOf laid plainly foundAt found slots refused accepted delivered reconstructed swept facesAfter view.flat format.then format.startsWith format.startsDigit format.digits format.few format.whole format.decimal format.fraction format.magnitude format.number format.field format.triple format.point format.ahead format.lines format.body format.under format.file answers.judged answers.outcome answers.flat listing.text listing.spelled listing.decimal listing.field listing.faceLine listing.faceLines listing.countsLine listing.listing listing.refusal patchText laidText outcomeText fileText printed
+unfolding trailingZeros span climb size odd units round neg sum add sub mul div lt eq le ne ofInt toUnsigned isNan ofFields ofBits toBits R abs cleared acosMiddle acosLow acosHigh acosInside acos ceil minimum maximum clamp isqrt nearestRoot rootOfUnits root area radiusOf circumradius angle least largest aspectRatio edgeRatio score measures degenerate quality sourceAcceptable acceptable difference magnitudeSquared magnitude cross squared distance pointAt upFrom insertBefore place insertAll percentileOf inside leading firstOutside listInside firstRefusal firstBadPoint roomy reconstructRefusal firstFailing settingTests firstBadSetting defaults leastFrom boundsMin cellOn cellOf before precedes byCell orderOf within inRange rangeOf keep neighbors distancesTo total average nearOf nearest densitiesFrom spaced dedup candidates radiiAt adaptiveRadii any sift afterPop same push marked withFace cleared-patch seeded popped met pivoted judged look next run begun layOne layAll patch isSecond isThird thirdOf secondOf firstOf scoreOf bestOf searching apart qualityAt isClose accepts middle around pivotable scoreAt completes floatsOf candidate candidates-plain sound valid facesOver facesAt facesOf plainFaces indexOf sceneOf radiiOf laidOf laid plainly foundAt found slots refused accepted delivered reconstructed swept facesAfter view.flat format.then format.startsWith format.startsDigit format.digits format.few format.whole format.decimal format.fraction format.magnitude format.number format.field format.triple format.point format.ahead format.lines format.body format.under format.file answers.judged answers.outcome answers.flat listing.text listing.spelled listing.decimal listing.field listing.faceLine listing.faceLines listing.countsLine listing.listing listing.refusal patchText laidText outcomeText fileText printed
 text-cases = record { listing = refl; five-counts = refl; empty = refl; malformed = refl; two-points = refl }

@@ -14,9 +14,8 @@ use Rattle.domain.specs.Refusals.{Check, check, refusal, firstRefusal, sizeChec
 use Rattle.domain.specs.Refusals.{estimateRefusal, reconstructRefusal}
 use Rattle.estimate.specs.Estimate.{optimalRadius, estimate, estimateOf}
 use Rattle.radii.specs.Radii.{sampleCount, dedup}
-use Rattle.patch.specs.Lay.{face}
 use Rattle.patch.specs.Frontier.{afterPop}
-use Rattle.ball_pivoting.specs.Reconstruct.{found, slots, refused, reconstructed}
+use Rattle.ball_pivoting.specs.Reconstruct.{refused, reconstructed}
 
 -- one point at x, 0, 0; and the same as the second of two, behind one at 0, 0, 0
 abbrev pub one-at : Float → List Float
@@ -111,17 +110,7 @@ pub record StarredCases : Type 0 where
   pub three-radii : dedup (f32 0x3f000000 ∷ f32 0x3f00000c ∷ f32 0x3f000017 ∷ []) ≡ f32 0x3f000000 ∷ f32 0x3f000017 ∷ []
   -- a frontier A, B, C, D empties as A, C, B, D
   pub frontier : emptied 4 (10 ∷ 11 ∷ 12 ∷ 13 ∷ []) ≡ 10 ∷ 12 ∷ 11 ∷ 13 ∷ []
-  -- three equal points with least area 0: one face, 3 looks and 3 pivots, at one radius, 1 (the densities are 0)
-  pub equal-accepted : reconstructed equal-points equal-points (with-area (f32 0)) 3 136 76 ≡ record {
-    answer = 0;
-    detail = 0;
-    faces = 1;
-    seeds = 1;
-    looks = 3;
-    pivots = 3;
-    «radii_count» = 1;
-    radii = slots (f32 0x3f800000 ∷ []);
-  }
-  pub equal-faces : found (with-area (f32 0)) equal-points .faces ≡ face 0 1 2 ∷ []
+  -- three equal points, with least area 0: 8, since they have no area
+  pub equal-without-area : reconstructed equal-points equal-points (with-area (f32 0)) 3 136 76 ≡ refused 8 0
   -- with least area 1e-8: 8
   pub equal-refused : reconstructed equal-points equal-points (with-area (f32 0x322bcc77)) 3 136 76 ≡ refused 8 0

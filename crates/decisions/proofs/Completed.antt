@@ -1,13 +1,13 @@
 -- The test of a seed's third point, by the distances and the area that it takes. Assumes nothing.
 use Prim.Native.Nat.{ℕ}
-use mathlib.Core.Path.{_≡_, refl, sym, ap, _∙_}
-use mathlib.Core.Bool.{Bool, true, false, cond}
+use mathlib.Core.Path.{_≡_, sym, ap, _∙_}
+use mathlib.Core.Bool.{Bool, true, false}
 use mathlib.Core.List.{List}
 use lib.Ieee.{Float, lt}
 use Rattle.numbers.specs.Rounded.{_⊗_}
 use Rattle.numbers.specs.Root.{root}
 use Rattle.vector.specs.Vector.{distance}
-use Rattle.triangle.specs.Quality.{area, acceptable}
+use Rattle.triangle.specs.Quality.{area}
 use Rattle.quality.specs.Shape.{shapeOf, qualityOf}
 use Rattle.score_bounds.specs.Bound.{scoreBound}
 use Rattle.quality.specs.declared.Shape.{Shape}
@@ -15,6 +15,7 @@ use Rattle.quality.specs.declared.TriangleQuality.{TriangleQuality}
 use Rattle.vector.proofs.Distances.{distance-turned}
 use Rattle.quality.proofs.Shapes.{quality-area, quality-edges}
 use Rattle.triangle.proofs.Quality.{quality-is}
+use Rattle.triangle.proofs.Acceptance.{low-refused, edges-refused}
 use Rattle.score_bounds.proofs.Aspect.{bound-low}
 use Rattle.points.specs.Points.{pointAt}
 use Rattle.decisions.specs.declared.Scene.{Scene}
@@ -38,23 +39,6 @@ module _ (s : Scene) (pts : List Float) (r : Float) (i j k : ℕ) {area : Float}
 
 -- ---- the shape
 
-pub low-refused : (q : TriangleQuality) (r m threshold factor : Float) → lt (q .«quality_score») threshold ≡ true → acceptable q r m threshold factor ≡ false
-unfolding acceptable
-low-refused q r m threshold factor h = rw h (either (lt (q .area) m))
-  where
-    either : (b : Bool) → cond b false false ≡ false
-    either true = refl
-    either false = refl
-
-long-refused : (q : TriangleQuality) (r m threshold factor : Float) → lt (r ⊗ factor) (q .«edge_ratio» ⊗ root (q .area)) ≡ true → acceptable q r m threshold factor ≡ false
-unfolding acceptable
-long-refused q r m threshold factor h = rw h (neither (lt (q .area) m) (lt (q .«quality_score») threshold))
-  where
-    neither : (x y : Bool) → cond x false (cond y false false) ≡ false
-    neither true y = refl
-    neither false true = refl
-    neither false false = refl
-
 module _ (s : Scene) (r : Float) {v : Shape} where
   pub shape-low : {x : Float} → x ≡ scoreBound v → lt x (s .«quality_threshold») ≡ true → ShapeRefused s r v
   unfolding accepts
@@ -66,7 +50,7 @@ module _ (s : Scene) (r : Float) {v : Shape} where
       let q = qualityOf a b c t in
       let edges : q .«edge_ratio» ≡ v .«edge_ratio» = quality-edges a b c t ∙ ap (λ (y : Shape). y .«edge_ratio») (sym g) in
       let root-is : root (q .area) ≡ x = ap root (quality-area a b c t ∙ ap (λ (y : Shape). y .area) (sym g)) ∙ sym e in
-      long-refused q r (s .«min_triangle_area») (s .«quality_threshold») (s .«max_edge_factor»)
+      edges-refused q r (s .«min_triangle_area») (s .«quality_threshold») (s .«max_edge_factor»)
       (ap (λ (y : Float). lt (r ⊗ s .«max_edge_factor») (y ⊗ root (q .area))) edges ∙ ap (λ (y : Float). lt (r ⊗ s .«max_edge_factor») (v .«edge_ratio» ⊗ y)) root-is ∙ h)
 
 -- ---- the tests

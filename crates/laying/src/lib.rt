@@ -167,7 +167,7 @@ pub fn advanced_ball_pivoting(
     let mut i: usize = 0;
     while i < count {
         let radius = radii[i];
-        let known = seed::is_known(flat, radius, upto);
+        let known = seed::is_known(s, flat, radius, upto);
         let laid = lay_one(s, points, faces, w, radius, c, hash, known);
         c = laid.counts;
         upto = seed::known_to(s, points, w, radius, largest, hash, known, upto, laid.purse);

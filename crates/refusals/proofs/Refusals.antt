@@ -11,7 +11,7 @@ use lib.Ieee.Scale.{finite}
 use Rattle.numbers.specs.Rounded.{f32, _⊗_}
 use Rattle.numbers.specs.Root.{root}
 use Rattle.vector.specs.Vector.{Finite, difference, magnitude, squared, distance}
-use Rattle.quality.specs.Measures.{half, tiny, degenerate}
+use Rattle.quality.specs.Measures.{half, tiny}
 use Rattle.triangle.specs.Quality.{area, quality}
 use Rattle.quality.specs.Shape.{shapeOf}
 use Rattle.score_bounds.specs.Bound.{AspectLimit}
@@ -19,14 +19,15 @@ use Rattle.area_bounds.specs.AreaBound.{crossSquared, areaBound}
 use Rattle.vector.specs.declared.Point3f.{Point3f}
 use Rattle.vector.proofs.Distances.{squared-fits, squared-turned, distance-is, distance-turned}
 use Rattle.area_bounds.proofs.AreaBound.{Bounds, Unsigned, area-bounded, area-limited, area-too-long, cross-squared-turned}
+use Rattle.area_bounds.proofs.Tiny.{tiny-refused}
 use Rattle.area_bounds.proofs.Refused.{small-refused, large-refused, long-refused, near-finite, area-number}
 use Rattle.triangle.proofs.Quality.{quality-is}
+use Rattle.triangle.proofs.Acceptance.{low-refused}
 use Rattle.score_bounds.proofs.Aspect.{aspect-low}
 use Rattle.thin.specs.Thin.{ThinLimit, AllThin}
 use Rattle.points.specs.Points.{pointAt}
 use Rattle.decisions.specs.declared.Scene.{Scene}
 use Rattle.decisions.specs.Decisions.{reach, apart, isClose, qualityAt, accepts}
-use Rattle.decisions.proofs.Completed.{low-refused}
 use Rattle.refusals.specs.declared.Limits.{Limits}
 use Rattle.refusals.specs.Refused.{Least, Limiting, Refused, small, large, far, thin, Hopeless}
 
@@ -50,18 +51,14 @@ thin-low p q t threshold α limit a l h =
 -- ---- too small
 
 -- below the settings' least area
-pub least-own : (s : Scene) → Least s (s .«min_triangle_area»)
+pub least-own : (s : Scene) (r : Float) → Least s r (s .«min_triangle_area»)
 unfolding accepts
-least-own s = record { refuses = λ p q t r h. small-refused p q t r (s .«min_triangle_area») (s .«quality_threshold») (s .«max_edge_factor») h }
+least-own s r = record { refuses = λ p q t h. small-refused p q t r (s .«min_triangle_area») (s .«quality_threshold») (s .«max_edge_factor») h }
 
--- next to no area has the score 0
-flat-score : (p q t : Point3f) → T (lt (area p q t) tiny) → quality p q t .«quality_score» ≡ f32 0
-unfolding quality degenerate
-flat-score p q t h = rw (is-true (lt (area p q t) tiny) h)
-
-pub least-flat : (s : Scene) → lt (f32 0) (s .«quality_threshold») ≡ true → Least s tiny
+-- next to no area
+pub least-flat : (s : Scene) (r : Float) → T (lt (r ⊗ s .«max_edge_factor») (inf false)) → Least s r tiny
 unfolding accepts
-least-flat s g = record { refuses = λ p q t r h. low-refused (quality p q t) r (s .«min_triangle_area») (s .«quality_threshold») (s .«max_edge_factor») (rw (flat-score p q t h) g) }
+least-flat s r b = record { refuses = λ p q t h. tiny-refused r (s .«min_triangle_area») (s .«quality_threshold») (s .«max_edge_factor») b p q t h }
 
 -- ---- triangles of the cloud's points
 
@@ -75,12 +72,14 @@ far-apart {r = r} pts i j g h =
     rw k
 
 module _ (s : Scene) (pts : List Float) (r : Float) (i j k : ℕ) where
-  pub bounded-accepts : (v w : Point3f) → Unsigned v → Unsigned w → Bounds (difference (pointAt pts j) (pointAt pts i)) v → Bounds (difference (pointAt pts k) (pointAt pts i)) w
-      → lt (areaBound v w) (s .«min_triangle_area») ≡ true → accepts s r (qualityAt pts i j k) ≡ false
-  unfolding accepts qualityAt
-  bounded-accepts v w f g b c h =
-      small-refused (pointAt pts i) (pointAt pts j) (pointAt pts k) r (s .«min_triangle_area») (s .«quality_threshold») (s .«max_edge_factor»)
-      (area-bounded (pointAt pts i) (pointAt pts j) (pointAt pts k) v w (s .«min_triangle_area») f g b c (subst T (sym h) tt))
+  pub bounded-accepts : {m : Float} → Least s r m → (v w : Point3f) → Unsigned v → Unsigned w → Bounds (difference (pointAt pts j) (pointAt pts i)) v → Bounds (difference (pointAt pts k) (pointAt pts i)) w
+      → lt (areaBound v w) m ≡ true → accepts s r (qualityAt pts i j k) ≡ false
+  unfolding qualityAt
+  bounded-accepts {m} l v w f g b c h =
+      let p = pointAt pts i in
+      let q = pointAt pts j in
+      let t = pointAt pts k in
+      l .refuses p q t (area-bounded p q t v w m f g b c (subst T (sym h) tt))
 
   -- the points are close to each other
   module _ (fi : Finite (pointAt pts i)) (fj : Finite (pointAt pts j)) (fk : Finite (pointAt pts k)) (cij : isClose pts r i j ≡ true) (cik : isClose pts r i k ≡ true) (cjk : isClose pts r j k ≡ true) where
@@ -111,7 +110,7 @@ module _ (s : Scene) (pts : List Float) (r : Float) (i j k : ℕ) where
         let p = pointAt pts i in
         let q = pointAt pts j in
         let t = pointAt pts k in
-        g .leasts .refuses p q t r (area-limited p q t (g .least) (l .small) (g .smalls) h)
+        g .leasts .refuses p q t (area-limited p q t (g .least) (l .small) (g .smalls) h)
     refused-accepts {l} g (large h) =
         let p = pointAt pts i in
         let q = pointAt pts j in

@@ -14,14 +14,14 @@ use Rattle.decisions.specs.declared.Scene.{Scene}
 use Rattle.decisions.specs.Decisions.{reach, accepts}
 use Rattle.refusals.specs.declared.Limits.{Limits}
 
--- triangles with an area below m are refused at every radius
-pub record Least (s : Scene) (m : Float) : Type 0 where
-  pub refuses : (p q t : Point3f) (r : Float) → T (lt (area p q t) m) → accepts s r (quality p q t) ≡ false
+-- triangles with an area below m are refused at a radius
+pub record Least (s : Scene) (r m : Float) : Type 0 where
+  pub refuses : (p q t : Point3f) → T (lt (area p q t) m) → accepts s r (quality p q t) ≡ false
 
 -- limits are those of the settings at a radius: for the least area, the edge factor, twice the radius, and an aspect ratio up to which no score reaches the threshold
 pub record Limiting (s : Scene) (r : Float) (l : Limits) : Type 0 where
   pub least : Float
-  pub leasts : Least s least
+  pub leasts : Least s r least
   pub smalls : AreaLimit least (l .small)
   pub larges : LargeLimit r (s .«max_edge_factor») (l .large)
   pub fars : Limit (reach r) (l .far)

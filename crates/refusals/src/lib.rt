@@ -14,11 +14,11 @@ pub struct Limits {
     pub thin: f32,
 }
 
-// An area below which every triangle is refused: the least one, or what is next to none where that has no score and a score is asked for.
-fn least_area(s: Scene) -> f32
-    ensures { λ m. ⌜ Least s m ⌝ }
+// An area below which every triangle is refused at a radius: the least one, or what is next to none where edges are limited at all.
+fn least_area(s: Scene, radius: f32) -> f32
+    ensures { λ m. ⌜ Least s radius m ⌝ }
 {
-    if s.quality_threshold > 0.0 {
+    if radius * s.max_edge_factor < 1.0 / 0.0 {
         if s.min_triangle_area < 1e-10 {
             return 1e-10;
         }
@@ -30,7 +30,7 @@ fn least_area(s: Scene) -> f32
 pub fn limits_of(s: Scene, radius: f32) -> Limits
     ensures { λ l. ⌜ Limiting s radius l ⌝ }
 {
-    let small = area_bounds::area_limit(least_area(s));
+    let small = area_bounds::area_limit(least_area(s, radius));
     let large = area_bounds::large_limit(radius, s.max_edge_factor);
     let far = bounds::square_limit(radius * 2.0);
     let thin = thin::thin_limit(score_bounds::aspect_limit(s.quality_threshold));

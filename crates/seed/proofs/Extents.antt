@@ -1,7 +1,7 @@
 -- How far points reach on an axis, turn by turn of the loop (`reach-end`), and that a box too small holds no acceptable triangle (`box-flat`). Assumes nothing.
 use Prim.Native.Nat.{ℕ, _+_, _*_, _≤_, _<_}
 use mathlib.Core.Path.{_≡_, refl, sym, subst}
-use mathlib.Core.Bool.{Bool, true, false, not, cond}
+use mathlib.Core.Bool.{Bool, true, false, not, cond, _||_}
 use mathlib.Core.List.{List}
 use native.Mathlib.Omega.{arith}
 use lib.Dec.{T}
@@ -19,10 +19,14 @@ use Rattle.numbers.proofs.Minimum.{minimum-le}
 use Rattle.numbers.proofs.Maximum.{maximum-left, maximum-right, maximum-unsigned, minimum-finite, maximum-finite}
 use Rattle.vector.specs.Vector.{point, difference, Finite}
 use Rattle.vector.specs.declared.Point3f.{Point3f}
+use Rattle.quality.specs.Measures.{tiny}
+use Rattle.area_bounds.specs.AreaBound.{areaBound}
 use Rattle.area_bounds.proofs.AreaBound.{Bounds, Unsigned}
 use Rattle.points.specs.Points.{pointAt}
 use Rattle.decisions.specs.declared.Scene.{Scene}
-use Rattle.refusals.proofs.Refusals.{bounded-accepts}
+use Rattle.decisions.specs.Decisions.{accepts, qualityAt}
+use Rattle.refusals.specs.Refused.{Least}
+use Rattle.refusals.proofs.Refusals.{least-own, least-flat, bounded-accepts}
 use Rattle.seed.specs.Flat.{tooSmall, Flat, onAxis, Numbers, Extent}
 use Rattle.seed.proofs.Points.{below-next}
 
@@ -126,10 +130,17 @@ sides {pts} {n} {x} ex ey ez a b ha hb = record {
 
 pub box-flat : (s : Scene) {pts : List Float} {x y z : Float} {v : Point3f} → Extent pts 0 (s .n) x → Extent pts 1 (s .n) y → Extent pts 2 (s .n) z → v ≡ point x y z → tooSmall s v ≡ true → Flat s pts
 unfolding tooSmall
-box-flat s {pts} {x} {y} {z} {v} ex ey ez e h r i j k hi hj hk = bounded-accepts s pts r i j k v v signs signs (edge j i hj hi) (edge k i hk hi) h
+box-flat s {pts} {x} {y} {z} {v} ex ey ez e h r b i j k hi hj hk = go (lt (areaBound v v) (s .«min_triangle_area»)) refl h
   where
     signs : Unsigned v
     signs = subst (λ (p : Point3f). Unsigned p) (sym e) (record { unsigned-x = ex .sign; unsigned-y = ey .sign; unsigned-z = ez .sign })
 
     edge : (a b : ℕ) → a < s .n → b < s .n → Bounds (difference (pointAt pts a) (pointAt pts b)) v
     edge a b ha hb = subst (λ (p : Point3f). Bounds (difference (pointAt pts a) (pointAt pts b)) p) (sym e) (sides ex ey ez a b ha hb)
+
+    below : {m : Float} → Least s r m → lt (areaBound v v) m ≡ true → accepts s r (qualityAt pts i j k) ≡ false
+    below l t = bounded-accepts s pts r i j k l v v signs signs (edge j i hj hi) (edge k i hk hi) t
+
+    go : (t : Bool) → lt (areaBound v v) (s .«min_triangle_area») ≡ t → (t || lt (areaBound v v) tiny) ≡ true → accepts s r (qualityAt pts i j k) ≡ false
+    go true q a = below (least-own s r) q
+    go false q a = below (least-flat s r b) a

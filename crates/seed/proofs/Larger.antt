@@ -14,7 +14,7 @@ use Rattle.numbers.specs.Root.{root}
 use Rattle.numbers.proofs.OrderLaws.{le-left, le-right, le-lt-trans}
 use Rattle.numbers.proofs.ProductOrder.{mul-monotone, mul-monotone-finite, mul-number}
 use Rattle.quality.specs.declared.TriangleQuality.{TriangleQuality}
-use Rattle.triangle.specs.Quality.{acceptable}
+use Rattle.triangle.specs.Quality.{isZero, sourceAcceptable, acceptable}
 use Rattle.patch.specs.Search.{searching}
 use Rattle.decisions.specs.declared.Scene.{Scene}
 use Rattle.decisions.specs.Decisions.{reach, apart, isClose, accepts, qualityAt, completes, floatsOf}
@@ -58,13 +58,14 @@ module _ (s : Scene) (pts : List Float) (r t : Float) (h : T (le r t)) where
 
   module _ (fr : T (finite r)) (ft : T (finite t)) (ff : T (finite (s .«max_edge_factor»))) (zf : T (le (f32 0) (s .«max_edge_factor»))) where
     accepts-more : (q : TriangleQuality) → accepts s r q ≡ true → accepts s t q ≡ true
-    unfolding accepts acceptable
-    accepts-more q = both (lt (q .area) (s .«min_triangle_area»)) (lt (q .«quality_score») (s .«quality_threshold»)) (not-below (r ⊗ s .«max_edge_factor») (t ⊗ s .«max_edge_factor») (q .«edge_ratio» ⊗ root (q .area)) (mul-monotone-finite r t (s .«max_edge_factor») fr ft ff h zf))
+    unfolding accepts acceptable sourceAcceptable
+    accepts-more q = both (isZero (q .area)) (lt (q .area) (s .«min_triangle_area»)) (lt (q .«quality_score») (s .«quality_threshold»)) (not-below (r ⊗ s .«max_edge_factor») (t ⊗ s .«max_edge_factor») (q .«edge_ratio» ⊗ root (q .area)) (mul-monotone-finite r t (s .«max_edge_factor») fr ft ff h zf))
       where
-        both : {x y : Bool} (a b : Bool) → (x ≡ true → y ≡ true) → cond a false (cond b false x) ≡ true → cond a false (cond b false y) ≡ true
-        both true b f k = k
-        both false true f k = k
-        both false false f k = f k
+        both : {x y : Bool} (z a b : Bool) → (x ≡ true → y ≡ true) → cond z false (cond a false (cond b false x)) ≡ true → cond z false (cond a false (cond b false y)) ≡ true
+        both true a b f k = k
+        both false true b f k = k
+        both false false true f k = k
+        both false false false f k = f k
 
     completes-more : (i j k : ℕ) → completes s pts r i j k ≡ true → completes s pts t i j k ≡ true
     unfolding completes
@@ -114,7 +115,7 @@ nothing-yet s pts used nan z h = absurd h
 nothing-yet s pts used (inf t) z h = absurd h
 nothing-yet s pts used (fin t m e) z h = absurd h
 
-pub known-nothing : (s : Scene) (pts : List Float) (used : List ℕ) {flat : Bool} {r upto : Float} → Known flat r upto → (flat ≡ true → Flat s pts) → NothingTo s pts used upto → searching (floatsOf s pts) (s .n) .seedOf r used ≡ none
+pub known-nothing : (s : Scene) (pts : List Float) (used : List ℕ) {flat : Bool} {r upto : Float} → Known s flat r upto → (flat ≡ true → Flat s pts) → NothingTo s pts used upto → searching (floatsOf s pts) (s .n) .seedOf r used ≡ none
 unfolding searching
-known-nothing s pts used {r = r} (flat-cloud h) f n = flat-nothing s pts r used 1000 (f h)
+known-nothing s pts used {r = r} (flat-cloud h b) f n = flat-nothing s pts r used 1000 b (f h)
 known-nothing s pts used {r = r} (up-to z h) f n = n r z h

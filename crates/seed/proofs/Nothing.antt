@@ -7,11 +7,12 @@ use mathlib.Core.List.{List, [], _∷_}
 use mathlib.Core.Option.{Option, none}
 use native.Mathlib.Nat.{min-le-left}
 use native.Mathlib.Omega.{arith}
-use lib.Dec.{eqb}
+use lib.Dec.{T, eqb}
 use lib.ListN.{length, drop, getD, length-take}
 use lib.Seq.{getD-take, getD-drop}
-use lib.Ieee.{Float}
+use lib.Ieee.{Float, inf, lt}
 use borrow.Author.Tests.{eq-eqb, eqb-true}
+use Rattle.numbers.specs.Rounded.{_⊗_}
 use Rattle.vector.specs.Vector.{Finite}
 use Rattle.points.specs.Points.{pointAt}
 use Rattle.regions.specs.Regions.{neighborsAt}
@@ -108,8 +109,8 @@ hopeless-nothing s pts r used tries numbers h = first-nothing (floatsOf s pts) r
 
 -- ---- a cloud that is flat
 
-pub flat-nothing : (s : Scene) (pts : List Float) (r : Float) (used : List ℕ) (tries : ℕ) → Flat s pts → firstOf (floatsOf s pts) r used (upFrom 0 (s .n)) tries ≡ none
-flat-nothing s pts r used tries h = first-nothing (floatsOf s pts) r used (s .n) (λ i hi _. first-around s pts r used i (λ j hj _ k hk. third-refused s pts r used i j k (h r i j k hi hj hk))) (s .n) 0 tries (omega arith)
+pub flat-nothing : (s : Scene) (pts : List Float) (r : Float) (used : List ℕ) (tries : ℕ) → T (lt (r ⊗ s .«max_edge_factor») (inf false)) → Flat s pts → firstOf (floatsOf s pts) r used (upFrom 0 (s .n)) tries ≡ none
+flat-nothing s pts r used tries b h = first-nothing (floatsOf s pts) r used (s .n) (λ i hi _. first-around s pts r used i (λ j hj _ k hk. third-refused s pts r used i j k (h r b i j k hi hj hk))) (s .n) 0 tries (omega arith)
 
 -- ---- points no two of which make a seed
 

@@ -1,26 +1,27 @@
 -- A cloud that is flat, and how far its points reach on an axis. Definitions only.
 use Prim.Native.Nat.{ℕ, _+_, _*_, _<_}
 use mathlib.Core.Path.{_≡_}
-use mathlib.Core.Bool.{Bool, false}
+use mathlib.Core.Bool.{Bool, false, _||_}
 use mathlib.Core.List.{List}
 use lib.Dec.{T}
 use lib.ListN.{getD}
-use lib.Ieee.{Float, nan, lt}
+use lib.Ieee.{Float, nan, inf, lt}
 use lib.Ieee.Scale.{finite}
-use Rattle.numbers.specs.Rounded.{_⊖_}
+use Rattle.numbers.specs.Rounded.{_⊖_, _⊗_}
 use Rattle.numbers.specs.Bounds.{unsigned, Bounded}
 use Rattle.vector.specs.declared.Point3f.{Point3f}
+use Rattle.quality.specs.Measures.{tiny}
 use Rattle.area_bounds.specs.AreaBound.{areaBound}
 use Rattle.decisions.specs.declared.Scene.{Scene}
 use Rattle.decisions.specs.Decisions.{accepts, qualityAt}
 
--- two edges that v bounds make a triangle that is too small
+-- two edges that v bounds make a triangle that is too small, or next to none
 unfoldable pub tooSmall : Scene → Point3f → Bool
-tooSmall s v = lt (areaBound v v) (s .«min_triangle_area»)
+tooSmall s v = lt (areaBound v v) (s .«min_triangle_area») || lt (areaBound v v) tiny
 
--- no three points of the cloud make an acceptable triangle, at any radius
+-- no three points of the cloud make an acceptable triangle, at any radius at which edges are limited at all
 abbrev pub Flat : Scene → List Float → Type 0
-Flat s pts = (r : Float) (i j k : ℕ) → i < s .n → j < s .n → k < s .n → accepts s r (qualityAt pts i j k) ≡ false
+Flat s pts = (r : Float) → T (lt (r ⊗ s .«max_edge_factor») (inf false)) → (i j k : ℕ) → i < s .n → j < s .n → k < s .n → accepts s r (qualityAt pts i j k) ≡ false
 
 -- the coordinate of point k on an axis
 abbrev pub onAxis : List Float → ℕ → ℕ → Float

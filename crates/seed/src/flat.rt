@@ -25,11 +25,12 @@ fn extent_on(points: &[f32], axis: usize, n: usize) -> f32
     numbers::max(numbers::max(0.0, hi - lo), -(lo - hi))
 }
 
-// Whether two edges that v bounds make no triangle that is large enough.
+// Whether two edges that v bounds make no triangle that is large enough: one next to no area never is, where edges are limited.
 fn is_too_small(s: Scene, v: Point3f) -> bool
     ensures { λ r. ⌜ r ≡ tooSmall s v ⌝ }
 {
-    area_bounds::area_bound(v, v) < s.min_triangle_area
+    let most = area_bounds::area_bound(v, v);
+    most < s.min_triangle_area || most < 1e-10
 }
 
 // Whether no triangle in the box around the points is large enough.

@@ -52,12 +52,14 @@ pub fn find_seed_triangle(
     triples::find_from(s, points, w, radius, hash, limits)
 }
 
-// Whether a radius is known to have no seed: in a flat cloud each, else each up to another one.
-pub fn is_known(flat: bool, radius: f32, upto: f32) -> bool
-    ensures { λ r. ⌜ (r ≡ true → Known flat radius upto) ⌝ }
+// Whether a radius is known to have no seed: in a flat cloud each at which edges are limited, else each up to another one.
+pub fn is_known(s: Scene, flat: bool, radius: f32, upto: f32) -> bool
+    ensures { λ r. ⌜ (r ≡ true → Known s flat radius upto) ⌝ }
 {
     if flat {
-        return true;
+        if radius * s.max_edge_factor < 1.0 / 0.0 {
+            return true;
+        }
     }
     if radius <= upto {
         return 0.0 <= radius;

@@ -1,15 +1,16 @@
--- The quality of three triangles worked out from its definition, with the bits that the Rust gives.
+-- The quality of three triangles worked out from its definition, with the bits that the Rust gives, and which areas are turned down with no threshold.
 use mathlib.Core.Path.{_≡_, refl}
+use mathlib.Core.Bool.{Bool, true, false}
 use Prim.Native.Nat.{ℕ}
 use mathlib.Core.List.{List, [], _∷_}
-use lib.Ieee.{binary32, neg, add, sub, mul, div, lt, le, eq, isNan, ofBits, toBits}
+use lib.Ieee.{Float, binary32, neg, add, sub, mul, div, lt, le, eq, isNan, ofBits, toBits}
 use Rattle.numbers.specs.Rounded.{f32}
 use Rattle.numbers.specs.Root.{root}
 use Rattle.numbers.specs.Order.{minimum, maximum, clamp}
 use Rattle.numbers.specs.Acos.{R, abs, cleared, acosMiddle, acosLow, acosHigh, acosInside, acos}
 use Rattle.vector.specs.Vector.{point, difference, magnitudeSquared, magnitude, cross, squared, distance}
 use Rattle.quality.specs.Measures.{radiusOf, angle, least, largest, aspectRatio, edgeRatio, score, measures, degenerate}
-use Rattle.triangle.specs.Quality.{area, circumradius, quality}
+use Rattle.triangle.specs.Quality.{area, circumradius, quality, sourceAcceptable, acceptable}
 use Rattle.vector.specs.declared.Point3f.{Point3f}
 use Rattle.quality.specs.declared.TriangleQuality.{TriangleQuality}
 
@@ -38,3 +39,21 @@ quality-values :
     ≡ 0 ∷ 0 ∷ 0x40490fdb ∷ 0 ∷ 0x7f800000 ∷ 0 ∷ [])
 unfolding area radiusOf circumradius angle least largest aspectRatio edgeRatio score measures degenerate quality difference magnitudeSquared magnitude cross squared distance minimum maximum clamp R abs cleared acosMiddle acosLow acosHigh acosInside acos root neg add sub mul div lt le eq isNan ofBits toBits
 quality-values = (refl, refl, refl)
+
+-- whether a triangle next to no area is taken at radius 1 with no threshold, as published and now
+abbrev taken : Float → ℕ → Bool × Bool
+taken factor bits = (
+  sourceAcceptable (degenerate (f32 bits)) (f32 0x3f800000) (f32 0) (f32 0) factor,
+  acceptable (degenerate (f32 bits)) (f32 0x3f800000) (f32 0) (f32 0) factor,
+)
+
+-- edge factor 3: the areas 0, -0, not a number and the least above 0; edge factor infinity: the areas 0 and the least above 0
+areas-turned-down :
+    (taken (f32 0x40400000) 0 ≡ (true, false))
+    × (taken (f32 0x40400000) 0x80000000 ≡ (true, false))
+    × (taken (f32 0x40400000) 0x7fc00000 ≡ (true, true))
+    × (taken (f32 0x40400000) 1 ≡ (false, false))
+    × (taken (f32 0x7f800000) 0 ≡ (true, false))
+    × (taken (f32 0x7f800000) 1 ≡ (true, true))
+unfolding sourceAcceptable acceptable degenerate root neg add sub mul div lt le eq isNan ofBits toBits
+areas-turned-down = (refl, refl, refl, refl, refl, refl)

@@ -44,6 +44,9 @@ pub fn is_triangle_acceptable(
 ) -> bool
     ensures { λ r. ⌜ r ≡ acceptable quality radius «min_triangle_area» «quality_threshold» «max_edge_factor» ⌝ }
 {
+    if quality.area == 0.0 {
+        return false;
+    }
     if quality.area < min_triangle_area {
         return false;
     }

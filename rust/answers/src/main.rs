@@ -6,7 +6,8 @@ mod single;
 use std::io::Write;
 
 const HEAD: &str = "\
-# Answers of the published Rust, made by `cargo run --release --offline -p answers` in rust/, from fixed seeds.
+# Answers of the published Rust, made by `cargo run --release --offline -p answers` in rust/, from fixed seeds;
+# where it takes a triangle whose computed area is zero, those of the Rust with the line that turns it down.
 # One case a line; a line that begins with # is a comment. Words are decimal u32, parted by one space, and a float is
 # its bit pattern; a not-a-number among the results is always 2143289344. The first word of a line is how many words
 # follow (at most 4,096), the second its kind:

@@ -29,7 +29,7 @@ fn triangles(out: &mut String) {
         let drawn = (radius(random, quality.area, quality.edge_ratio), limits(random));
         let passed = just_passed(quality.area, quality.edge_ratio, quality.quality_score);
         for (radius, limits) in if case % 10 == 0 { vec![drawn, passed] } else { vec![drawn] } {
-            let passes = oracle::acceptable(&quality, radius, &limits);
+            let passes = oracle::acceptable_amended(&quality, radius, &limits);
             let given = [radius, limits.min_triangle_area, limits.quality_threshold, limits.max_edge_factor].map(bits);
             out.push_str(&line(6, &[&measures(&quality)[..], &given, &[u32::from(passes)]].concat()));
         }

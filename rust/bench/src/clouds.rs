@@ -9,6 +9,9 @@ use std::time::Instant;
 
 const UNLIMITED: u64 = u64::MAX;
 
+/// The answer where no triangle was found.
+const NO_TRIANGLE: u32 = 8;
+
 /// A cloud, its settings, and how many times faster than the Rust the port is to be.
 struct Race {
     name: String,
@@ -146,6 +149,33 @@ fn races(random: &mut Random) -> Vec<Race> {
     races
 }
 
+/// Clouds without area, with thresholds of zero: the port alone has to refuse them in under 20 ms. The Rust lays a triangle
+/// without area there, and the amended one looks at each three points.
+fn without_area() -> bool {
+    let plain = Settings { quality_threshold: 0.0, min_triangle_area: 0.0, ..Settings::at_radius(1.0) };
+    let wide = Settings { radius: 1_000.0, ..plain };
+    let line: Vec<f32> = (0..4_096u16).flat_map(|i| [f32::from(i), 0.0, 0.0]).collect();
+    let mut reached = true;
+    for (name, points, settings) in [
+        ("equal points, thresholds 0", vec![0.25; 3 * 4_096], plain),
+        ("line on an axis, thresholds 0", line.clone(), plain),
+        ("the same, radius 1,000", line, wide),
+    ] {
+        let (normals, mut lent) = (vec![0.0; points.len()], lend(points.len() / 3));
+        let mut best = f64::INFINITY;
+        for _ in 0..10 {
+            let start = clock::now();
+            let patch = port::reconstruct(&points, &normals, &settings, &mut lent);
+            best = best.min((clock::now() - start).as_secs_f64() * 1e3);
+            assert_eq!((patch.answer, patch.faces), (NO_TRIANGLE, 0));
+        }
+        let short = if best < 20.0 { "" } else { "  short" };
+        println!("{name:<40} {:>6} {:>6} {:>10} {best:>10.3} {:>8} below 20{short}", points.len() / 3, 0, "", "");
+        reached &= short.is_empty();
+    }
+    reached
+}
+
 fn estimates() -> bool {
     let mut reached = true;
     for (size, reach) in [(WALLS[0], 2.0), (WALLS[2], 5.0), (WALLS[3], 10.0)] {
@@ -203,6 +233,7 @@ pub fn bench() -> bool {
         reached &= line(&name, points.len() / 3, &faces.to_string(), times, reach);
         walls.push(times.port);
     }
+    reached &= without_area();
     reached &= slow::rows(None, None);
     reached &= estimates();
     let growth = walls[3] / walls[1];

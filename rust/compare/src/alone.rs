@@ -4,8 +4,29 @@ use crate::report::Report;
 use crate::sides::{Mirror, Number};
 use crate::{clouds, lengths, numbers, triangles};
 use expect::{Found, BUDGET};
-use generate::case;
+use generate::{case, Case};
 use std::cell::Cell;
+
+/// What the amended Rust lays: no face without area, and what the published one lays just where that lays none.
+fn check_amended(report: &mut Report, case: &Case, found: &Found, differs: bool, context: impl Fn() -> String) {
+    if matches!(found, Found::Early(_)) {
+        return;
+    }
+    let faces = |run: oracle::Result<oracle::Laid>| run.map(|laid| laid.faces).unwrap_or_default();
+    let lay = |amended: bool| {
+        let run = if amended { oracle::reconstruct_amended } else { oracle::reconstruct };
+        run(&case.points, &case.normals, &case.settings, BUDGET).map(faces)
+    };
+    let (Ok(published), Ok(amended)) = (lay(false), lay(true)) else {
+        return;
+    };
+    if differs {
+        report.note(clouds::AMENDED);
+    }
+    report.check("faces as published", !differs, published == amended, &context);
+    let laid = oracle::Laid { faces: amended, ..Default::default() };
+    report.check("a face without area", false, oracle::lays_no_area(&case.points, &laid), &context);
+}
 
 /// On the multi-radius path looks are 3F and pivots 2F + S; on the plain path seeds, looks and pivots are 0.
 pub fn oracle(count: u64, seed: u64, first: u64) -> Report {
@@ -13,7 +34,11 @@ pub fn oracle(count: u64, seed: u64, first: u64) -> Report {
     for number in first..first + count {
         let case = case(seed, number);
         let work = [case.words, case.floats];
-        let laid = match expect::find(&case.points, &case.normals, &case.settings, work, BUDGET) {
+        let found = expect::find_amended(&case.points, &case.normals, &case.settings, work, BUDGET);
+        if let Ok((found, amended)) = &found {
+            check_amended(&mut report, &case, found, *amended, || format!("case {number} of seed {seed}"));
+        }
+        let laid = match found.map(|(found, _)| found) {
             Ok(Found::Laid(laid)) => laid,
             Ok(Found::NoTriangle) => {
                 report.note("no triangle");

@@ -98,21 +98,25 @@ pub fn estimate(side: &dyn Side, count: u64, seed: u64, first: u64) -> Report {
     report
 }
 
+/// The note of clouds on which the published code lays a face without area, so that the amended one is the reference.
+pub const AMENDED: &str = "held against the amended Rust";
+
 /// What the reconstruction gives on one case.
 struct Called {
     answer: u32,
+    amended: bool,
     unlike: Option<String>,
 }
 
 fn call(side: &dyn Side, case: &Case) -> Result<Called, Skip> {
     let work = [case.words, case.floats];
-    let found = expect::find(&case.points, &case.normals, &case.settings, work, BUDGET)?;
+    let (found, amended) = expect::find_amended(&case.points, &case.normals, &case.settings, work, BUDGET)?;
     let mut expected_lent = lend(case.face_words(found.need()), case.words, case.floats);
     let mut lent = expected_lent.clone();
     let expected = found.deliver(&mut expected_lent);
     let got = side.reconstruct(case, &mut lent);
     let unlike = unlike_patch(&expected, &got).or_else(|| unlike_slices(&expected_lent, &lent));
-    Ok(Called { answer: expected.answer, unlike })
+    Ok(Called { answer: expected.answer, amended, unlike })
 }
 
 /// What differs on one case.
@@ -122,6 +126,10 @@ pub fn unlike_call(side: &dyn Side, case: &Case) -> Result<Option<String>, Skip>
 
 pub fn reconstruct(side: &dyn Side, count: u64, seed: u64, first: u64) -> Report {
     let mut report = Report::new("reconstruct");
+    if first == 0 {
+        // One of the fixed clouds is of that kind.
+        report.want(AMENDED);
+    }
     for number in first..first + count {
         let case = case(seed, number);
         let called = match call(side, &case) {
@@ -133,6 +141,9 @@ pub fn reconstruct(side: &dyn Side, count: u64, seed: u64, first: u64) -> Report
         };
         report.compared += 1;
         note_answer(&mut report, called.answer);
+        if called.amended {
+            report.note(AMENDED);
+        }
         if let Some(text) = called.unlike {
             report.differs(|| format!("{text}\n{}", describe(&case, number, seed)));
         }

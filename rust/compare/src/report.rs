@@ -12,6 +12,7 @@ pub struct Report {
     /// Results of a not-a-number on both sides, whose payload the language leaves open.
     pub not_numbers: u64,
     notes: Vec<(String, u64)>,
+    wanted: Vec<String>,
     first: Option<String>,
 }
 
@@ -93,7 +94,12 @@ impl Report {
         }
     }
 
-    /// Prints the line; true if nothing differs and something was compared.
+    /// A note that has to come up.
+    pub fn want(&mut self, what: &str) {
+        self.wanted.push(what.to_string());
+    }
+
+    /// Prints the line; true if nothing differs, something was compared and every wanted note came up.
     pub fn finish(mut self) -> bool {
         self.notes.sort();
         let mut line = format!("{}: {} compared, {} different", self.name, self.compared, self.different);
@@ -111,6 +117,10 @@ impl Report {
         if let Some(first) = &self.first {
             println!("first difference: {first}");
         }
-        self.different == 0 && self.compared > 0
+        let missing = self.wanted.iter().find(|name| self.notes.iter().all(|(noted, _)| noted != *name));
+        if let Some(name) = missing {
+            println!("never came up: {name}");
+        }
+        self.different == 0 && self.compared > 0 && missing.is_none()
     }
 }

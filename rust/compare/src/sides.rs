@@ -187,7 +187,7 @@ impl Side for Mirror {
     }
 
     fn acceptable(&self, quality: Quality, radius: f32, limits: &Limits) -> bool {
-        oracle::acceptable(&published(&quality), radius, limits) ^ self.wrong("acceptable")
+        oracle::acceptable_amended(&published(&quality), radius, limits) ^ self.wrong("acceptable")
     }
 
     fn estimate(&self, case: &Case, lent: &mut Lent) -> Estimate {

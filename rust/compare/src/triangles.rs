@@ -1,5 +1,6 @@
 //! Circumradius, quality and acceptance of single triangles.
 
+use crate::clouds::AMENDED;
 use crate::report::Report;
 use crate::sides::{measures, published, Side};
 use generate::numbers::{just_passed, limits, number, radius, triangle};
@@ -16,6 +17,7 @@ fn judged(random: &mut Random, quality: Quality) -> Quality {
 
 pub fn triangles(side: &dyn Side, count: u64, seed: u64, first: u64) -> Report {
     let mut report = Report::new("triangles");
+    report.want(AMENDED);
     for case in first..first + count {
         let random = &mut Random::new(seed, case);
         let corners = triangle(random, case);
@@ -37,9 +39,12 @@ pub fn triangles(side: &dyn Side, count: u64, seed: u64, first: u64) -> Report {
         let drawn = (radius(random, quality.area, quality.edge_ratio), limits(random));
         let passed = just_passed(quality.area, quality.edge_ratio, quality.quality_score);
         for (radius, limits) in [drawn, passed] {
-            let expected = oracle::acceptable(&published(&quality), radius, &limits);
+            let expected = oracle::acceptable_amended(&published(&quality), radius, &limits);
             let got = side.acceptable(quality, radius, &limits);
             report.note(if expected { "acceptable" } else { "unacceptable" });
+            if expected != oracle::acceptable(&published(&quality), radius, &limits) {
+                report.note(AMENDED);
+            }
             let context = || format!("case {case} of seed {seed}, {quality:?} at {radius:?}, {limits:?}");
             report.check("acceptable", expected, got, context);
         }

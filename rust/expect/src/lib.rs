@@ -70,6 +70,15 @@ pub enum Found {
     Laid(Laid),
 }
 
+/// What a run of the Rust comes to, once the checks have passed.
+fn laid_or_none(run: oracle::Result<Laid>) -> Found {
+    match run {
+        Ok(laid) => Found::Laid(laid),
+        Err(Error::Algorithm(_)) => Found::NoTriangle,
+        Err(error) => panic!("the checks let through what the published code refuses: {error:?}"),
+    }
+}
+
 /// Checks 1 to 8.
 pub fn find(
     points: &[f32],
@@ -78,13 +87,27 @@ pub fn find(
     work: [usize; 2],
     budget: u64,
 ) -> Result<Found, Skip> {
+    find_amended(points, normals, settings, work, budget).map(|(found, _)| found)
+}
+
+/// The same, and whether the published code lays a face of computed area zero: then the amended one is asked instead.
+pub fn find_amended(
+    points: &[f32],
+    normals: &[f32],
+    settings: &Settings,
+    work: [usize; 2],
+    budget: u64,
+) -> Result<(Found, bool), Skip> {
     if let Err(refusal) = checks::reconstruct(points, normals, settings, work) {
-        return Ok(Found::Early(refusal));
+        return Ok((Found::Early(refusal), false));
     }
-    match oracle::reconstruct(points, normals, settings, budget)? {
-        Ok(laid) => Ok(Found::Laid(laid)),
-        Err(Error::Algorithm(_)) => Ok(Found::NoTriangle),
-        Err(error) => panic!("the checks let through what the published code refuses: {error:?}"),
+    let published = oracle::reconstruct(points, normals, settings, budget)?;
+    match &published {
+        Ok(laid) if oracle::lays_no_area(points, laid) => {
+            let amended = oracle::reconstruct_amended(points, normals, settings, budget)?;
+            Ok((laid_or_none(amended), true))
+        }
+        _ => Ok((laid_or_none(published), false)),
     }
 }
 

@@ -372,6 +372,7 @@ impl BallPivotingReconstructor {
 
     /// Check if triangle passes quality thresholds
     fn is_triangle_acceptable(&self, quality: &TriangleQuality, radius: f32) -> bool {
+        if tally::amended() && quality.area == 0.0 { return false; } // yarrowbleat: added
         if quality.area < self.config.min_triangle_area {
             return false;
         }

@@ -47,6 +47,23 @@ pub fn reconstruct(
     Ok(mesh.map(|mesh| Laid { faces: mesh.faces, radii: reconstructor.radii().to_vec(), tally }))
 }
 
+/// The same with the amended acceptance, which turns down an area of exactly zero.
+pub fn reconstruct_amended(
+    points: &[f32],
+    normals: &[f32],
+    settings: &Settings,
+    budget: u64,
+) -> std::result::Result<Result<Laid>, Skip> {
+    tally::amending(|| reconstruct(points, normals, settings, budget))
+}
+
+/// Whether a face has a computed area of exactly zero, in its own order.
+pub fn lays_no_area(points: &[f32], laid: &Laid) -> bool {
+    let points = points_of(points);
+    let measurer = BallPivotingReconstructor::new(BallPivotingConfig::default());
+    laid.faces.iter().any(|face| measurer.quality(&face.map(|i| points[i])).area == 0.0)
+}
+
 /// `estimate_optimal_radius`.
 pub fn estimate(points: &[f32], percentile: f32, budget: u64) -> std::result::Result<Result<f32>, Skip> {
     let cloud = PointCloud { points: points_of(points) };
@@ -77,6 +94,11 @@ pub fn acceptable(quality: &TriangleQuality, radius: f32, limits: &Limits) -> bo
         ..Default::default()
     };
     BallPivotingReconstructor::new(config).acceptable(quality, radius)
+}
+
+/// The same, amended.
+pub fn acceptable_amended(quality: &TriangleQuality, radius: f32, limits: &Limits) -> bool {
+    tally::amending(|| acceptable(quality, radius, limits))
 }
 
 /// The settings that the acceptance test reads.

@@ -28,6 +28,7 @@ pub enum Skip {
 thread_local! {
     static TALLY: Cell<Tally> = const { Cell::new(Tally { seeds: 0, looks: 0, pivots: 0 }) };
     static LEFT: Cell<u64> = const { Cell::new(0) };
+    static AMENDED: Cell<bool> = const { Cell::new(false) };
 }
 
 fn update(change: impl FnOnce(&mut Tally)) {
@@ -46,6 +47,19 @@ pub(crate) fn look() {
 
 pub(crate) fn pivot() {
     update(|t| t.pivots += 1);
+}
+
+/// Whether an area of exactly zero is turned down.
+pub(crate) fn amended() -> bool {
+    AMENDED.get()
+}
+
+/// Calls the published code with the amended acceptance.
+pub(crate) fn amending<T>(call: impl FnOnce() -> T) -> T {
+    AMENDED.set(true);
+    let value = call();
+    AMENDED.set(false);
+    value
 }
 
 /// Takes `count` steps off the budget, before they are made.

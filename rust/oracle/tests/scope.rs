@@ -1,8 +1,12 @@
 //! The scope's listing and cases of known outcome, on the oracle alone.
 
-use oracle::{estimate, reconstruct, Error, Laid, Settings};
+use oracle::{estimate, lays_no_area, reconstruct, reconstruct_amended, Error, Laid, Settings};
 
 const BUDGET: u64 = 1_000_000;
+
+fn lay_amended(points: &[f32], settings: &Settings) -> oracle::Result<Laid> {
+    reconstruct_amended(points, &vec![1.0; points.len()], settings, BUDGET).expect("within the limits")
+}
 
 fn lay(points: &[f32], settings: &Settings) -> oracle::Result<Laid> {
     reconstruct(points, &vec![1.0; points.len()], settings, BUDGET).expect("within the limits")
@@ -12,13 +16,14 @@ fn counts(laid: &Laid) -> [u32; 3] {
     [laid.tally.seeds, laid.tally.looks, laid.tally.pivots]
 }
 
-fn equal_points(min_triangle_area: f32) -> oracle::Result<Laid> {
+/// Radius 1, no further radii, no score asked for.
+fn with_area(min_triangle_area: f32) -> Settings {
     let mut settings = Settings::at_radius(1.0);
     settings.set_additional(&[]);
     settings.set_percentiles(&[]);
     settings.quality_threshold = 0.0;
     settings.min_triangle_area = min_triangle_area;
-    lay(&[0.0; 9], &settings)
+    settings
 }
 
 #[test]
@@ -36,10 +41,22 @@ fn two_points_lay_nothing() {
 
 #[test]
 fn three_equal_points() {
-    let laid = equal_points(0.0).unwrap();
+    let laid = lay(&[0.0; 9], &with_area(0.0)).unwrap();
     assert_eq!(laid.faces, [[0, 1, 2]]);
     assert_eq!(counts(&laid), [1, 3, 3]);
-    assert!(matches!(equal_points(1e-8), Err(Error::Algorithm(_))));
+    assert!(lays_no_area(&[0.0; 9], &laid));
+    assert!(matches!(lay_amended(&[0.0; 9], &with_area(0.0)), Err(Error::Algorithm(_))));
+    assert!(matches!(lay(&[0.0; 9], &with_area(1e-8)), Err(Error::Algorithm(_))));
+}
+
+#[test]
+fn two_equal_points_and_two_others() {
+    let points = [0.0, 0.0, 0.0, 0.0, 0.0, 0.0, 1.0, 0.0, 0.0, 0.0, 1.0, 0.0];
+    assert_eq!(lay(&points, &with_area(0.0)).unwrap().faces, [[0, 1, 2]]);
+    let amended = lay_amended(&points, &with_area(0.0)).unwrap();
+    assert_eq!(amended.faces, [[0, 2, 3], [2, 3, 1]]);
+    assert!(!lays_no_area(&points, &amended));
+    assert_eq!(lay(&points, &with_area(0.0)).unwrap().faces, [[0, 1, 2]]);
 }
 
 #[test]

@@ -19,7 +19,7 @@ pub struct BallPivotingConfig {
     pub quality_threshold: f32,
     /// The longest edge of a face, in radii, 0 to 1,000,000.
     pub max_edge_factor: f32,
-    /// The least area of a face, 0 to 1,000,000.
+    /// The least area of a face, 0 to 1,000,000. A face without area is never laid, at 0 too.
     pub min_triangle_area: f32,
     /// Whether a point's neighbours are those in the cells around it; all points where not.
     pub use_spatial_index: bool,
