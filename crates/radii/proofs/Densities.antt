@@ -69,7 +69,7 @@ valued-positive (fin true m e) k h v = absurd (true≢false (v .0))
 valued-positive (fin false zero e) k h v = absurd (omega (arith, v .1, mul-pos h (down-pos e)))
 valued-positive (fin false (suc m) e) k h v = lt→ltb 0 (suc m) (omega arith)
 
-average-number : (ds : List Float) → 1 ≤ length ds → length ds ≤ 10 → All Good ds → Number (average ds)
+pub average-number : (ds : List Float) → 1 ≤ length ds → length ds ≤ 10 → All Good ds → Number (average ds)
 unfolding average ofInt
 average-number ds some few a =
     div-number (total (f32 0) ds) (whole (length ds)) (valued-positive (whole (length ds)) (length ds) some (round-whole binary32 false (length ds) (omega arith)))

@@ -1,0 +1,4 @@
+pub mod Reaching
+pub mod Deciding
+pub mod Growing
+pub mod Rising
