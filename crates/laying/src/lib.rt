@@ -14,7 +14,7 @@ ghost use Rattle.patch.specs.Invariant.{Inv, Rest};
 ghost use mathlib.Core.Option.{none};
 ghost use Rattle.nearby.specs.Ready.{usedIn};
 ghost use Rattle.frontier.specs.Work.{Holds};
-ghost use Rattle.laying.specs.Laying.{Ground, rulesOf, pivotOver, looked, Lays, Opened, Pivoting, Standing, Resting, Without};
+ghost use Rattle.laying.specs.Laying.{Ground, Footing, rulesOf, pivotOver, looked, Lays, Opened, Pivoting, Standing, Resting, Without};
 ghost use Rattle.spatial_hash.specs.Near.{Linked};
 ghost use mathlib.Core.List.{[], _∷_};
 
@@ -158,7 +158,8 @@ pub fn advanced_ball_pivoting(
     hash: Hash,
 ) -> Counts
     requires { ⌜ Ground s hash (now points) (now w) × (count ≤ 17) ⌝ }
-    ensures { λ r. ⌜ Holds (s .n) (now (faces .entry)) (patch (rulesOf s (now (points .entry))) heapOf (s .n) (take count radii)) r (now (w .exit)) (now (faces .exit)) ⌝ }
+    ensures { λ r. ⌜ Holds (s .n) (now (faces .entry)) (patch (rulesOf s (now (points .entry))) heapOf (s .n) (take count radii)) r (now (w .exit)) (now (faces .exit))
+        × Footing s hash (now (points .entry)) (now (w .exit)) ⌝ }
 {
     let flat = seed::flat::is_flat(s, points);
     let largest = last_of(radii, count);

@@ -5,3 +5,4 @@ pub mod RootBounds
 pub mod QuotientBounds
 pub mod Judged
 pub mod Listing
+pub mod Reached

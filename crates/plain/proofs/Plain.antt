@@ -16,11 +16,11 @@ use Rattle.patch.specs.Lay.{Face, face}
 use Rattle.plain.specs.Plain.{candidate, candidates, sound, valid, facesOver, facesAt, facesOf, plainFaces}
 
 -- ---- the numbers from k up to n
-up-more : (k n : ℕ) → k < n → upFrom k (n - k) ≡ k ∷ upFrom (k + 1) (n - (k + 1))
+pub up-more : (k n : ℕ) → k < n → upFrom k (n - k) ≡ k ∷ upFrom (k + 1) (n - (k + 1))
 unfolding upFrom
 up-more k n h = let e : n - k ≡ suc (n - (k + 1)) = omega arith in ap (upFrom k) e
 
-up-none : (k n : ℕ) → n ≤ k → upFrom k (n - k) ≡ []
+pub up-none : (k n : ℕ) → n ≤ k → upFrom k (n - k) ≡ []
 unfolding upFrom
 up-none k n h = let e : n - k ≡ 0 = omega arith in ap (upFrom k) e
 

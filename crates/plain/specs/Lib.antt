@@ -3,3 +3,4 @@ pub mod Plain
 pub mod Laid
 pub mod Bounds
 pub mod Listed
+pub mod Reached

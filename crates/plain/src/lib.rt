@@ -3,7 +3,7 @@ mod near;
 mod soundness;
 
 ghost use mathlib.Core.Path.{_≡_};
-ghost use mathlib.Core.Bool.{cond};
+ghost use mathlib.Core.Bool.{cond, _||_};
 ghost use mathlib.Core.List.{[], _∷_};
 ghost use Prim.Native.Nat.{_+_, _/_, _≤_, _<_};
 ghost use lib.ListN.{length, take, drop, getD};
@@ -15,6 +15,7 @@ ghost use Rattle.patch.specs.View.{written};
 ghost use Rattle.plain.specs.Plain.{candidates, valid, facesOver, facesAt, plainFaces};
 ghost use Rattle.plain.specs.Laid.{Ready, Lays};
 ghost use Rattle.plain.specs.Listed.{Limited, Listed};
+ghost use Rattle.plain.specs.Reached.{paired, plainReached};
 
 const MAX_TRIANGLES: usize = 10000;
 
@@ -28,6 +29,12 @@ pub struct Limits {
     pub beyond: f32,
     pub low: f32,
     pub high: f32,
+}
+
+// The count of faces, and whether three points came to the cross product test; the latter is told only while fewer than the limit are laid.
+pub struct Triangulated {
+    pub faces: usize,
+    pub judged: bool,
 }
 
 fn limits_of(radius: f32) -> Limits
@@ -162,35 +169,57 @@ fn faces_at(
     lengths: &mut [f32],
     faces: &mut [u32],
     count: usize,
-) -> usize
+) -> Triangulated
     requires { ⌜ Ready (now points) i × Limited radius limits × (i ≤ length (now w)) × (i ≤ length (now lengths)) × (count ≤ 10000) ⌝ }
-    ensures { λ r. ⌜ Lays (facesAt (now (points .entry)) radius i (candidates (now (points .entry)) radius i (upFrom 0 i))) (now (faces .entry)) count (now (faces .exit)) r ⌝ }
+    ensures { λ r. ⌜ Lays (facesAt (now (points .entry)) radius i (candidates (now (points .entry)) radius i (upFrom 0 i))) (now (faces .entry)) count (now (faces .exit)) (r .faces)
+        × (count < 10000 → r .judged ≡ paired (now (points .entry)) radius i) ⌝ }
 {
     if MAX_TRIANGLES <= count {
-        return count;
+        return Triangulated {
+            faces: count,
+            judged: true,
+        };
     }
     let listed = near::list_candidates(points, radius, limits, i, w, lengths);
-    faces_among(points, radius, limits, i, w, lengths, listed, faces, count)
+    let laid = faces_among(points, radius, limits, i, w, lengths, listed, faces, count);
+    Triangulated {
+        faces: laid,
+        judged: 1 < listed,
+    }
 }
 
-// Faces go to the front of the slice as far as they fit; all of them, up to the limit, are counted. The front of the two work slices is used.
+fn is_either(a: bool, b: bool) -> bool
+    ensures { λ r. ⌜ r ≡ (a || b) ⌝ }
+{
+    a || b
+}
+
+// Faces go to the front of the slice as far as they fit; all of them, up to the limit, are counted. Where there are none, it is told whether any triple was judged.
+// The front of the two work slices is used.
 pub fn simple_triangulate(
     points: &[f32],
     radius: f32,
     w: &mut [u32],
     lengths: &mut [f32],
     faces: &mut [u32],
-) -> usize
+) -> Triangulated
     requires { ⌜ (length (now points) / 3 ≤ 4096) × (length (now points) / 3 ≤ length (now w)) × (length (now points) / 3 ≤ length (now lengths)) ⌝ }
-    ensures { λ r. ⌜ (r ≡ length (plainFaces (now (points .entry)) radius)) × (now (faces .exit) ≡ written (plainFaces (now (points .entry)) radius) (now (faces .entry))) ⌝ }
+    ensures { λ r. ⌜ (r .faces ≡ length (plainFaces (now (points .entry)) radius)) × (now (faces .exit) ≡ written (plainFaces (now (points .entry)) radius) (now (faces .entry)))
+        × (r .faces ≡ 0 → r .judged ≡ plainReached (now (points .entry)) radius) ⌝ }
 {
     let n = points.len() / 3;
     let limits = limits_of(radius);
     let mut laid: usize = 0;
+    let mut judged = false;
     let mut i: usize = 0;
     while i < n {
-        laid = faces_at(points, radius, limits, i, w, lengths, faces, laid);
+        let step = faces_at(points, radius, limits, i, w, lengths, faces, laid);
+        laid = step.faces;
+        judged = is_either(judged, step.judged);
         i += 1;
     }
-    laid
+    Triangulated {
+        faces: laid,
+        judged: judged,
+    }
 }

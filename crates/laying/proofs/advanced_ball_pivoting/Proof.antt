@@ -76,7 +76,7 @@ same-length-2 : tie.Need-same-length-2 Inv-loop μ-loop
 same-length-2 c = c .before .loop .inv .0 .words ∙ c .before .before .before .before .begin .kept .0
 
 returns : tie.Need-returns Inv-loop μ-loop
-returns c = cover-end (c .before .loop .inv .0) (c .loop-test .left)
+returns c = (cover-end (c .before .loop .inv .0) (c .loop-test .left), c .before .loop .inv .0 .ground)
 
 pub advanced-ball-pivoting-spec : {M : Type 1} → statement M
 advanced-ball-pivoting-spec = tie.close (tie.spec Inv-loop μ-loop is-flat-requires last-of-requires begin-requires loop-holds mul-radius array-read-radius is-known-requires lay-one-requires known-to-requires add-i loop-less loop-again same-length same-length-2 returns)
