@@ -21,20 +21,23 @@
  *    5  a setting is outside its bounds; detail: the first such setting's number, see YbBallPivotingConfig
  *    6  the percentile is not within 0 to 1
  *    7  a work slice is too short
- *    8  no triangle was found
+ *    8  no triangle was found: there are fewer than three points
  *    9  the faces found don't fit the face slice
  *   10  a line of the cloud file is malformed; detail: the first such line, from 1
  *   11  all lines are well formed, but the points don't fit the slices
  *   12  the bytes are no STL file: fewer than 84, or not 84 + 50 times the count that they name
  *   13  the output slice is too short
  *   14  a face or a number names a point that isn't there
+ *   15  no triangle was found: of the triples that were tried none lay close enough together to be judged, at any radius
+ *   16  no triangle was found: all triples that were judged were turned down
  *   19  the tally is full: it has 100,000 patches
  *   20  a season's patch has no points, more than 4,096, more covered than scanned or more than 10,000 faces
  *   21  figures are asked of an empty tally
  *   24  no season can have left the tally, see YbTally
  *
- * The checks are made in this order, but for a tally's and an STL file's, whose calls name theirs; a not-a-number is
- * within no bounds. At a refusal every other field is 0. A tally's answers have no detail.
+ * The checks are made in this order, but that 15 and 16 stand right behind 8, and but for a tally's and an STL file's,
+ * whose calls name theirs; a not-a-number is within no bounds. At a refusal every other field is 0. A tally's answers
+ * have no detail.
  *
  * A slice that stays as it was, or the part of one, does so bit for bit, but for one thing: what is proved treats all
  * not-a-numbers as one, so of a float slice that held one it says that it holds one still, not with which payload.
@@ -67,13 +70,15 @@ typedef enum {
     YB_SETTING = 5,
     YB_PERCENTILE = 6,
     YB_WORK = 7,
-    YB_NO_TRIANGLE = 8,
+    YB_TOO_FEW_POINTS = 8,
     YB_FACES = 9,
     YB_LINE = 10,
     YB_ROOM = 11,
     YB_BAD_STL = 12,
     YB_OUTPUT_TOO_SHORT = 13,
     YB_NO_SUCH_POINT = 14,
+    YB_NONE_CLOSE = 15,
+    YB_ALL_TURNED_DOWN = 16,
     YB_TALLY_FULL = 19,
     YB_SEASON_PATCH = 20,
     YB_TALLY_EMPTY = 21,
@@ -91,13 +96,15 @@ static inline const char *yb_answer_text(uint32_t answer) {
     case YB_SETTING: return "a setting is outside its bounds";
     case YB_PERCENTILE: return "the percentile is not within 0 to 1";
     case YB_WORK: return "a work slice is too short";
-    case YB_NO_TRIANGLE: return "no triangle was found";
+    case YB_TOO_FEW_POINTS: return "no triangle was found: there are fewer than three points";
     case YB_FACES: return "the faces found don't fit the face slice";
     case YB_LINE: return "a line of the cloud file is malformed";
     case YB_ROOM: return "the file's points don't fit the slices";
     case YB_BAD_STL: return "the bytes are no STL file, or not as many as it says";
     case YB_OUTPUT_TOO_SHORT: return "the output slice is too short";
     case YB_NO_SUCH_POINT: return "a face or a number names a point that isn't there";
+    case YB_NONE_CLOSE: return "no triangle was found: no three points lie close enough together";
+    case YB_ALL_TURNED_DOWN: return "no triangle was found: all that were judged were turned down";
     case YB_TALLY_FULL: return "the tally has 100,000 patches";
     case YB_SEASON_PATCH: return "the patch's counts can't be entered";
     case YB_TALLY_EMPTY: return "the tally is empty";
@@ -304,10 +311,10 @@ YbEstimate yb_estimate_optimal_radius(const float *points, size_t points_len, fl
  * faces: gets three point numbers a face, from 0; YB_FACE_NUMBERS entries are always enough.
  * words, floats: work slices of at least YB_WORDS(n) = 24n + 64 and YB_FLOATS(n) = 4n + 64 entries for n points.
  *
- * Answers 0 to 5 and 7 to 9. What it leaves:
+ * Answers 0 to 5, 7 to 9, 15 and 16. What it leaves:
  *   0             faces at the front of the face slice, the rest of it as it was; both work slices zeros
  *   1 to 5 and 7  all three slices as they were
- *   8             the face slice as it was; both work slices zeros
+ *   8, 15 and 16  the face slice as it was; both work slices zeros
  *   9             all three slices zeros (9 means more faces than faces_len / 3)
  *
  * Time: a bell wall of 4,096 points takes some 3 ms. Where no three points make a seed, and neither edges nor area

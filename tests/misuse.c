@@ -244,7 +244,7 @@ static void marks(void) {
 static void library(void) {
     CHECK(yb_check_layout() && yb_version() == YB_VERSION && yb_layout() == YB_LAYOUT);
     for (uint32_t answer = 0; answer < 40; answer++) CHECK(*yb_answer_text(answer) != 0);
-    CHECK(strcmp(yb_answer_text(YB_NO_TRIANGLE), "no triangle was found") == 0);
+    CHECK(strcmp(yb_answer_text(YB_ALL_TURNED_DOWN), "no triangle was found: all that were judged were turned down") == 0);
     CHECK(strcmp(yb_answer_text(25), yb_answer_text(UINT32_MAX)) == 0);
 }
 

@@ -17,34 +17,36 @@ use Rattle.patch.specs.Lay.{Face, State, seedsOf}
 use Rattle.patch.specs.Shape.{touches}
 use Rattle.patch.specs.Fair.{Shaped}
 use Rattle.patch.specs.View.{flat, written}
-use Rattle.ball_pivoting.specs.Reconstruct.{Found, pointCount, found, radiiOf, laidOf, laid, reconstructed, delivered, accepted, refused, facesAfter}
+use Rattle.ball_pivoting.specs.Reconstruct.{Found, pointCount, found, radiiOf, laidOf, laid, reason, reconstructed, delivered, accepted, refused, facesAfter}
 use Rattle.ball_pivoting.specs.Outcome.{facesIn, Returned}
+use Rattle.ball_pivoting.specs.Unsplit.{NoTriangle}
 use Rattle.ball_pivoting.specs.declared.Patch.{Patch}
+use Rattle.ball_pivoting.proofs.Reasons.{not-zero, reason-is}
 use Rattle.ball_pivoting.proofs.Found.{found-laid, shape-of, touched-inside}
 
 -- ---- what is found comes back, and fits
-module _ (f : Found) (rs : List Float) (room : ℕ) where
+module _ (why : ℕ) (named : NoTriangle why) (f : Found) (rs : List Float) (room : ℕ) where
   by-fit : (over : Bool) → ltb (room / 3) (length (f .faces)) ≡ over → (p : Patch) → p ≡ cond over (refused 9 0) (accepted f rs) → p .answer ≡ 0
       → (p ≡ accepted f rs) × (3 * length (f .faces) ≤ room)
   unfolding refused
   by-fit true e p is good = absurd (let k : 9 ≡ 0 = sym (ap (λ (q : Patch). q .answer) is) ∙ good in omega arith)
   by-fit false e p is good = (is, let fit = ltb-false (room / 3) (length (f .faces)) e in omega arith)
 
-  by-some : (none : Bool) → (p : Patch) → p ≡ cond none (refused 8 0) (cond (ltb (room / 3) (length (f .faces))) (refused 9 0) (accepted f rs)) → p .answer ≡ 0
+  by-some : (none : Bool) → (p : Patch) → p ≡ cond none (refused why 0) (cond (ltb (room / 3) (length (f .faces))) (refused 9 0) (accepted f rs)) → p .answer ≡ 0
       → (p ≡ accepted f rs) × (3 * length (f .faces) ≤ room)
   unfolding refused
-  by-some true p is good = absurd (let k : 8 ≡ 0 = sym (ap (λ (q : Patch). q .answer) is) ∙ good in omega arith)
+  by-some true p is good = absurd (not-zero why named (sym (ap (λ (q : Patch). q .answer) is) ∙ good))
   by-some false p is good = by-fit (ltb (room / 3) (length (f .faces))) refl p is good
 
-  pub delivered-fits : (p : Patch) → p ≡ delivered f rs room → p .answer ≡ 0 → (p ≡ accepted f rs) × (3 * length (f .faces) ≤ room)
+  pub delivered-fits : (p : Patch) → p ≡ delivered why f rs room → p .answer ≡ 0 → (p ≡ accepted f rs) × (3 * length (f .faces) ≤ room)
   unfolding delivered
   delivered-fits p is good = by-some (eqb (length (f .faces)) 0) p is good
 
 module _ (points normals : List Float) (c : BallPivotingConfig) (room words floats : ℕ) where
-  by-checks : (passed : Bool) (r : Refusal) → eqb (r .answer) 0 ≡ passed → (p : Patch) → p ≡ cond passed (delivered (found c points) (radiiOf c points) room) (refused (r .answer) (r .detail)) → p .answer ≡ 0
+  by-checks : (passed : Bool) (r : Refusal) → eqb (r .answer) 0 ≡ passed → (p : Patch) → p ≡ cond passed (delivered (reason c points) (found c points) (radiiOf c points) room) (refused (r .answer) (r .detail)) → p .answer ≡ 0
       → (r .answer ≡ 0) × ((p ≡ accepted (found c points) (radiiOf c points)) × (3 * length (found c points .faces) ≤ room))
   unfolding refused
-  by-checks true r e p is good = (eqb-true (r .answer) 0 e, delivered-fits (found c points) (radiiOf c points) room p is good)
+  by-checks true r e p is good = (eqb-true (r .answer) 0 e, delivered-fits (reason c points) (reason-is c points) (found c points) (radiiOf c points) room p is good)
   by-checks false r e p is good = absurd (eqb-false (r .answer) 0 e (sym (ap (λ (q : Patch). q .answer) is) ∙ good))
 
   pub answered-zero : (p : Patch) → p ≡ reconstructed points normals c room words floats → p .answer ≡ 0
@@ -78,11 +80,11 @@ returned n s fs F S looks pivots e m k l v h within = record {
 }
 
 module _ (c : BallPivotingConfig) (points : List Float) (faces : List ℕ) (p : Patch) (faces' : List ℕ) where
-  pub claimed : p ≡ delivered (found c points) (radiiOf c points) (length faces) → faces' ≡ facesAfter p (found c points) faces → p .answer ≡ 0 → 0 < p .«radii_count»
+  pub claimed : p ≡ delivered (reason c points) (found c points) (radiiOf c points) (length faces) → faces' ≡ facesAfter p (found c points) faces → p .answer ≡ 0 → 0 < p .«radii_count»
       → Returned (pointCount points) (laidOf c points) (facesIn (p .faces) faces') (p .faces) (p .seeds) (p .looks) (p .pivots)
   unfolding accepted facesAfter laid
   claimed is after good some =
-      let d = delivered-fits (found c points) (radiiOf c points) (length faces) p is good in
+      let d = delivered-fits (reason c points) (reason-is c points) (found c points) (radiiOf c points) (length faces) p is good in
       let there : radiiOf c points ≡ [] → ⊥ = λ q. omega (arith, some, ap (λ (q : Patch). q .«radii_count») (d .0), ap length q) in
       let f : found c points ≡ laid (laidOf c points) = found-laid c points (radiiOf c points) refl there in
       let number : p .faces ≡ length (laidOf c points .faces) = ap (λ (q : Patch). q .faces) (d .0) ∙ ap (λ (g : Found). length (g .faces)) f in

@@ -13,9 +13,11 @@ use Rattle.patch.proofs.View.{written-none, length-written}
 use Rattle.radii.specs.Steps.{Listed}
 use Rattle.radii.specs.declared.Radii.{Radii}
 use Rattle.ball_pivoting.specs.Reconstruct.{Found, slots, refused, accepted, delivered, facesAfter}
+use Rattle.ball_pivoting.specs.Unsplit.{NoTriangle}
 use Rattle.ball_pivoting.specs.Parts.{Finds}
 use Rattle.ball_pivoting.specs.declared.Finding.{Finding}
 use Rattle.ball_pivoting.specs.declared.Patch.{Patch}
+use Rattle.ball_pivoting.proofs.Reasons.{not-zero, not-nine}
 
 no-faces : (fs : List Face) (slice : List ℕ) → length fs ≡ 0 → written fs slice ≡ slice
 no-faces [] slice e = written-none slice
@@ -30,18 +32,19 @@ listed-slots rs r h =
     ∙ ap (λ (l : List Float). rs ++ l) (h .zeros)
     ∙ ap (λ (k : ℕ). rs ++ replicate (17 - k) (f32 0)) (h .counted)
 
-module _ (f : Found) (rs : List Float) (lent slice : List ℕ) (r : Finding) (h : Finds f rs lent r slice) where
+module _ (why : ℕ) (f : Found) (rs : List Float) (lent slice : List ℕ) (r : Finding) (named : NoTriangle why) (h : Finds why f rs lent r slice) where
   room : length slice ≡ length lent
   room = ap length (h .written-in) ∙ length-written (f .faces) lent
 
-  pub delivers-none : (p : Patch) → p ≡ refused 8 0 → r .faces ≡ 0 → (p ≡ delivered f rs (length lent)) × (slice ≡ facesAfter p f lent)
+  pub delivers-none : (p : Patch) → p ≡ refused (r .reason) 0 → r .faces ≡ 0 → (p ≡ delivered why f rs (length lent)) × (slice ≡ facesAfter p f lent)
   unfolding delivered facesAfter refused
   delivers-none p e nothing =
       let none : length (f .faces) ≡ 0 = sym (h .faces) ∙ nothing in
-      (rw (eq-eqb (length (f .faces)) 0 none) e, rw e (h .written-in ∙ no-faces (f .faces) lent none))
+      let is : p ≡ refused why 0 = e ∙ ap (λ (x : ℕ). refused x 0) (h .reason nothing) in
+      (rw (eq-eqb (length (f .faces)) 0 none) is, rw (is, ne-eqb why 0 (not-zero why named), ne-eqb why 9 (not-nine why named)) (h .written-in ∙ no-faces (f .faces) lent none))
 
   pub delivers-over : (p : Patch) (back : List ℕ) → p ≡ refused 9 0 → back ≡ replicate (length slice) 0 → (r .faces ≡ 0 → ⊥) → length slice / 3 < r .faces
-      → (p ≡ delivered f rs (length lent)) × (back ≡ facesAfter p f lent)
+      → (p ≡ delivered why f rs (length lent)) × (back ≡ facesAfter p f lent)
   unfolding delivered facesAfter refused
   delivers-over p back e cleared some over =
       let more : length lent / 3 < length (f .faces) = subst (λ (k : ℕ). k / 3 < length (f .faces)) room (subst (λ (k : ℕ). length slice / 3 < k) (h .faces) over) in
@@ -57,7 +60,7 @@ module _ (f : Found) (rs : List Float) (lent slice : List ℕ) (r : Finding) (h 
     pivots = r .pivots;
     «radii_count» = r .radii .count;
     radii = r .radii .list;
-  } → (p ≡ delivered f rs (length lent)) × (slice ≡ facesAfter p f lent)
+  } → (p ≡ delivered why f rs (length lent)) × (slice ≡ facesAfter p f lent)
   unfolding delivered facesAfter accepted
   delivers-faces some fit p e =
       let fits : length (f .faces) ≤ length lent / 3 = subst (λ (k : ℕ). length (f .faces) ≤ k / 3) room (subst (λ (k : ℕ). k ≤ length slice / 3) (h .faces) fit) in

@@ -1,13 +1,14 @@
 -- What the two paths find is what the definition finds. Assumes nothing.
-use Prim.Native.Nat.{ℕ, _*_, _≤_, _<_}
+use Prim.Native.Nat.{ℕ, _-_, _*_, _≤_, _<_}
 use mathlib.Core.Path.{_≡_, refl, sym, ap, _∙_, subst}
 use mathlib.Core.Bool.{true}
 use mathlib.Core.List.{List, [], _∷_}
 use native.Mathlib.Omega.{arith}
-use lib.ListN.{length, take}
+use lib.ListN.{length, take, getD}
 use lib.Seq.{take-take}
-use lib.Ieee.{Float}
+use lib.Ieee.{Float, nan}
 use Rattle.settings.specs.declared.BallPivotingConfig.{BallPivotingConfig}
+use Rattle.settings.specs.Settled.{Settled}
 use Rattle.grid.specs.Index.{Indexed}
 use Rattle.grid.proofs.Near.{indexed-kept}
 use Rattle.lists.specs.Lists.{any}
@@ -32,10 +33,13 @@ use Rattle.radii.specs.Steps as radii
 use Rattle.radii.specs.declared.Radii.{Radii}
 use Rattle.laying.specs.Laying.{Ground, rulesOf}
 use Rattle.laying.proofs.Claim.{laid-shape, laid-few}
+use Rattle.plain.specs.Reached.{plainReached}
 use Rattle.plain.proofs.Plain.{plain-most}
-use Rattle.ball_pivoting.specs.Reconstruct.{pointCount, sceneOf, radiiOf, laidOf, laid, plainly, foundAt, found}
+use Rattle.reaching.specs.Reaching.{reaches}
+use Rattle.ball_pivoting.specs.Reconstruct.{pointCount, sceneOf, radiiOf, laidOf, laid, plainly, Found, foundAt, found, reasonBy, reason}
 use Rattle.ball_pivoting.specs.Parts.{Sized, Ready, Finds}
 use Rattle.ball_pivoting.specs.declared.Finding.{Finding}
+use Rattle.ball_pivoting.proofs.Judged.{reason-laid, reason-plain}
 
 -- the patch of the multi-radius path has the shape, for every cloud and all settings
 pub shape-of : (c : BallPivotingConfig) (pts : List Float) → Shaped (laidOf c pts)
@@ -118,17 +122,20 @@ found-most c pts few = go (radiiOf c pts)
 
 module _ (c : BallPivotingConfig) (pts : List Float) (s : Scene) (g : Radii) (lent : List ℕ) (r : Finding) (slice : List ℕ) (e : s ≡ sceneOf c pts) where
   -- by way of the scene's own index and number of points
-  pub finds-plain : radii.Listed (radiiOf c pts) g → g .count ≡ 0 → Finds (plainly c pts) [] lent r slice → Finds (found c pts) (radiiOf c pts) lent r slice
+  pub finds-plain : radii.Listed (radiiOf c pts) g → g .count ≡ 0 → Finds (reasonBy (pointCount pts) (plainReached pts (c .radius))) (plainly c pts) [] lent r slice → Finds (reason c pts) (found c pts) (radiiOf c pts) lent r slice
   finds-plain h none f =
       let no : radiiOf c pts ≡ [] = no-radii (radiiOf c pts) g h none in
-      rw (found-plain c pts no, no) f
+      subst (λ (why : ℕ). Finds why (found c pts) (radiiOf c pts) lent r slice) (reason-plain c pts no) (rw (found-plain c pts no, no) f)
 
-  pub finds-laid : radii.Listed (radiiOf c pts) g → (g .count ≡ 0 → ⊥)
-      → Finds (laid (patch (rulesOf s pts) heapOf (s .n) (take (g .count) (g .list)))) (take (g .count) (g .list)) lent r slice
-      → Finds (found c pts) (radiiOf c pts) lent r slice
+  pub finds-laid : Settled c → {w : List ℕ} → Sized pts w → radii.Listed (radiiOf c pts) g → (g .count ≡ 0 → ⊥)
+      → Finds (reasonBy (s .n) (reaches (floatsOf s pts) (s .n) (getD (g .list) (g .count - 1) nan))) (laid (patch (rulesOf s pts) heapOf (s .n) (take (g .count) (g .list)))) (take (g .count) (g .list)) lent r slice
+      → Finds (reason c pts) (found c pts) (radiiOf c pts) lent r slice
   unfolding laidOf sceneOf
-  finds-laid h some f =
+  finds-laid settled z h some f =
+      let why = reason c pts in
       let there : radiiOf c pts ≡ [] → ⊥ = λ q. some (h .counted ∙ ap length q) in
-      let one : Finds (laid (patch (rulesOf s pts) heapOf (s .n) (radiiOf c pts))) (radiiOf c pts) lent r slice = subst (λ (xs : List Float). Finds (laid (patch (rulesOf s pts) heapOf (s .n) xs)) xs lent r slice) (h .kept) f in
-      let two : Finds (laid (laidOf c pts)) (radiiOf c pts) lent r slice = subst (λ (t : Scene). Finds (laid (patch (rulesOf t pts) heapOf (t .n) (radiiOf c pts))) (radiiOf c pts) lent r slice) e one in
-      rw (found-laid c pts (radiiOf c pts) refl there) two
+      let told : Finds why (laid (patch (rulesOf s pts) heapOf (s .n) (take (g .count) (g .list)))) (take (g .count) (g .list)) lent r slice =
+      subst (λ (y : ℕ). Finds y (laid (patch (rulesOf s pts) heapOf (s .n) (take (g .count) (g .list)))) (take (g .count) (g .list)) lent r slice) (reason-laid c pts settled (z .some) (z .numbers) s g e h some) f in
+      let one : Finds why (laid (patch (rulesOf s pts) heapOf (s .n) (radiiOf c pts))) (radiiOf c pts) lent r slice = subst (λ (xs : List Float). Finds why (laid (patch (rulesOf s pts) heapOf (s .n) xs)) xs lent r slice) (h .kept) told in
+      let two : Finds why (laid (laidOf c pts)) (radiiOf c pts) lent r slice = subst (λ (t : Scene). Finds why (laid (patch (rulesOf t pts) heapOf (t .n) (radiiOf c pts))) (radiiOf c pts) lent r slice) e one in
+      subst (λ (x : Found). Finds why x (radiiOf c pts) lent r slice) (sym (found-laid c pts (radiiOf c pts) refl there)) two

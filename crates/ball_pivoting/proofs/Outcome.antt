@@ -1,6 +1,7 @@
 -- The main call's whole result, turned away or taken. Assumes nothing.
 use Prim.Native.Nat.{ℕ, _+_, _*_, _/_, _≤_, _<_}
 use mathlib.Core.Path.{_≡_, refl, sym, ap, _∙_, subst}
+use mathlib.Core.Logic.{_≢_}
 use mathlib.Core.Bool.{Bool, true, false, cond}
 use mathlib.Core.List.{List, [], _∷_}
 use native.Mathlib.Omega.{arith}
@@ -16,11 +17,13 @@ use Rattle.domain.specs.declared.Refusal.{Refusal}
 use Rattle.domain.proofs.Accepted.{cloud-finite, accepted-reconstruct}
 use Rattle.points.specs.Points.{pointAt}
 use Rattle.vector.specs.Vector.{Finite}
-use Rattle.ball_pivoting.specs.Reconstruct.{Found, radiiOf, found, refused, accepted, delivered, reconstructed, facesAfter}
+use Rattle.ball_pivoting.specs.Reconstruct.{Found, radiiOf, found, reason, refused, accepted, delivered, reconstructed, facesAfter}
 use Rattle.clearing.specs.Swept.{swept}
 use Rattle.ball_pivoting.specs.Outcome.{Reconstructs}
+use Rattle.ball_pivoting.specs.Unsplit.{NoTriangle}
 use Rattle.ball_pivoting.specs.Parts.{Ready}
 use Rattle.ball_pivoting.specs.declared.Patch.{Patch}
+use Rattle.ball_pivoting.proofs.Reasons.{not-nine, reason-is}
 use Rattle.ball_pivoting.proofs.Answered.{claimed}
 use Rattle.ball_pivoting.proofs.Found.{found-most}
 
@@ -62,6 +65,7 @@ ready-of c points normals words floats e =
       floats-enough = a .room .floats-enough;
       percentiles = a .settled .percentiles .few;
       additional = a .settled .additional .few;
+      settled = a .settled;
     }
 
 -- ---- the result
@@ -81,7 +85,7 @@ module _ (points normals : List Float) (c : BallPivotingConfig) (faces words : L
       }
 
   pub taken : (p : Patch) (faces' words' : List ℕ) (floats' : List Float) → r .answer ≡ 0
-      → (p ≡ delivered (found c points) (radiiOf c points) (length faces)) × (faces' ≡ facesAfter p (found c points) faces)
+      → (p ≡ delivered (reason c points) (found c points) (radiiOf c points) (length faces)) × (faces' ≡ facesAfter p (found c points) faces)
       → words' ≡ replicate (length words) 0 → floats' ≡ replicate (length floats) (f32 0)
       → Reconstructs points normals c faces words floats p faces' words' floats'
   unfolding reconstructed swept
@@ -95,21 +99,21 @@ module _ (points normals : List Float) (c : BallPivotingConfig) (faces words : L
 
 -- a face slice of 30,000 is long enough: the answer is never 9
 module _ (points normals : List Float) (c : BallPivotingConfig) (words floats : ℕ) where
-  fitting : (f : Found) (rs : List Float) (room : ℕ) → length (f .faces) ≤ 10000 → 30000 ≤ room → delivered f rs room .answer ≤ 8
+  fitting : (why : ℕ) → NoTriangle why → (f : Found) (rs : List Float) (room : ℕ) → length (f .faces) ≤ 10000 → 30000 ≤ room → delivered why f rs room .answer ≢ 9
   unfolding delivered refused accepted
-  fitting f rs room most long = rw (le-ltb (room / 3) (length (f .faces)) (omega arith)) (go (eqb (length (f .faces)) 0))
+  fitting why named f rs room most long = rw (le-ltb (room / 3) (length (f .faces)) (omega arith)) (go (eqb (length (f .faces)) 0))
     where
-      go : (none : Bool) → cond none (refused 8 0) (accepted f rs) .answer ≤ 8
-      go true = omega arith
-      go false = omega arith
+      go : (none : Bool) → cond none (refused why 0) (accepted f rs) .answer ≢ 9
+      go true = not-nine why named
+      go false = λ e. omega arith
 
-  pub never-nine : (room : ℕ) → 30000 ≤ room → reconstructed points normals c room words floats .answer ≤ 8
+  pub never-nine : (room : ℕ) → 30000 ≤ room → reconstructed points normals c room words floats .answer ≢ 9
   unfolding reconstructed refused
   never-nine room long = go (eqb (reconstructRefusal points normals c words floats .answer) 0) refl
     where
       go : (passed : Bool) → eqb (reconstructRefusal points normals c words floats .answer) 0 ≡ passed
-          → cond passed (delivered (found c points) (radiiOf c points) room) (refused (reconstructRefusal points normals c words floats .answer) (reconstructRefusal points normals c words floats .detail)) .answer ≤ 8
+          → cond passed (delivered (reason c points) (found c points) (radiiOf c points) room) (refused (reconstructRefusal points normals c words floats .answer) (reconstructRefusal points normals c words floats .detail)) .answer ≢ 9
       go true e =
           let a = accepted-reconstruct points normals c words floats (eqb-true _ 0 e) in
-          fitting (found c points) (radiiOf c points) room (found-most c points (a .cloud .few)) long
-      go false e = omega (arith, reconstruct-early points normals c words floats)
+          fitting (reason c points) (reason-is c points) (found c points) (radiiOf c points) room (found-most c points (a .cloud .few)) long
+      go false e = λ q. omega (arith, reconstruct-early points normals c words floats)

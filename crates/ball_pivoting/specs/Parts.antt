@@ -7,9 +7,11 @@ use lib.Ieee.{Float}
 use Rattle.points.specs.Points.{pointAt}
 use Rattle.vector.specs.Vector.{Finite}
 use Rattle.settings.specs.declared.BallPivotingConfig.{BallPivotingConfig}
+use Rattle.settings.specs.Settled.{Settled}
 use Rattle.patch.specs.View.{written}
 use Rattle.radii.specs.Steps.{Listed}
 use Rattle.ball_pivoting.specs.Reconstruct.{Found, pointCount, delivered, facesAfter}
+use Rattle.ball_pivoting.specs.Unsplit.{NoTriangle}
 use Rattle.ball_pivoting.specs.declared.Finding.{Finding}
 use Rattle.ball_pivoting.specs.declared.Patch.{Patch}
 
@@ -27,18 +29,20 @@ pub record Ready (c : BallPivotingConfig) (points : List Float) (words : List �
   pub floats-enough : 4 * pointCount points + 64 ≤ length floats
   pub percentiles : c .«percentile_count» ≤ 8
   pub additional : c .«additional_count» ≤ 8
+  pub settled : Settled c
 
--- the code's account r of what is found, f, with the radii rs; the faces that fit stand in front of the slice that was lent
-pub record Finds (f : Found) (rs : List Float) (lent : List ℕ) (r : Finding) (slice : List ℕ) : Type 0 where
+-- the code's account r of what is found, f, with the radii rs, and `why` if it is nothing; the faces that fit stand in front of the slice that was lent
+pub record Finds (why : ℕ) (f : Found) (rs : List Float) (lent : List ℕ) (r : Finding) (slice : List ℕ) : Type 0 where
   pub faces : r .faces ≡ length (f .faces)
   pub few : r .faces ≤ 10000
   pub seeds : r .seeds ≡ f .seeds
   pub looks : r .looks ≡ f .looks
   pub pivots : r .pivots ≡ f .pivots
   pub radii : Listed rs (r .radii)
+  pub reason : r .faces ≡ 0 → r .reason ≡ why
   pub written-in : slice ≡ written (f .faces) lent
 
 -- whatever was found comes back as the definition says
 abbrev pub Delivers : Finding → List ℕ → Patch → List ℕ → Type 0
-Delivers found slice p back = (f : Found) (rs : List Float) (lent : List ℕ) → Finds f rs lent found slice
-    → (p ≡ delivered f rs (length lent)) × (back ≡ facesAfter p f lent)
+Delivers found slice p back = (why : ℕ) (f : Found) (rs : List Float) (lent : List ℕ) → NoTriangle why → Finds why f rs lent found slice
+    → (p ≡ delivered why f rs (length lent)) × (back ≡ facesAfter p f lent)

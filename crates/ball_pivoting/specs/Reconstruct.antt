@@ -1,7 +1,7 @@
 -- The whole call, `reconstruct_with_normals`: the checks, the radii, the laying or the plain path, and what
 -- comes back. Definitions only.
 use Prim.Native.Nat.{ℕ, _+_, _-_, _/_}
-use mathlib.Core.Bool.{cond}
+use mathlib.Core.Bool.{Bool, cond}
 use mathlib.Core.List.{List, [], _∷_, _++_}
 use lib.Dec.{eqb, ltb}
 use lib.ListN.{length, replicate}
@@ -20,6 +20,9 @@ use Rattle.patch.specs.View.{written}
 use Rattle.decisions.specs.Decisions.{floatsOf}
 use Rattle.decisions.specs.declared.Scene.{Scene}
 use Rattle.plain.specs.Plain.{plainFaces}
+use Rattle.plain.specs.Reached.{plainReached}
+use Rattle.lists.specs.Lists.{any}
+use Rattle.reaching.specs.Reaching.{reaches}
 use Rattle.ball_pivoting.specs.declared.Patch.{Patch}
 
 -- the number of points
@@ -68,6 +71,24 @@ foundAt c pts (r ∷ rs) = laid (laidOf c pts)
 unfoldable pub found : BallPivotingConfig → List Float → Found
 found c pts = foundAt c pts (radiiOf c pts)
 
+-- ---- why no triangle was found
+
+-- some triple that the search tries at a radius comes to the quality test, as no point is used
+unfoldable pub reachedAt : BallPivotingConfig → List Float → Float → Bool
+reachedAt c pts r = reaches (floatsOf (sceneOf c pts) pts) (pointCount pts) r
+
+-- some triple was judged, given the radii: at one of them, or on the plain path
+unfoldable pub judgedAt : BallPivotingConfig → List Float → List Float → Bool
+judgedAt c pts [] = plainReached pts (c .radius)
+judgedAt c pts (r ∷ rs) = any (reachedAt c pts) (r ∷ rs)
+
+-- 8 fewer than three points, 15 no triple close enough to be judged, 16 all that were judged turned down
+unfoldable pub reasonBy : ℕ → Bool → ℕ
+reasonBy n judged = cond (ltb n 3) 8 (cond judged 16 15)
+
+unfoldable pub reason : BallPivotingConfig → List Float → ℕ
+reason c pts = reasonBy (pointCount pts) (judgedAt c pts (radiiOf c pts))
+
 -- ---- what comes back
 
 -- 17 slots, of which the radii fill the first
@@ -99,10 +120,10 @@ accepted f rs = record {
   radii = slots rs;
 }
 
--- 8 where no triangle was found, 9 where there are more than a third of the face slice's length, rounded down
-unfoldable pub delivered : Found → List Float → ℕ → Patch
-delivered f rs room =
-    cond (eqb (length (f .faces)) 0) (refused noTriangle 0)
+-- `why` where no triangle was found, 9 where there are more than a third of the face slice's length, rounded down
+unfoldable pub delivered : ℕ → Found → List Float → ℕ → Patch
+delivered why f rs room =
+    cond (eqb (length (f .faces)) 0) (refused why 0)
     (cond (ltb (room / 3) (length (f .faces))) (refused shortFaces 0) (accepted f rs))
 
 -- the answer, detail, counts and radii of the call; `room`, `words` and `floats` are the lengths of the face
@@ -110,7 +131,7 @@ delivered f rs room =
 unfoldable pub reconstructed : List Float → List Float → BallPivotingConfig → ℕ → ℕ → ℕ → Patch
 reconstructed pts normals c room words floats =
     let refusal = reconstructRefusal pts normals c words floats in
-    cond (eqb (refusal .answer) 0) (delivered (found c pts) (radiiOf c pts) room)
+    cond (eqb (refusal .answer) 0) (delivered (reason c pts) (found c pts) (radiiOf c pts) room)
     (refused (refusal .answer) (refusal .detail))
 
 -- the face slice at the end: the faces in front, or all zeros at 9, or untouched

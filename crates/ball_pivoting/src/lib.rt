@@ -22,12 +22,13 @@ pub struct Patch {
     pub radii: [f32; 17],
 }
 
-// What was found, before it is known whether it fits.
+// What was found, before it is known whether it fits; and what is answered if it is nothing.
 pub struct Finding {
     pub faces: usize,
     pub seeds: u32,
     pub looks: u32,
     pub pivots: u32,
+    pub reason: u32,
     pub radii: Radii,
 }
 
@@ -53,7 +54,7 @@ fn deliver(found: Finding, faces: &mut [u32]) -> Patch
 {
     let count = found.faces;
     if count == 0 {
-        return refuse(answers::NO_TRIANGLE, 0);
+        return refuse(found.reason, 0);
     }
     if faces.len() / 3 < count {
         clearing::clear_u32(faces);

@@ -6,13 +6,18 @@ use settings::BallPivotingConfig;
 use spatial_hash::Hash;
 ghost use mathlib.Core.Path.{_≡_};
 ghost use mathlib.Core.List.{[]};
-ghost use Prim.Native.Nat.{_/_, _≤_};
-ghost use lib.ListN.{length, take};
+ghost use Prim.Native.Nat.{_-_, _/_, _≤_, _<_};
+ghost use lib.ListN.{length, take, getD};
+ghost use lib.Ieee.{nan};
 ghost use Rattle.patch.specs.Lay.{patch};
 ghost use Rattle.patch.specs.Frontier.{heapOf};
 ghost use Rattle.laying.specs.Laying.{Ground, rulesOf};
 ghost use Rattle.radii.specs.Steps.{Listed};
-ghost use Rattle.ball_pivoting.specs.Reconstruct.{sceneOf, radiiOf, laid, plainly, found};
+ghost use Rattle.decisions.specs.Decisions.{floatsOf};
+ghost use Rattle.plain.specs.Reached.{plainReached};
+ghost use Rattle.reaching.specs.Reaching.{reaches};
+ghost use Rattle.judged.specs.Triples.{Fresh};
+ghost use Rattle.ball_pivoting.specs.Reconstruct.{pointCount, sceneOf, radiiOf, laid, plainly, found, reasonBy, reason};
 ghost use Rattle.ball_pivoting.specs.Parts.{Sized, Ready, Finds};
 
 // The cloud's points, indexed and hashed.
@@ -45,6 +50,38 @@ fn index_points(points: &[f32], settings: BallPivotingConfig, words: &mut [u32])
     }
 }
 
+// The answer where no triangle was found: there are too few points, or no triple was judged, or all that were judged were turned down.
+fn reason_by(n: usize, judged: bool) -> u32
+    ensures { λ r. ⌜ r ≡ reasonBy n judged ⌝ }
+{
+    if n < 3 {
+        return 8;
+    }
+    if judged {
+        return 16;
+    }
+    15
+}
+
+// The same after a laying. It is asked only where no face was laid, and at the largest radius, which decides for all.
+fn reason_after(
+    scene: Scene,
+    points: &[f32],
+    words: &mut [u32],
+    hash: Hash,
+    largest: f32,
+    laid: usize,
+) -> u32
+    requires { ⌜ (laid ≡ 0 → Fresh scene hash (now points) (now words)) ⌝ }
+    ensures { λ r. ⌜ (laid ≡ 0 → r ≡ reasonBy (scene .n) (reaches (floatsOf scene (now (points .entry))) (scene .n) largest)) ⌝ }
+{
+    if laid > 0 {
+        return 0;
+    }
+    let any = judged::is_any_judged(scene, points, words, largest, hash);
+    reason_by(scene.n, any)
+}
+
 // There are no radii.
 fn find_plain(
     points: &[f32],
@@ -55,14 +92,16 @@ fn find_plain(
     floats: &mut [f32],
 ) -> Finding
     requires { ⌜ (length (now points) / 3 ≤ 4096) × (length (now points) / 3 ≤ length (now words)) × (length (now points) / 3 ≤ length (now floats)) × Listed [] radii ⌝ }
-    ensures { λ r. ⌜ Finds (plainly settings (now (points .entry))) [] (now (faces .entry)) r (now (faces .exit)) ⌝ }
+    ensures { λ r. ⌜ Finds (reasonBy (pointCount (now (points .entry))) (plainReached (now (points .entry)) (settings .radius))) (plainly settings (now (points .entry))) [] (now (faces .entry)) r (now (faces .exit)) ⌝ }
 {
-    let count = plain::simple_triangulate(points, settings.radius, words, floats, faces);
+    let laid = plain::simple_triangulate(points, settings.radius, words, floats, faces);
+    let reason = reason_by(points.len() / 3, laid.judged);
     Finding {
-        faces: count,
+        faces: laid.faces,
         seeds: 0,
         looks: 0,
         pivots: 0,
+        reason: reason,
         radii: radii,
     }
 }
@@ -76,24 +115,20 @@ fn find_pivoting(
     words: &mut [u32],
     hash: Hash,
 ) -> Finding
-    requires { ⌜ Ground scene hash (now points) (now words) × Listed (take (radii .count) (radii .list)) radii ⌝ }
-    ensures { λ r. ⌜ Finds (laid (patch (rulesOf scene (now (points .entry))) heapOf (scene .n) (take (radii .count) (radii .list)))) (take (radii .count) (radii .list)) (now (faces .entry)) r (now (faces .exit)) ⌝ }
+    requires { ⌜ Ground scene hash (now points) (now words) × Listed (take (radii .count) (radii .list)) radii × (0 < radii .count) ⌝ }
+    ensures { λ r. ⌜ Finds (reasonBy (scene .n) (reaches (floatsOf scene (now (points .entry))) (scene .n) (getD (radii .list) (radii .count - 1) nan)))
+        (laid (patch (rulesOf scene (now (points .entry))) heapOf (scene .n) (take (radii .count) (radii .list)))) (take (radii .count) (radii .list)) (now (faces .entry)) r (now (faces .exit)) ⌝ }
 {
     let list = radii.list;
-    let counts = laying::advanced_ball_pivoting(
-        scene,
-        points,
-        list,
-        radii.count as usize,
-        faces,
-        words,
-        hash,
-    );
+    let count = radii.count as usize;
+    let counts = laying::advanced_ball_pivoting(scene, points, list, count, faces, words, hash);
+    let reason = reason_after(scene, points, words, hash, list[count - 1], counts.faces);
     Finding {
         faces: counts.faces,
         seeds: counts.seeds,
         looks: counts.looks,
         pivots: counts.pivots,
+        reason: reason,
         radii: radii,
     }
 }
@@ -107,7 +142,7 @@ pub fn find(
     floats: &mut [f32],
 ) -> Finding
     requires { ⌜ Ready settings (now points) (now words) (now floats) ⌝ }
-    ensures { λ r. ⌜ Finds (found settings (now (points .entry))) (radiiOf settings (now (points .entry))) (now (faces .entry)) r (now (faces .exit)) ⌝ }
+    ensures { λ r. ⌜ Finds (reason settings (now (points .entry))) (found settings (now (points .entry))) (radiiOf settings (now (points .entry))) (now (faces .entry)) r (now (faces .exit)) ⌝ }
 {
     let site = index_points(points, settings, words);
     let scene = site.scene;

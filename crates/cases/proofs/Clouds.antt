@@ -1,7 +1,7 @@
 -- The definition of the main call computed on small clouds: the answer, counts, radii and faces are those that the Rust gave. Assumes nothing.
 use Prim.Native.Nat.{ℕ, _+_, _*_}
 use mathlib.Core.Path.{_≡_, refl}
-use mathlib.Core.Bool.{true, false}
+use mathlib.Core.Bool.{Bool, true, false}
 use mathlib.Core.List.{List, [], _∷_, map}
 use lib.Count.{trailingZeros}
 use lib.ListN.{length, replicate}
@@ -10,7 +10,7 @@ use Rattle.numbers.specs.Rounded.{f32}
 use Rattle.settings.specs.declared.BallPivotingConfig.{BallPivotingConfig}
 use Rattle.patch.specs.Lay.{Face, face, same, push, marked, withFace, cleared as cleared-patch, seeded, popped, met, pivoted, judged, look, next, run, begun, layOne, layAll, patch}
 use Rattle.ball_pivoting.specs.declared.Patch.{Patch}
-use Rattle.ball_pivoting.specs.Reconstruct.{pointCount, indexOf, sceneOf, radiiOf, laidOf, laid, plainly, foundAt, found, slots, refused, accepted, delivered, reconstructed, facesAfter}
+use Rattle.ball_pivoting.specs.Reconstruct.{pointCount, indexOf, sceneOf, radiiOf, laidOf, laid, plainly, foundAt, found, reachedAt, judgedAt, reasonBy, reason, slots, refused, accepted, delivered, reconstructed, facesAfter}
 use Rattle.numbers.specs.Acos.{R, abs, cleared, acosMiddle, acosLow, acosHigh, acosInside, acos}
 use Rattle.numbers.specs.Cut.{ceil}
 use Rattle.numbers.specs.Order.{minimum, maximum, clamp}
@@ -31,6 +31,8 @@ use Rattle.patch.specs.Frontier.{sift, afterPop}
 use Rattle.patch.specs.Search.{isSecond, isThird, thirdOf, secondOf, firstOf, scoreOf, bestOf, searching}
 use Rattle.decisions.specs.Decisions.{apart, qualityAt, isClose, accepts, middle, around, pivotable, scoreAt, completes, floatsOf}
 use Rattle.plain.specs.Plain.{candidate, candidates as candidates-plain, sound, valid, facesOver, facesAt, facesOf, plainFaces}
+use Rattle.plain.specs.Reached.{paired, plainReached}
+use Rattle.reaching.specs.Reaching.{acceptAll, reaches}
 use Rattle.clearing.specs.Swept.{swept}
 
 -- the answer, with the counts and the radii
@@ -164,6 +166,27 @@ plain-settings = record {
 abbrev plain-points : List Float
 plain-points = map f32 (0x3f800000 ∷ 0xbf800000 ∷ 0x80000000 ∷ 0x3f800000 ∷ 0x3f800000 ∷ 0 ∷ 0 ∷ 0x3f800000 ∷ 0xbf800000 ∷ 0x3f800000 ∷ 0x3f800000 ∷ 0x3f800000 ∷ 0x3f800000 ∷ 0 ∷ 0 ∷ [])
 
+-- a radius and a cell factor alone, with a least area that turns every triangle down; with no radii where `adaptive` is false
+abbrev judging : ℕ → ℕ → Bool → BallPivotingConfig
+judging r factor adaptive = record {
+  radius = f32 r;
+  «additional_radii» = map f32 (0 ∷ 0 ∷ 0 ∷ 0 ∷ 0 ∷ 0 ∷ 0 ∷ 0 ∷ []);
+  «additional_count» = 0;
+  «adaptive_radius» = adaptive;
+  «adaptive_percentiles» = map f32 (0 ∷ 0 ∷ 0 ∷ 0 ∷ 0 ∷ 0 ∷ 0 ∷ 0 ∷ []);
+  «percentile_count» = 0;
+  «quality_threshold» = f32 0;
+  «max_edge_factor» = f32 0x40400000;
+  «min_triangle_area» = f32 0x49742400;
+  «use_spatial_index» = true;
+  «spatial_cell_factor» = f32 factor;
+}
+
+-- points on the first axis
+abbrev axis : List ℕ → List Float
+axis [] = []
+axis (x ∷ xs) = f32 x ∷ f32 0 ∷ f32 0 ∷ axis xs
+
 pub record CloudCases : Type 0 where
   -- the scope's listing: three points, radius 1
   pub listing : Gives listing-settings listing-points 10 (answer 0 1 1 3 3 (0x3d4ccccd ∷ 0x3e19999a ∷ 0x3e4ccccd ∷ 0x3f800000 ∷ 0x40000000 ∷ 0x401a827a ∷ [])) (face 0 1 2 ∷ [])
@@ -179,7 +202,24 @@ pub record CloudCases : Type 0 where
   pub unindexed : Gives unindexed-settings unindexed-points 10 (answer 0 3 1 9 7 (0x3dd8f07b ∷ 0x3e0a0370 ∷ 0x3e54362b ∷ [])) (face 0 1 3 ∷ face 0 1 4 ∷ face 4 0 2 ∷ [])
   -- the plain path
   pub plain : Gives plain-settings plain-points 28 (answer 0 8 0 0 0 ([])) (face 3 0 1 ∷ face 3 0 2 ∷ face 3 1 2 ∷ face 4 0 2 ∷ face 4 0 3 ∷ face 4 1 2 ∷ face 4 1 3 ∷ face 4 2 3 ∷ [])
+  -- two points on one spot: 8, on either path
+  pub few : reason (judging 0x3f800000 0x40000000 true) (axis (0 ∷ 0 ∷ [])) ≡ 8
+  pub few-plain : reason (judging 0x3f800000 0x40000000 false) (axis (0 ∷ 0 ∷ [])) ≡ 8
+  -- three points of which one is twice the radius away: 16; one step farther: 15
+  pub at-reach : reason (judging 0x3f800000 0x40000000 true) (axis (0 ∷ 0 ∷ 0x40000000 ∷ [])) ≡ 16
+  pub beyond : reason (judging 0x3f800000 0x40000000 true) (axis (0 ∷ 0 ∷ 0x40000001 ∷ [])) ≡ 15
+  -- at radius 0.5 they are not judged: the first of several radii does not decide
+  pub at-half : reachedAt (judging 0x3f800000 0x40000000 true) (axis (0 ∷ 0 ∷ 0x40000000 ∷ [])) (f32 0x3f000000) ≡ false
+  -- on the plain path two points at twice the radius on either side are judged with the one between them, but only if that comes last
+  pub plain-between : reason (judging 0x3f800000 0x40000000 false) (axis (0x40000000 ∷ 0xc0000000 ∷ 0 ∷ [])) ≡ 16
+  pub plain-beyond : reason (judging 0x3f800000 0x40000000 false) (axis (0x40000001 ∷ 0xc0000000 ∷ 0 ∷ [])) ≡ 15
+  pub plain-first : reason (judging 0x3f800000 0x40000000 false) (axis (0 ∷ 0x40000000 ∷ 0xc0000000 ∷ [])) ≡ 15
+  -- with radii the two are too far from each other
+  pub between : reason (judging 0x3f800000 0x40000000 true) (axis (0x40000000 ∷ 0xc0000000 ∷ 0 ∷ [])) ≡ 15
+  -- within twice the radius, but no neighbours by their cells
+  pub no-neighbours : reason (judging 0x3f440ac4 0x3f000000 true) (axis (0 ∷ 0x3ff50d74 ∷ 0x405c8c1c ∷ 0x405c8c1c ∷ [])) ≡ 15
 
 pub cloud-cases : CloudCases
-unfolding trailingZeros span climb size odd units round neg sum add sub mul div lt eq le ne ofInt toUnsigned isNan ofFields ofBits toBits R abs cleared acosMiddle acosLow acosHigh acosInside acos ceil minimum maximum clamp isqrt nearestRoot rootOfUnits root area radiusOf circumradius angle least largest aspectRatio edgeRatio score measures degenerate quality sourceAcceptable acceptable difference magnitudeSquared magnitude cross squared distance pointAt upFrom insertBefore place insertAll percentileOf inside leading firstOutside listInside firstRefusal firstBadPoint roomy reconstructRefusal firstFailing settingTests firstBadSetting defaults leastFrom boundsMin cellOn cellOf before precedes byCell orderOf within inRange rangeOf keep neighbors distancesTo total average nearOf nearest densitiesFrom spaced dedup candidates radiiAt adaptiveRadii any sift afterPop same push marked withFace cleared-patch seeded popped met pivoted judged look next run begun layOne layAll patch isSecond isThird thirdOf secondOf firstOf scoreOf bestOf searching apart qualityAt isClose accepts middle around pivotable scoreAt completes floatsOf candidate candidates-plain sound valid facesOver facesAt facesOf plainFaces indexOf sceneOf radiiOf laidOf laid plainly foundAt found slots refused accepted delivered reconstructed swept facesAfter
-cloud-cases = record { listing = (refl, refl); two-points = (refl, refl); two-radii = (refl, refl); two-seeds = (refl, refl); pivots = (refl, refl); unindexed = (refl, refl); plain = (refl, refl) }
+unfolding trailingZeros span climb size odd units round neg sum add sub mul div lt eq le ne ofInt toUnsigned isNan ofFields ofBits toBits R abs cleared acosMiddle acosLow acosHigh acosInside acos ceil minimum maximum clamp isqrt nearestRoot rootOfUnits root area radiusOf circumradius angle least largest aspectRatio edgeRatio score measures degenerate quality sourceAcceptable acceptable difference magnitudeSquared magnitude cross squared distance pointAt upFrom insertBefore place insertAll percentileOf inside leading firstOutside listInside firstRefusal firstBadPoint roomy reconstructRefusal firstFailing settingTests firstBadSetting defaults leastFrom boundsMin cellOn cellOf before precedes byCell orderOf within inRange rangeOf keep neighbors distancesTo total average nearOf nearest densitiesFrom spaced dedup candidates radiiAt adaptiveRadii any sift afterPop same push marked withFace cleared-patch seeded popped met pivoted judged look next run begun layOne layAll patch isSecond isThird thirdOf secondOf firstOf scoreOf bestOf searching apart qualityAt isClose accepts middle around pivotable scoreAt completes floatsOf candidate candidates-plain sound valid facesOver facesAt facesOf plainFaces indexOf sceneOf radiiOf laidOf laid plainly foundAt found acceptAll reaches paired plainReached reachedAt judgedAt reasonBy reason slots refused accepted delivered reconstructed swept facesAfter
+cloud-cases = record { listing = (refl, refl); two-points = (refl, refl); two-radii = (refl, refl); two-seeds = (refl, refl); pivots = (refl, refl); unindexed = (refl, refl); plain = (refl, refl);
+  few = refl; few-plain = refl; at-reach = refl; beyond = refl; at-half = refl; plain-between = refl; plain-beyond = refl; plain-first = refl; between = refl; no-neighbours = refl }

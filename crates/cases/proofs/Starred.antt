@@ -35,7 +35,9 @@ use Rattle.patch.specs.Frontier.{sift, afterPop}
 use Rattle.patch.specs.Search.{isSecond, isThird, thirdOf, secondOf, firstOf, scoreOf, bestOf, searching}
 use Rattle.decisions.specs.Decisions.{apart, qualityAt, isClose, accepts, middle, around, pivotable, scoreAt, completes, floatsOf}
 use Rattle.plain.specs.Plain.{candidate, candidates as candidates-plain, sound, valid, facesOver, facesAt, facesOf, plainFaces}
-use Rattle.ball_pivoting.specs.Reconstruct.{indexOf, sceneOf, radiiOf, laidOf, laid, plainly, foundAt, found, slots, refused, accepted, delivered, reconstructed, facesAfter}
+use Rattle.plain.specs.Reached.{paired, plainReached}
+use Rattle.reaching.specs.Reaching.{acceptAll, reaches}
+use Rattle.ball_pivoting.specs.Reconstruct.{indexOf, sceneOf, radiiOf, laidOf, laid, plainly, foundAt, found, reachedAt, judgedAt, reasonBy, reason, slots, refused, accepted, delivered, reconstructed, facesAfter}
 use Rattle.clearing.specs.Swept.{swept}
 use Rattle.cases.specs.Starred.{laterChecks, laterChecksOfEstimate, StarredCases}
 
@@ -60,7 +62,7 @@ module _ (points normals : List Float) (s : BallPivotingConfig) (words floats : 
   three : (room : ℕ) → length points ≡ 3 * 4097 → reconstructed points normals s room words floats ≡ refused 3 0
   unfolding reconstructed reconstructRefusal
   three room h =
-      ap (λ (r : Refusal). cond (eqb (r .answer) 0) (delivered (found s points) (radiiOf s points) room) (refused (r .answer) (r .detail)))
+      ap (λ (r : Refusal). cond (eqb (r .answer) 0) (delivered (reason s points) (found s points) (radiiOf s points) room) (refused (r .answer) (r .detail)))
       (too-many (length points) (length normals) long (later (length points / 3)) h)
 
 module _ (points : List Float) (percentile : Float) (words floats : ℕ) where
@@ -80,7 +82,7 @@ module _ (points : List Float) (percentile : Float) (words floats : ℕ) where
       (too-many (length points) (length points) refl (laterOfEstimate (length points / 3)) h)
 
 pub starred-cases : StarredCases
-unfolding trailingZeros span climb size odd units round neg sum add sub mul div lt eq le ne ofInt toUnsigned isNan ofFields ofBits toBits R abs cleared acosMiddle acosLow acosHigh acosInside acos ceil minimum maximum clamp isqrt nearestRoot rootOfUnits root area radiusOf circumradius angle least largest aspectRatio edgeRatio score measures degenerate quality sourceAcceptable acceptable difference magnitudeSquared magnitude cross squared distance pointAt upFrom insertBefore place insertAll percentileOf inside leading firstOutside listInside firstRefusal firstBadPoint roomy reconstructRefusal firstFailing settingTests firstBadSetting defaults leastFrom boundsMin cellOn cellOf before precedes byCell orderOf within inRange rangeOf keep neighbors distancesTo total average nearOf nearest densitiesFrom spaced dedup candidates radiiAt adaptiveRadii any sift afterPop same push marked withFace cleared-patch seeded popped met pivoted judged look next run begun layOne layAll patch isSecond isThird thirdOf secondOf firstOf scoreOf bestOf searching apart qualityAt isClose accepts middle around pivotable scoreAt completes floatsOf candidate candidates-plain sound valid facesOver facesAt facesOf plainFaces indexOf sceneOf radiiOf laidOf laid plainly foundAt found slots refused accepted delivered reconstructed swept facesAfter percentileInside estimateRefusal nearer nearestFrom leastDistance leastDistances scaled optimalRadius estimateOf
+unfolding trailingZeros span climb size odd units round neg sum add sub mul div lt eq le ne ofInt toUnsigned isNan ofFields ofBits toBits R abs cleared acosMiddle acosLow acosHigh acosInside acos ceil minimum maximum clamp isqrt nearestRoot rootOfUnits root area radiusOf circumradius angle least largest aspectRatio edgeRatio score measures degenerate quality sourceAcceptable acceptable difference magnitudeSquared magnitude cross squared distance pointAt upFrom insertBefore place insertAll percentileOf inside leading firstOutside listInside firstRefusal firstBadPoint roomy reconstructRefusal firstFailing settingTests firstBadSetting defaults leastFrom boundsMin cellOn cellOf before precedes byCell orderOf within inRange rangeOf keep neighbors distancesTo total average nearOf nearest densitiesFrom spaced dedup candidates radiiAt adaptiveRadii any sift afterPop same push marked withFace cleared-patch seeded popped met pivoted judged look next run begun layOne layAll patch isSecond isThird thirdOf secondOf firstOf scoreOf bestOf searching apart qualityAt isClose accepts middle around pivotable scoreAt completes floatsOf candidate candidates-plain sound valid facesOver facesAt facesOf plainFaces indexOf sceneOf radiiOf laidOf laid plainly foundAt found acceptAll reaches paired plainReached reachedAt judgedAt reasonBy reason slots refused accepted delivered reconstructed swept facesAfter percentileInside estimateRefusal nearer nearestFrom leastDistance leastDistances scaled optimalRadius estimateOf
 starred-cases = record {
   no-points = λ a b c s room words floats. refl;
   four-numbers = λ a b c d normals s room words floats. refl;

@@ -110,7 +110,7 @@ pub record StarredCases : Type 0 where
   pub three-radii : dedup (f32 0x3f000000 ∷ f32 0x3f00000c ∷ f32 0x3f000017 ∷ []) ≡ f32 0x3f000000 ∷ f32 0x3f000017 ∷ []
   -- a frontier A, B, C, D empties as A, C, B, D
   pub frontier : emptied 4 (10 ∷ 11 ∷ 12 ∷ 13 ∷ []) ≡ 10 ∷ 12 ∷ 11 ∷ 13 ∷ []
-  -- three equal points, with least area 0: 8, since they have no area
-  pub equal-without-area : reconstructed equal-points equal-points (with-area (f32 0)) 3 136 76 ≡ refused 8 0
-  -- with least area 1e-8: 8
-  pub equal-refused : reconstructed equal-points equal-points (with-area (f32 0x322bcc77)) 3 136 76 ≡ refused 8 0
+  -- three equal points, with least area 0: 16, since they are judged and have no area
+  pub equal-without-area : reconstructed equal-points equal-points (with-area (f32 0)) 3 136 76 ≡ refused 16 0
+  -- with least area 1e-8: 16
+  pub equal-refused : reconstructed equal-points equal-points (with-area (f32 0x322bcc77)) 3 136 76 ≡ refused 16 0

@@ -6,7 +6,7 @@ use mathlib.Core.Bool.{Bool, true, false, not, _&&_, _||_}
 use mathlib.Core.List.{List, [], _∷_}
 use native.Mathlib.Omega.{arith}
 use lib.Dec.{T, eqb, ltb}
-use lib.ListN.{length, take, replicate}
+use lib.ListN.{length, take}
 use lib.Ieee.{Float, lt}
 use lib.Ieee.Bits.{is-true}
 use borrow.Author.Tests.{eqb-true, eqb-false, ne-eqb, lt-ltb}
@@ -36,7 +36,7 @@ use Rattle.nearby.proofs.Earlier.{neighbors-only, order-of-count}
 use Rattle.nearby.proofs.Keeping.{held-kept, cells-kept, hashed-search, kept-on}
 use Rattle.nearby.proofs.Rest.{Rest, nth, rest-start, rest-step, rest-hit, rest-end}
 use Rattle.reaching.specs.Reaching.{reaches, Reaches}
-use Rattle.reaching.proofs.Reaching.{both-true, differ, differs, blank-unused, reaches-exactly}
+use Rattle.reaching.proofs.Reaching.{both-true, differ, differs, reaches-exactly}
 use Rattle.judged.specs.Triples.{isBeside, isBesideBoth, hasThird, Around, Fresh, Tells}
 
 -- ---- lists
@@ -170,9 +170,8 @@ module _ {s : Scene} {hash : Hash} {pts : List Float} {w u : List ℕ} (r : Floa
   gathered : (k : ℕ) → Beside s pts r i k → In k ks
   gathered k b =
       let h = near-below s pts r i k (b .neighbour) in
-      let free = subst (λ (l : List ℕ). unused l k ≡ true) (sym (fresh .none-used)) (blank-unused (s .n) k) in
       let t = subst (λ (p : Point3f). isWithin pts p (f .limit) k ≡ true) (sym (filters .center-is)) (close-within pts r (f .limit) i k (filters .limits) (b .close)) in
-      all .complete k h free t t
+      all .complete k h (fresh .none-used k) t t
 
   some-found : any (hasThird s pts r ks i) ks ≡ true → Reaches (floatsOf s pts) (s .n) r
   unfolding hasThird isBesideBoth floatsOf
@@ -222,7 +221,7 @@ fresh-kept {s} {pts = pts} {w = w} u g l k = record {
   held = held-kept u (g .held) l;
   cells = cells-kept (s .grid) pts (s .n) w u (g .cells) (k .before);
   hashed = hashed-search {s = s} u (g .hashed) l k;
-  none-used = ap (take (s .n)) (k .after) ∙ g .none-used;
+  none-used = λ j. subst (λ (l : List ℕ). unused (take (s .n) l) j ≡ true) (sym (k .after)) (g .none-used j);
 }
 
 -- no triple is judged in which a point below i comes first

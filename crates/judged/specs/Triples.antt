@@ -4,10 +4,9 @@ use mathlib.Core.Path.{_≡_}
 use mathlib.Core.Bool.{Bool, true, false, not, _&&_}
 use mathlib.Core.List.{List}
 use lib.Dec.{eqb}
-use lib.ListN.{replicate}
 use lib.Ieee.{Float}
 use Rattle.points.specs.Points.{pointAt}
-use Rattle.lists.specs.Lists.{any}
+use Rattle.lists.specs.Lists.{any, unused}
 use Rattle.grid.specs.Grid.{rangeOf}
 use Rattle.grid.specs.Index.{Cells}
 use Rattle.spatial_hash.specs.declared.Hash.{Hash}
@@ -45,7 +44,7 @@ pub record Fresh (s : Scene) (hash : Hash) (pts : List Float) (w : List ℕ) : T
   pub held : Held s pts w
   pub cells : Cells (s .grid) pts (s .n) w
   pub hashed : Hashed hash pts (s .n) w
-  pub none-used : usedIn s w ≡ replicate (s .n) 0
+  pub none-used : (k : ℕ) → unused (usedIn s w) k ≡ true
 
 -- b tells whether a triple is judged in which point i comes first
 pub record Tells (s : Scene) (pts : List Float) (r : Float) (i : ℕ) (b : Bool) : Type 0 where

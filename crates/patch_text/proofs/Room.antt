@@ -14,10 +14,11 @@ use Rattle.settings.specs.declared.BallPivotingConfig.{BallPivotingConfig}
 use Rattle.domain.specs.Refusals.{Check, firstRefusal, reconstructRefusal}
 use Rattle.patch.specs.View as view
 use Rattle.lists.proofs.Bools.{and-both}
-use Rattle.ball_pivoting.specs.Reconstruct.{Found, found, radiiOf, refused, accepted, delivered, reconstructed}
+use Rattle.ball_pivoting.specs.Reconstruct.{Found, found, radiiOf, reason, refused, accepted, delivered, reconstructed}
 use Rattle.ball_pivoting.specs.declared.Patch.{Patch}
 use Rattle.ball_pivoting.proofs.Answered.{answered-zero}
 use Rattle.ball_pivoting.proofs.Inside.{found-inside, flat-inside, found-few}
+use Rattle.ball_pivoting.proofs.Reasons.{reason-most}
 use Rattle.ball_pivoting.proofs.Outcome.{reconstruct-early}
 use Rattle.cloud.specs.Format.{Parsed, parsed, malformed, point, field, Lines, good, wrong, ahead, lines, body, File, cloud, malformedLine, under, file}
 use Rattle.cloud.specs.Answers as cloud
@@ -74,14 +75,14 @@ module _ (points normals : List Float) (c : BallPivotingConfig) (room words floa
 
   -- the answer and the detail
   abbrev Brief : Patch → Type 0
-  Brief p = (p .answer ≤ 9) × (p .detail ≤ 4096)
+  Brief p = (p .answer ≤ 16) × (p .detail ≤ 4096)
 
-  delivered-brief : Brief (delivered (found c points) (radiiOf c points) room)
+  delivered-brief : Brief (delivered (reason c points) (found c points) (radiiOf c points) room)
   unfolding delivered refused accepted
   delivered-brief = go (eqb (length (found c points .faces)) 0) (ltb (room / 3) (length (found c points .faces)))
     where
-      go : (none over : Bool) → Brief (cond none (refused 8 0) (cond over (refused 9 0) (accepted (found c points) (radiiOf c points))))
-      go true over = (omega arith, omega arith)
+      go : (none over : Bool) → Brief (cond none (refused (reason c points) 0) (cond over (refused 9 0) (accepted (found c points) (radiiOf c points))))
+      go true over = (reason-most c points, omega arith)
       go false true = (omega arith, omega arith)
       go false false = (omega arith, omega arith)
 
@@ -89,7 +90,7 @@ module _ (points normals : List Float) (c : BallPivotingConfig) (room words floa
   unfolding reconstructed refused
   brief few = go (eqb (reconstructRefusal points normals c words floats .answer) 0)
     where
-      go : (passed : Bool) → Brief (cond passed (delivered (found c points) (radiiOf c points) room) (refused (reconstructRefusal points normals c words floats .answer) (reconstructRefusal points normals c words floats .detail)))
+      go : (passed : Bool) → Brief (cond passed (delivered (reason c points) (found c points) (radiiOf c points) room) (refused (reconstructRefusal points normals c words floats .answer) (reconstructRefusal points normals c words floats .detail)))
       go true = delivered-brief
       go false = (omega (arith, reconstruct-early points normals c words floats), detail-small few)
 

@@ -7,7 +7,7 @@ use mathlib.Core.List.{List, [], _∷_}
 use mathlib.Core.Option.{Option, none, some}
 use native.Mathlib.Omega.{arith}
 use lib.Dec.{eqb}
-use lib.ListN.{length, replicate}
+use lib.ListN.{length, getD, replicate}
 use Rattle.lists.specs.Lists.{bit, count, any, upFrom}
 use Rattle.patch.specs.Lay.{State, Pop, cleared, begun, layOne, layAll, blank, patch}
 use Rattle.patch.specs.Search.{Floats, firstOf, searching}
@@ -98,6 +98,12 @@ module _ {R : Type 0} (a : Floats R) (n : ℕ) where
       let e = ap length (lay-nothing pop rs (blank n) refl (any-false (reaches a n) rs t) .0) in
       absurd (omega arith))
       (either (any (reaches a n) rs))
+
+-- the last of a list stands at its end
+pub last-at : {R : Type 0} (d r : R) (rs : List R) → getD (r ∷ rs) (length rs) d ≡ lastFrom r rs
+unfolding lastFrom
+last-at d r [] = refl
+last-at d r (s ∷ rs) = last-at d s rs
 
 -- what is asked before the quality test settles it: floats with the same neighbours and the same closeness reach it at the same radii
 module _ {R : Type 0} (n : ℕ) (r : R) where

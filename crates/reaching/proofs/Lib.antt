@@ -2,3 +2,4 @@ pub mod Reaching
 pub mod Deciding
 pub mod Growing
 pub mod Rising
+pub mod Positive

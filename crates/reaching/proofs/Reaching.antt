@@ -46,7 +46,7 @@ differ i k h = eqb-false i k (not-true (eqb i k) h)
 pub differs : (i k : ℕ) → i ≢ k → not (eqb i k) ≡ true
 differs i k h = ap not (ne-eqb i k h)
 
-pub blank-unused : (n k : ℕ) → unused (replicate n 0) k ≡ true
+blank-unused : (n k : ℕ) → unused (replicate n 0) k ≡ true
 blank-unused n k = eq-eqb (getD (replicate n 0) k 0) 0 (go n k)
   where
     go : (n k : ℕ) → _≡_ {A = ℕ} (getD (replicate n 0) k 0) 0

@@ -22,7 +22,8 @@ use Rattle.patch.specs.Frontier.{heapOf}
 use Rattle.decisions.specs.Decisions.{reach, apart, qualityAt, isClose, accepts, middle, around, pivotable, scoreAt}
 use Rattle.decisions.specs.Decisions.{floatsOf}
 use Rattle.ball_pivoting.specs.Reconstruct.{pointCount, indexOf, sceneOf, radiiOf, laidOf, Found, laid, foundAt, found}
-use Rattle.ball_pivoting.specs.Reconstruct.{refused, delivered, reconstructed}
+use Rattle.ball_pivoting.specs.Reconstruct.{refused, delivered}
+use Rattle.ball_pivoting.specs.Unsplit.{reconstructedUnsplit}
 use Rattle.zeros.specs.Zeros.{UpToZeros}
 use Rattle.zeros.specs.Call.{leastFromBy, boundsBy, indexBy, sceneBy, qualityAtBy, scoreAtBy, floatsBy, radiiBy}
 use Rattle.zeros.specs.Call.{laidBy, foundAtBy, foundBy, reconstructedBy, EitherZero}
@@ -105,11 +106,11 @@ module _ (mins : ℕ → Float → Float → Float) (m M : Float → Float → F
   found-same = at-radii (radiiBy mins m M c pts) ∙ ap (foundAt c pts) radii-same
 
   answer-same : (normals : List Float) (room words floats : ℕ)
-      → reconstructedBy mins m M c pts normals room words floats ≡ reconstructed pts normals c room words floats
-  unfolding reconstructedBy reconstructed
+      → reconstructedBy mins m M c pts normals room words floats ≡ reconstructedUnsplit pts normals c room words floats
+  unfolding reconstructedBy reconstructedUnsplit
   answer-same normals room words floats =
       let refusal = reconstructRefusal pts normals c words floats in
-      ap₂ (λ (f : Found) (rs : List Float). cond (eqb (refusal .answer) 0) (delivered f rs room)
+      ap₂ (λ (f : Found) (rs : List Float). cond (eqb (refusal .answer) 0) (delivered 8 f rs room)
       (refused (refusal .answer) (refusal .detail))) found-same radii-same
 
 pub no-matter : EitherZero

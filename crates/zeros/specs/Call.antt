@@ -24,7 +24,8 @@ use Rattle.patch.specs.Search.{Floats, searching}
 use Rattle.patch.specs.Frontier.{heapOf}
 use Rattle.decisions.specs.Decisions.{reach, apart, isClose, accepts, middle, around, pivotable}
 use Rattle.decisions.specs.declared.Scene.{Scene}
-use Rattle.ball_pivoting.specs.Reconstruct.{pointCount, Found, laid, plainly, found, refused, delivered, reconstructed}
+use Rattle.ball_pivoting.specs.Reconstruct.{pointCount, Found, laid, plainly, found, refused, delivered}
+use Rattle.ball_pivoting.specs.Unsplit.{reconstructedUnsplit}
 use Rattle.ball_pivoting.specs.declared.Patch.{Patch}
 use Rattle.zeros.specs.Zeros.{UpToZeros}
 use Rattle.zeros.specs.Quality.{qualityBy}
@@ -102,7 +103,7 @@ module _ (mins : ℕ → Float → Float → Float) (m M : Float → Float → F
   unfoldable pub reconstructedBy : List Float → ℕ → ℕ → ℕ → Patch
   reconstructedBy normals room words floats =
       let refusal = reconstructRefusal pts normals c words floats in
-      cond (eqb (refusal .answer) 0) (delivered foundBy radiiBy room) (refused (refusal .answer) (refusal .detail))
+      cond (eqb (refusal .answer) 0) (delivered 8 foundBy radiiBy room) (refused (refusal .answer) (refusal .detail))
 
 -- Whatever these functions give, a triangle's quality is the same in all six measures, and so are the faces and counts
 -- that are found, and the call's answer.
@@ -110,7 +111,7 @@ pub record NoMatter (mins : ℕ → Float → Float → Float) (m M : Float → 
   pub qualities : (p1 p2 p3 : Point3f) → qualityBy m M p1 p2 p3 ≡ quality p1 p2 p3
   pub all-found : (c : BallPivotingConfig) (pts : List Float) → foundBy mins m M c pts ≡ found c pts
   pub answers : (c : BallPivotingConfig) (pts normals : List Float) (room words floats : ℕ)
-      → reconstructedBy mins m M c pts normals room words floats ≡ reconstructed pts normals c room words floats
+      → reconstructedBy mins m M c pts normals room words floats ≡ reconstructedUnsplit pts normals c room words floats
 
 -- The claim, for every `min` and `max` that Rust allows, all settings and points. `no-matter` proves it.
 abbrev pub EitherZero : Type 0

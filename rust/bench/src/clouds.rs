@@ -203,7 +203,7 @@ fn comparison(count: u64) -> bool {
         let Case { kind, points, normals, settings, words, floats, .. } = generate::case(1, number);
         let start = Instant::now();
         let found = expect::find(&points, &normals, &settings, [words, floats], BUDGET);
-        if !matches!(found, Ok(expect::Found::Laid(_) | expect::Found::NoTriangle)) || start.elapsed().as_micros() < 100
+        if !matches!(found, Ok(expect::Found::Laid(_) | expect::Found::NoTriangle { .. })) || start.elapsed().as_micros() < 100
         {
             continue;
         }

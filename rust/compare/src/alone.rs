@@ -40,8 +40,8 @@ pub fn oracle(count: u64, seed: u64, first: u64) -> Report {
         }
         let laid = match found.map(|(found, _)| found) {
             Ok(Found::Laid(laid)) => laid,
-            Ok(Found::NoTriangle) => {
-                report.note("no triangle");
+            Ok(Found::NoTriangle { answer, .. }) => {
+                report.note(&format!("no triangle, {answer}"));
                 continue;
             }
             Ok(Found::Early(_)) => {

@@ -2,7 +2,7 @@
 
 use crate::report::{Report, Same};
 use crate::sides::Side;
-use expect::{bits, Estimate, Lent, Patch, BUDGET};
+use expect::{bits, Estimate, Found, Lent, Patch, BUDGET};
 use generate::{case, old_word, Case};
 use oracle::Skip;
 
@@ -105,6 +105,7 @@ pub const AMENDED: &str = "held against the amended Rust";
 struct Called {
     answer: u32,
     amended: bool,
+    plain: bool,
     unlike: Option<String>,
 }
 
@@ -116,7 +117,12 @@ fn call(side: &dyn Side, case: &Case) -> Result<Called, Skip> {
     let expected = found.deliver(&mut expected_lent);
     let got = side.reconstruct(case, &mut lent);
     let unlike = unlike_patch(&expected, &got).or_else(|| unlike_slices(&expected_lent, &lent));
-    Ok(Called { answer: expected.answer, amended, unlike })
+    let plain = match &found {
+        Found::NoTriangle { plain, .. } => *plain,
+        Found::Laid(laid) => laid.radii.is_empty(),
+        Found::Early(_) => false,
+    };
+    Ok(Called { answer: expected.answer, amended, plain, unlike })
 }
 
 /// What differs on one case.
@@ -147,6 +153,38 @@ pub fn reconstruct(side: &dyn Side, count: u64, seed: u64, first: u64) -> Report
         if let Some(text) = called.unlike {
             report.differs(|| format!("{text}\n{}", describe(&case, number, seed)));
         }
+    }
+    report
+}
+
+/// The answers that `refused` has to meet on each path, so that none of the reasons goes untried.
+const REASONS: [u32; 3] = [8, 15, 16];
+
+/// Clouds over which hardly any triangle is found. A kind of answer that never comes up on a path counts as a difference.
+pub fn refused(side: &dyn Side, count: u64, seed: u64, first: u64) -> Report {
+    let mut report = Report::new("refused");
+    let mut met = [[0_u64; 3]; 2];
+    for number in first..first + count {
+        let case = generate::refused(seed, number);
+        let called = match call(side, &case) {
+            Ok(called) => called,
+            Err(why) => {
+                report.skip(why);
+                continue;
+            }
+        };
+        report.compared += 1;
+        let path = if called.plain { "plain" } else { "multi-radius" };
+        report.note(&format!("{path} {}:", called.answer));
+        if let Some(at) = REASONS.iter().position(|reason| *reason == called.answer) {
+            met[usize::from(called.plain)][at] += 1;
+        }
+        if let Some(text) = called.unlike {
+            report.differs(|| format!("{text}\n{}", describe(&case, number, seed)));
+        }
+    }
+    if met.iter().flatten().any(|times| *times == 0) {
+        report.differs(|| format!("an answer of {REASONS:?} never came up on a path: {met:?}"));
     }
     report
 }

@@ -21,6 +21,7 @@ const USAGE: &str = "usage:
   compare triangles COUNT SEED [FIRST]    circumradius, quality, acceptance
   compare estimate COUNT SEED [FIRST]     the radius estimate on generated clouds
   compare reconstruct COUNT SEED [FIRST]  the reconstruction on generated clouds
+  compare refused COUNT SEED [FIRST]      clouds without a triangle, for each of the reasons
   compare shrink NUMBER SEED              the smallest cloud left of a case on which the two differ
   compare oracle COUNT SEED [FIRST]       needs no port: what must hold of the oracle's counts
   compare selftest                        needs no port: a turned bit is found";
@@ -40,6 +41,7 @@ fn main() {
         ("triangles", [count, seed, first @ ..]) => triangles::triangles(&Linked, *count, *seed, start(first)),
         ("estimate", [count, seed, first @ ..]) => clouds::estimate(&Linked, *count, *seed, start(first)),
         ("reconstruct", [count, seed, first @ ..]) => clouds::reconstruct(&Linked, *count, *seed, start(first)),
+        ("refused", [count, seed, first @ ..]) => clouds::refused(&Linked, *count, *seed, start(first)),
         ("oracle", [count, seed, first @ ..]) => alone::oracle(*count, *seed, start(first)),
         ("selftest", []) => alone::selftest(),
         _ => {

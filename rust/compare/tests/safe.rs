@@ -49,8 +49,8 @@ fn same(expected: &Found, got: &Result<Patch, Error>, points: usize) -> bool {
             assert_eq!(got.as_ref().map_err(|e| (e.number(), e.detail() as u32)).err(), Some((r.answer, r.detail)));
             return false;
         }
-        Found::NoTriangle => {
-            assert_eq!(got, &Err(Error::NoTriangle));
+        Found::NoTriangle { answer, .. } => {
+            assert_eq!(got.as_ref().map_err(Error::number).err(), Some(*answer));
             return false;
         }
         Found::Laid(laid) => laid,

@@ -2,7 +2,7 @@
 
 pub mod checks;
 
-use oracle::{Error, Laid, Settings, Skip};
+use oracle::{Error, Laid, Tried, Settings, Skip};
 
 /// The steps of the published code that a case may take, about half a second; above it the case is skipped.
 pub const BUDGET: u64 = 16_000_000;
@@ -65,21 +65,21 @@ pub struct Refusal {
 pub enum Found {
     /// Refused by a check up to 7; every lent slice is untouched.
     Early(Refusal),
-    /// 8.
-    NoTriangle,
+    /// No triangle: the answer is 8, 15 or 16, on the plain path or the other.
+    NoTriangle { answer: u32, plain: bool },
     Laid(Laid),
 }
 
-/// What a run of the Rust comes to, once the checks have passed.
-fn laid_or_none(run: oracle::Result<Laid>) -> Found {
+/// What a run of the Rust on so many points comes to, once the checks have passed.
+fn laid_or_none(points: usize, (run, tried): (oracle::Result<Laid>, Tried)) -> Found {
     match run {
         Ok(laid) => Found::Laid(laid),
-        Err(Error::Algorithm(_)) => Found::NoTriangle,
+        Err(Error::Algorithm(_)) => Found::NoTriangle { answer: no_triangle(points, tried.judged), plain: tried.plain },
         Err(error) => panic!("the checks let through what the published code refuses: {error:?}"),
     }
 }
 
-/// Checks 1 to 8.
+/// Checks 1 to 8, and 15 and 16 in the place of 8.
 pub fn find(
     points: &[f32],
     normals: &[f32],
@@ -101,13 +101,24 @@ pub fn find_amended(
     if let Err(refusal) = checks::reconstruct(points, normals, settings, work) {
         return Ok((Found::Early(refusal), false));
     }
-    let published = oracle::reconstruct(points, normals, settings, budget)?;
-    match &published {
+    let count = points.len() / 3;
+    let published = oracle::reconstruct_judged(points, normals, settings, budget)?;
+    match &published.0 {
         Ok(laid) if oracle::lays_no_area(points, laid) => {
             let amended = oracle::reconstruct_amended(points, normals, settings, budget)?;
-            Ok((laid_or_none(amended), true))
+            Ok((laid_or_none(count, amended), true))
         }
-        _ => Ok((laid_or_none(published), false)),
+        _ => Ok((laid_or_none(count, published), false)),
+    }
+}
+
+/// Which of the three answers is given where no triangle was found: 8 for fewer than three points, 15 if no triple was judged,
+/// 16 if all that were judged were turned down.
+fn no_triangle(points: usize, judged: bool) -> u32 {
+    match (points, judged) {
+        (0..=2, _) => 8,
+        (_, false) => 15,
+        (_, true) => 16,
     }
 }
 
@@ -125,9 +136,9 @@ impl Found {
         let refused = |answer, detail| Patch { answer, detail, ..Patch::default() };
         match self {
             Found::Early(refusal) => refused(refusal.answer, refusal.detail),
-            Found::NoTriangle => {
+            Found::NoTriangle { answer, .. } => {
                 lent.clear_work();
-                refused(8, 0)
+                refused(*answer, 0)
             }
             Found::Laid(laid) => {
                 lent.clear_work();

@@ -6,10 +6,12 @@ mod fixed;
 pub mod numbers;
 mod pins;
 mod random;
+mod refused;
 mod settings;
 pub mod slow;
 
 pub use random::Random;
+pub use refused::refused;
 
 use oracle::Settings;
 use std::sync::OnceLock;

@@ -48,7 +48,7 @@ pub fn printed(bytes: &[u8]) -> String {
     let found = expect::find(&points, &normals, &Settings::at_radius(read.radius), work, BUDGET);
     match found.expect("within the limits") {
         Found::Early(refusal) => refused(refusal.answer, refusal.detail as usize),
-        Found::NoTriangle => refused(8, 0),
+        Found::NoTriangle { answer, .. } => refused(answer, 0),
         Found::Laid(laid) if laid.faces.len() > FACES => refused(9, 0),
         Found::Laid(laid) => listing(read.count, &laid),
     }

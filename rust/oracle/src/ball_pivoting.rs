@@ -515,6 +515,7 @@ impl BallPivotingReconstructor {
                         continue;
                     }
 
+                    tally::judge(); // yarrowbleat: added
                     let quality = self.compute_triangle_quality(&points[i], &points[j], &points[k]);
                     if self.is_triangle_acceptable(&quality, radius) {
                         return Some([i, j, k]);
@@ -704,6 +705,7 @@ impl BallPivotingReconstructor {
                     let v2 = p3 - p1;
                     let tri_normal = v1.cross(&v2);
 
+                    tally::judge(); // yarrowbleat: added
                     if tri_normal.magnitude() > 1e-6 {
                         // Check if circumradius is reasonable
                         let circumradius = Self::compute_circumradius(p1, p2, p3);

@@ -40,11 +40,31 @@ pub fn reconstruct(
     settings: &Settings,
     budget: u64,
 ) -> std::result::Result<Result<Laid>, Skip> {
+    reconstruct_judged(points, normals, settings, budget).map(|(laid, _)| laid)
+}
+
+/// What was tried, whatever came of it.
+#[derive(Clone, Copy, Debug)]
+pub struct Tried {
+    /// Whether any triple came to the quality test, or on the plain path to the cross product test.
+    pub judged: bool,
+    /// Whether the plain path was taken.
+    pub plain: bool,
+}
+
+/// The same, and what was tried.
+pub fn reconstruct_judged(
+    points: &[f32],
+    normals: &[f32],
+    settings: &Settings,
+    budget: u64,
+) -> std::result::Result<(Result<Laid>, Tried), Skip> {
     let with_normal = |(position, normal): (Point3f, Point3f)| NormalPoint3f { position, normal: normal.coords };
     let cloud = PointCloud { points: points_of(points).into_iter().zip(points_of(normals)).map(with_normal).collect() };
     let mut reconstructor = BallPivotingReconstructor::new(settings.to_config());
     let (mesh, tally) = tally::run(budget, || reconstructor.reconstruct_with_normals(&cloud))?;
-    Ok(mesh.map(|mesh| Laid { faces: mesh.faces, radii: reconstructor.radii().to_vec(), tally }))
+    let laid = mesh.map(|mesh| Laid { faces: mesh.faces, radii: reconstructor.radii().to_vec(), tally });
+    Ok((laid, Tried { judged: tally.judged, plain: reconstructor.radii().is_empty() }))
 }
 
 /// The same with the amended acceptance, which turns down an area of exactly zero.
@@ -53,8 +73,8 @@ pub fn reconstruct_amended(
     normals: &[f32],
     settings: &Settings,
     budget: u64,
-) -> std::result::Result<Result<Laid>, Skip> {
-    tally::amending(|| reconstruct(points, normals, settings, budget))
+) -> std::result::Result<(Result<Laid>, Tried), Skip> {
+    tally::amending(|| reconstruct_judged(points, normals, settings, budget))
 }
 
 /// Whether a face has a computed area of exactly zero, in its own order.

@@ -1,6 +1,7 @@
 //! What is counted while the published code runs, and the limits that stop a run which would take too long.
 //!
-//! A look is one pop of a frontier entry; a pivot is a look that is not skipped as processed; a seed is a seed laid.
+//! A look is one pop of a frontier entry; a pivot is a look that is not skipped as processed; a seed is a seed laid. A triple
+//! is judged when the search for a seed comes to its quality, or the plain path to its cross product.
 //! A run that passes a limit unwinds out of the published code with a [`Skip`]; [`run`] catches it.
 
 use std::cell::Cell;
@@ -14,6 +15,8 @@ pub struct Tally {
     pub seeds: u32,
     pub looks: u32,
     pub pivots: u32,
+    /// Whether any triple was judged.
+    pub judged: bool,
 }
 
 /// Why a run was given up.
@@ -26,7 +29,7 @@ pub enum Skip {
 }
 
 thread_local! {
-    static TALLY: Cell<Tally> = const { Cell::new(Tally { seeds: 0, looks: 0, pivots: 0 }) };
+    static TALLY: Cell<Tally> = const { Cell::new(Tally { seeds: 0, looks: 0, pivots: 0, judged: false }) };
     static LEFT: Cell<u64> = const { Cell::new(0) };
     static AMENDED: Cell<bool> = const { Cell::new(false) };
 }
@@ -60,6 +63,10 @@ pub(crate) fn amending<T>(call: impl FnOnce() -> T) -> T {
     let value = call();
     AMENDED.set(false);
     value
+}
+
+pub(crate) fn judge() {
+    update(|t| t.judged = true);
 }
 
 /// Takes `count` steps off the budget, before they are made.

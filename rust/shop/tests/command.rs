@@ -94,7 +94,7 @@ fn statuses() {
         ("radius-zero", 5, "setting 1, radius"),
         ("seventh-field", 10, "line 3"),
         ("too-far", 4, "point 2"),
-        ("two-points", 8, "no triangle was found"),
+        ("two-points", 8, "no triangle was found: there are fewer than three points"),
     ];
     for (name, status, end) in expected {
         let (code, line) = failed(&["lay", &format!("{cases}/{name}.csv")]);

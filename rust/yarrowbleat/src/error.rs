@@ -20,8 +20,8 @@ pub enum Error {
     Percentile,
     /// 7. A work slice is too short.
     Work,
-    /// 8. No triangle was found.
-    NoTriangle,
+    /// 8. There are fewer than three points, so no triangle was found.
+    TooFewPoints,
     /// 9. The faces found don't fit the face slice.
     Faces,
     /// 10. This line of the cloud file, from 1, is malformed.
@@ -34,6 +34,10 @@ pub enum Error {
     OutputTooShort,
     /// 14. A face or a number names a point that isn't there.
     NoSuchPoint,
+    /// 15. No triangle was found: no three points that were tried lie close enough together to be judged. Scan closer, or set larger radii.
+    NoneClose,
+    /// 16. No triangle was found: all that were judged were turned down. Loosen the settings.
+    AllTurnedDown,
     /// 19. The tally has 100,000 patches.
     TallyFull,
     /// 20. A season's patch has no points, more than 4,096, more covered than scanned or more than 10,000 faces.
@@ -62,13 +66,15 @@ pub fn answer_text(answer: u32) -> &'static str {
         5 => "a setting is outside its bounds",
         6 => "the percentile is not within 0 to 1",
         7 => "a work slice is too short",
-        8 => "no triangle was found",
+        8 => "no triangle was found: there are fewer than three points",
         9 => "the faces found don't fit the face slice",
         10 => "a line of the cloud file is malformed",
         11 => "the file's points don't fit the slices",
         12 => "the bytes are no STL file, or not as many as it says",
         13 => "the output slice is too short",
         14 => "a face or a number names a point that isn't there",
+        15 => "no triangle was found: no three points lie close enough together",
+        16 => "no triangle was found: all that were judged were turned down",
         19 => "the tally has 100,000 patches",
         20 => "the patch's counts can't be entered",
         21 => "the tally is empty",
@@ -100,13 +106,15 @@ impl Error {
             5 => Error::Setting(detail),
             6 => Error::Percentile,
             7 => Error::Work,
-            8 => Error::NoTriangle,
+            8 => Error::TooFewPoints,
             9 => Error::Faces,
             10 => Error::Line(detail),
             11 => Error::Room,
             12 => Error::BadStl,
             13 => Error::OutputTooShort,
             14 => Error::NoSuchPoint,
+            15 => Error::NoneClose,
+            16 => Error::AllTurnedDown,
             19 => Error::TallyFull,
             20 => Error::SeasonPatch,
             21 => Error::TallyEmpty,
@@ -125,13 +133,15 @@ impl Error {
             Error::Setting(_) => 5,
             Error::Percentile => 6,
             Error::Work => 7,
-            Error::NoTriangle => 8,
+            Error::TooFewPoints => 8,
             Error::Faces => 9,
             Error::Line(_) => 10,
             Error::Room => 11,
             Error::BadStl => 12,
             Error::OutputTooShort => 13,
             Error::NoSuchPoint => 14,
+            Error::NoneClose => 15,
+            Error::AllTurnedDown => 16,
             Error::TallyFull => 19,
             Error::SeasonPatch => 20,
             Error::TallyEmpty => 21,

@@ -16,11 +16,9 @@ compute-adaptive-radii-requires c κs =
 
 find-plain-requires : tie.Need-find-plain-requires
 find-plain-requires c κs =
-    let t = c .before .before .before in
-    let r = t .before .before .before .before .before .before in
-    let z = r .before .before .before .before .before .before .before .before .before .before .before .before .before .pre .sized in
-    let k = r .before .before .before .before .before .before .before .before .before .before .before .before .before .pre .floats-enough in
-    (z .few, omega (arith, z .words-enough), omega (arith, k), listed-none _ _ (r .compute-adaptive-radii .ensures .0) (t .if1 .taken))
+    let z = c .before .before .before .before .before .before .before .before .before .before .before .before .before .before .before .before .before .before .before .before .before .before .pre .sized in
+    let k = c .before .before .before .before .before .before .before .before .before .before .before .before .before .before .before .before .before .before .before .before .before .before .pre .floats-enough in
+    (z .few, omega (arith, z .words-enough), omega (arith, k), listed-none _ _ (c .before .before .before .before .before .before .before .before .before .compute-adaptive-radii .ensures .0) (c .before .before .before .if1 .taken))
 
 same-length : tie.Need-same-length
 same-length c = search needs
@@ -33,17 +31,15 @@ same-length-3 c = search needs
 
 returns : tie.Need-returns
 returns c =
-    let f = c .before .before .before .before .before .before in
-    let t = f .before .before .before .before in
-    let r = t .before .before .before .before .before .before in
-    let i = r .before .before .before .before .before .before .before .index-points .ensures in
-    finds-plain _ _ _ _ _ _ _ (i .0) (listed-at _ _ _ _ (i .0) (r .compute-adaptive-radii .ensures .0)) (t .if1 .taken) (f .find-plain .ensures)
+    let i = c .before .before .before .before .before .before .before .before .before .before .before .before .before .before .before .before .before .before .before .before .before .before .before .index-points .ensures in
+    finds-plain _ _ _ _ _ _ _ (i .0) (listed-at _ _ _ _ (i .0) (c .before .before .before .before .before .before .before .before .before .before .before .before .before .before .before .before .compute-adaptive-radii .ensures .0)) (c .before .before .before .before .before .before .before .before .before .before .if1 .taken) (c .before .before .before .before .before .before .find-plain .ensures)
 
 find-pivoting-requires : tie.Need-find-pivoting-requires
 find-pivoting-requires c κs =
     let i = c .before .before .before .before .before .before .before .before .before .before .before .before .before .before .before .index-points .ensures in
     let r = c .before .before .before .before .before .before .before .before .compute-adaptive-radii in
-    (ground-searched _ (record { before = r .ensures .1; after = r .ensures .2 }) (r .kept .1 .1 .1 .1 .1 .0) (i .1), listed-self _ _ (r .ensures .0))
+    let some = c .before .before .if1 .left in
+    (ground-searched _ (record { before = r .ensures .1; after = r .ensures .2 }) (r .kept .1 .1 .1 .1 .1 .0) (i .1), listed-self _ _ (r .ensures .0), omega arith)
 
 same-length-4 : tie.Need-same-length-4
 same-length-4 c = search needs
@@ -58,21 +54,7 @@ returns-2 : tie.Need-returns-2
 returns-2 c =
     let i = c .before .before .before .before .before .before .before .before .before .before .before .before .before .before .before .before .before .before .before .before .index-points .ensures in
     let r = c .before .before .before .before .before .before .before .before .before .before .before .before .before .compute-adaptive-radii .ensures in
-    finds-laid _ _ _ _ _ _ _ (i .0) (listed-at _ _ _ _ (i .0) (r .0)) (c .before .before .before .before .before .before .before .if1 .left) (c .before .before .before .before .find-pivoting .ensures)
+    finds-laid _ _ _ _ _ _ _ (i .0) (c .before .before .before .before .before .before .before .before .before .before .before .before .before .before .before .before .before .before .before .before .before .before .before .before .before .before .pre .settled) (c .before .before .before .before .before .before .before .before .before .before .before .before .before .before .before .before .before .before .before .before .before .before .before .before .before .before .pre .sized) (listed-at _ _ _ _ (i .0) (r .0)) (c .before .before .before .before .before .before .before .if1 .left) (c .before .before .before .before .find-pivoting .ensures)
 
 pub find-spec : {M : Type 1} → statement M
-find-spec =
-    tie.close
-    (tie.spec
-    index-points-requires
-    compute-adaptive-radii-requires
-    find-plain-requires
-    same-length
-    same-length-2
-    same-length-3
-    returns
-    find-pivoting-requires
-    same-length-4
-    same-length-5
-    same-length-6
-    returns-2)
+find-spec = tie.close (tie.spec index-points-requires compute-adaptive-radii-requires find-plain-requires same-length same-length-2 same-length-3 returns find-pivoting-requires same-length-4 same-length-5 same-length-6 returns-2)

@@ -1,17 +1,32 @@
--- The state that the laying leaves, as it is counted. Assumes nothing.
+-- The state that the laying leaves, as it is counted, and the reason where it has no faces. Assumes nothing.
 use native.Mathlib.Omega.{arith}
 use lib.ListN.{take}
 use Rattle.laying.proofs.Claim.{laid-few}
 use Rattle.ball_pivoting.specs.Reconstruct.{laid}
+use Rattle.ball_pivoting.proofs.Judged.{fresh-after}
 use borrow.Author.Needs.{needs}
 use Rattle.ball_pivoting.proofs.paths.find_pivoting.Statement.{statement}
 use Rattle.ball_pivoting.proofs.paths.find_pivoting.Tie as tie
 
-cast-advanced-ball-pivoting : tie.Need-cast-advanced-ball-pivoting
-cast-advanced-ball-pivoting c = search needs
+cast-count : tie.Need-cast-count
+cast-count c = search needs
 
 advanced-ball-pivoting-requires : tie.Need-advanced-ball-pivoting-requires
 advanced-ball-pivoting-requires c κs = search needs
+
+sub-reason-after : tie.Need-sub-reason-after
+sub-reason-after c = search needs
+
+mul-reason-after : tie.Need-mul-reason-after
+mul-reason-after c = search needs
+
+array-read-reason-after : tie.Need-array-read-reason-after
+array-read-reason-after c = search needs
+
+reason-after-requires : tie.Need-reason-after-requires
+reason-after-requires c κs =
+    let h = c .before .before .before .before .before .advanced-ball-pivoting .ensures in
+    λ z. fresh-after (take (c .before .before .before .before .before .before .before .before .before .before .before .before .before .args .radii .count) (c .before .before .before .before .before .before .before .before .before .before .before .before .before .args .radii .list)) (h .0) (h .1) z
 
 same-length : tie.Need-same-length
 same-length c = search needs
@@ -22,9 +37,9 @@ same-length-2 c = search needs
 returns : tie.Need-returns
 unfolding laid
 returns c =
-    let h = c .before .before .before .before .advanced-ball-pivoting .ensures in
-    let a = c .before .before .before .before .before .before .before .before .before .before .before .before .args in
-    let p = c .before .before .before .before .before .before .before .before .before .before .before .before .pre in
+    let h = c .before .before .before .before .before .before .before .before .advanced-ball-pivoting .ensures .0 in
+    let a = c .before .before .before .before .before .before .before .before .before .before .before .before .before .before .before .before .args in
+    let p = c .before .before .before .before .before .before .before .before .before .before .before .before .before .before .before .before .pre in
     record {
       faces = h .faces-count;
       few = omega (arith, h .faces-count, p .0 .held .few, laid-few (a .scene) (a .points .now) (take (a .radii .count) (a .radii .list)));
@@ -32,15 +47,9 @@ returns c =
       looks = h .looks;
       pivots = h .pivots;
       radii = p .1;
+      reason = c .before .before .reason-after .ensures;
       written-in = h .faces;
     }
 
 pub find-pivoting-spec : {M : Type 1} → statement M
-find-pivoting-spec =
-    tie.close
-    (tie.spec
-    cast-advanced-ball-pivoting
-    advanced-ball-pivoting-requires
-    same-length
-    same-length-2
-    returns)
+find-pivoting-spec = tie.close (tie.spec cast-count advanced-ball-pivoting-requires sub-reason-after mul-reason-after array-read-reason-after reason-after-requires same-length same-length-2 returns)
