@@ -26,8 +26,8 @@ outsidePercentile = 6
 abbrev pub shortWork : ℕ
 shortWork = 7
 
-abbrev pub noTriangle : ℕ
-noTriangle = 8
+abbrev pub tooFewPoints : ℕ
+tooFewPoints = 8
 
 abbrev pub shortFaces : ℕ
 shortFaces = 9
@@ -46,6 +46,12 @@ shortOutput = 13
 
 abbrev pub missingPoint : ℕ
 missingPoint = 14
+
+abbrev pub noneClose : ℕ
+noneClose = 15
+
+abbrev pub allTurnedDown : ℕ
+allTurnedDown = 16
 
 abbrev pub tallyFull : ℕ
 tallyFull = 19
@@ -78,13 +84,15 @@ answers =
     ∷ says outsideSetting "a setting is outside its bounds"
     ∷ says outsidePercentile "the percentile is not within 0 to 1"
     ∷ says shortWork "a work slice is too short"
-    ∷ says noTriangle "no triangle was found"
+    ∷ says tooFewPoints "no triangle was found: there are fewer than three points"
     ∷ says shortFaces "the faces found don't fit the face slice"
     ∷ says badLine "a line of the cloud file is malformed"
     ∷ says noRoom "the file's points don't fit the slices"
     ∷ says badStl "the bytes are no STL file, or not as many as it says"
     ∷ says shortOutput "the output slice is too short"
     ∷ says missingPoint "a face or a number names a point that isn't there"
+    ∷ says noneClose "no triangle was found: no three points lie close enough together"
+    ∷ says allTurnedDown "no triangle was found: all that were judged were turned down"
     ∷ says tallyFull "the tally has 100,000 patches"
     ∷ says badSeasonPatch "the patch's counts can't be entered"
     ∷ says tallyEmpty "the tally is empty"

@@ -15,7 +15,7 @@ pub const PERCENTILE: u32 = 6;
 
 pub const WORK: u32 = 7;
 
-pub const NO_TRIANGLE: u32 = 8;
+pub const TOO_FEW_POINTS: u32 = 8;
 
 pub const FACES: u32 = 9;
 
@@ -28,6 +28,10 @@ pub const BAD_STL: u32 = 12;
 pub const OUTPUT_TOO_SHORT: u32 = 13;
 
 pub const NO_SUCH_POINT: u32 = 14;
+
+pub const NONE_CLOSE: u32 = 15;
+
+pub const ALL_TURNED_DOWN: u32 = 16;
 
 pub const TALLY_FULL: u32 = 19;
 

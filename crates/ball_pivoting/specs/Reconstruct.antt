@@ -6,7 +6,7 @@ use mathlib.Core.List.{List, [], _∷_, _++_}
 use lib.Dec.{eqb, ltb}
 use lib.ListN.{length, replicate}
 use lib.Ieee.{Float}
-use Rattle.answers.specs.Answers.{noTriangle, shortFaces}
+use Rattle.answers.specs.Answers.{tooFewPoints, shortFaces, noneClose, allTurnedDown}
 use Rattle.numbers.specs.Rounded.{f32, _⊗_}
 use Rattle.domain.specs.Refusals.{reconstructRefusal}
 use Rattle.settings.specs.declared.BallPivotingConfig.{BallPivotingConfig}
@@ -84,7 +84,7 @@ judgedAt c pts (r ∷ rs) = any (reachedAt c pts) (r ∷ rs)
 
 -- 8 fewer than three points, 15 no triple close enough to be judged, 16 all that were judged turned down
 unfoldable pub reasonBy : ℕ → Bool → ℕ
-reasonBy n judged = cond (ltb n 3) 8 (cond judged 16 15)
+reasonBy n judged = cond (ltb n 3) tooFewPoints (cond judged allTurnedDown noneClose)
 
 unfoldable pub reason : BallPivotingConfig → List Float → ℕ
 reason c pts = reasonBy (pointCount pts) (judgedAt c pts (radiiOf c pts))

@@ -55,12 +55,12 @@ fn reason_by(n: usize, judged: bool) -> u32
     ensures { λ r. ⌜ r ≡ reasonBy n judged ⌝ }
 {
     if n < 3 {
-        return 8;
+        return answers::TOO_FEW_POINTS;
     }
     if judged {
-        return 16;
+        return answers::ALL_TURNED_DOWN;
     }
-    15
+    answers::NONE_CLOSE
 }
 
 // The same after a laying. It is asked only where no face was laid, and at the largest radius, which decides for all.

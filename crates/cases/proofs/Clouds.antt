@@ -221,5 +221,22 @@ pub record CloudCases : Type 0 where
 
 pub cloud-cases : CloudCases
 unfolding trailingZeros span climb size odd units round neg sum add sub mul div lt eq le ne ofInt toUnsigned isNan ofFields ofBits toBits R abs cleared acosMiddle acosLow acosHigh acosInside acos ceil minimum maximum clamp isqrt nearestRoot rootOfUnits root area radiusOf circumradius angle least largest aspectRatio edgeRatio score measures degenerate quality sourceAcceptable acceptable difference magnitudeSquared magnitude cross squared distance pointAt upFrom insertBefore place insertAll percentileOf inside leading firstOutside listInside firstRefusal firstBadPoint roomy reconstructRefusal firstFailing settingTests firstBadSetting defaults leastFrom boundsMin cellOn cellOf before precedes byCell orderOf within inRange rangeOf keep neighbors distancesTo total average nearOf nearest densitiesFrom spaced dedup candidates radiiAt adaptiveRadii any sift afterPop same push marked withFace cleared-patch seeded popped met pivoted judged look next run begun layOne layAll patch isSecond isThird thirdOf secondOf firstOf scoreOf bestOf searching apart qualityAt isClose accepts middle around pivotable scoreAt completes floatsOf candidate candidates-plain sound valid facesOver facesAt facesOf plainFaces indexOf sceneOf radiiOf laidOf laid plainly foundAt found acceptAll reaches paired plainReached reachedAt judgedAt reasonBy reason slots refused accepted delivered reconstructed swept facesAfter
-cloud-cases = record { listing = (refl, refl); two-points = (refl, refl); two-radii = (refl, refl); two-seeds = (refl, refl); pivots = (refl, refl); unindexed = (refl, refl); plain = (refl, refl);
-  few = refl; few-plain = refl; at-reach = refl; beyond = refl; at-half = refl; plain-between = refl; plain-beyond = refl; plain-first = refl; between = refl; no-neighbours = refl }
+cloud-cases = record {
+  listing = (refl, refl);
+  two-points = (refl, refl);
+  two-radii = (refl, refl);
+  two-seeds = (refl, refl);
+  pivots = (refl, refl);
+  unindexed = (refl, refl);
+  plain = (refl, refl);
+  few = refl;
+  few-plain = refl;
+  at-reach = refl;
+  beyond = refl;
+  at-half = refl;
+  plain-between = refl;
+  plain-beyond = refl;
+  plain-first = refl;
+  between = refl;
+  no-neighbours = refl;
+}

@@ -28,13 +28,15 @@ find-second-requires c κs =
     let a = c .before .before .before .before .before .before .before .before .before .args in
     let p = c .before .before .before .before .before .before .before .before .before .pre in
     let g = c .before .before .before .gather-near in
-    let h = held-kept (g .last .1 .1 .0) (p .0 .held) (g .kept .1 .1 .0) in
-    (record {
-    held = h;
-    cells = cells-kept (a .s .grid) (a .points .now) (a .s .n) (a .w .now) (g .last .1 .1 .0) (p .0 .cells) (g .ensures .kept .before);
-    inside = p .1;
-    filters = subst (λ (q : Point3f). Filters (a .s) q q (reach (a .radius)) (c .before .before .before .before .before .filter-of .result)) (c .before .before .before .before .before .before .point-at .ensures) (c .before .before .before .before .before .filter-of .ensures);
-    }, collected-listed (h .work-long) (g .ensures))
+    let h = held-kept (g .last .1 .1 .0) (p .0 .held) (g .kept .1 .1 .0) in (
+      record {
+        held = h;
+        cells = cells-kept (a .s .grid) (a .points .now) (a .s .n) (a .w .now) (g .last .1 .1 .0) (p .0 .cells) (g .ensures .kept .before);
+        inside = p .1;
+        filters = subst (λ (q : Point3f). Filters (a .s) q q (reach (a .radius)) (c .before .before .before .before .before .filter-of .result)) (c .before .before .before .before .before .before .point-at .ensures) (c .before .before .before .before .before .filter-of .ensures);
+      },
+      collected-listed (h .work-long) (g .ensures),
+    )
 
 same-length : tie.Need-same-length
 same-length c = search needs
