@@ -9,17 +9,15 @@ use lib.Ieee.{Float, lt, le, ofBits}
 use lib.Ieee.Bits.{is-true}
 use Rattle.numbers.specs.Rounded.{f32}
 use Rattle.numbers.proofs.OrderLaws.{le-lt-trans}
-use Rattle.vector.specs.Vector.{distance}
 use Rattle.vector.specs.declared.Point3f.{Point3f}
 use Rattle.quality.specs.Measures.{tiny, degenerate}
 use Rattle.quality.specs.declared.TriangleQuality.{TriangleQuality}
-use Rattle.quality.proofs.Shapes.{shape-area, quality-area}
 use Rattle.triangle.specs.Quality.{area, quality, isZero, acceptable}
-use Rattle.triangle.proofs.Quality.{quality-is}
 use Rattle.points.specs.Points.{pointAt}
 use Rattle.patch.specs.Lay.{Edge, face}
 use Rattle.decisions.specs.Decisions.{reach, apart, qualityAt, isClose, middle, around, pivotable, accepts, scoreAt, floatsOf}
 use Rattle.decisions.specs.Found.{areaAt}
+use Rattle.decisions.proofs.Completed.{area-at}
 use Rattle.decisions.specs.declared.Scene.{Scene}
 use Rattle.amending.specs.Amending.{pivotFace, amend, LowScores}
 use Rattle.arealess.specs.Source.{sourceAccepts, sourceScore, sourceFloats}
@@ -27,14 +25,6 @@ use Rattle.arealess.specs.Arealess.{areaZero}
 
 -- ---- a triangle's measures
 module _ (p1 p2 p3 : Point3f) where
-  own-area : quality p1 p2 p3 .area ≡ area p1 p2 p3
-  own-area =
-      let a = distance p2 p1 in
-      let b = distance p3 p2 in
-      let c = distance p1 p3 in
-      let s = area p1 p2 p3 in
-      ap (λ (q : TriangleQuality). q .area) (sym (quality-is p1 p2 p3)) ∙ quality-area a b c s ∙ shape-area a b c s
-
   -- below 1e-10 the score is 0
   small-score : lt (area p1 p2 p3) tiny ≡ true → quality p1 p2 p3 .«quality_score» ≡ f32 0
   unfolding quality degenerate
@@ -62,8 +52,8 @@ zero-small x h = is-true (lt x tiny) (le-lt-trans x (f32 0) tiny (zero-le x h) z
 -- ---- the floats
 module _ (s : Scene) (pts : List Float) where
   same-area : (i j k : ℕ) → isZero (qualityAt pts i j k .area) ≡ areaZero pts (face i j k)
-  unfolding qualityAt areaZero areaAt
-  same-area i j k = ap isZero (own-area (pointAt pts i) (pointAt pts j) (pointAt pts k))
+  unfolding areaZero
+  same-area i j k = ap isZero (area-at pts i j k)
 
   accepts-amended : (r : Float) (i j k : ℕ) → accepts s r (qualityAt pts i j k) ≡ (not (areaZero pts (face i j k)) && sourceAccepts s r (qualityAt pts i j k))
   unfolding accepts acceptable sourceAccepts

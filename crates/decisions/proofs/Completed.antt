@@ -13,7 +13,7 @@ use Rattle.score_bounds.specs.Bound.{scoreBound}
 use Rattle.quality.specs.declared.Shape.{Shape}
 use Rattle.quality.specs.declared.TriangleQuality.{TriangleQuality}
 use Rattle.vector.proofs.Distances.{distance-turned}
-use Rattle.quality.proofs.Shapes.{quality-area, quality-edges}
+use Rattle.quality.proofs.Shapes.{shape-area, quality-area, quality-edges}
 use Rattle.triangle.proofs.Quality.{quality-is}
 use Rattle.triangle.proofs.Acceptance.{low-refused, edges-refused}
 use Rattle.score_bounds.proofs.Aspect.{bound-low}
@@ -29,6 +29,14 @@ unfolding qualityAt areaAt apart
 quality-at pts i j k =
     ap (λ (b : Float). qualityOf (distance (pointAt pts j) (pointAt pts i)) b (distance (pointAt pts i) (pointAt pts k)) (area (pointAt pts i) (pointAt pts j) (pointAt pts k))) (distance-turned (pointAt pts j) (pointAt pts k))
     ∙ quality-is (pointAt pts i) (pointAt pts j) (pointAt pts k)
+
+pub area-at : (pts : List Float) (i j k : ℕ) → qualityAt pts i j k .area ≡ areaAt pts i j k
+area-at pts i j k =
+    let a = apart pts j i in
+    let b = apart pts j k in
+    let c = apart pts i k in
+    let s = areaAt pts i j k in
+    ap (λ (q : TriangleQuality). q .area) (sym (quality-at pts i j k)) ∙ quality-area a b c s ∙ shape-area a b c s
 
 module _ (s : Scene) (pts : List Float) (r : Float) (i j k : ℕ) {area : Float} (e : area ≡ areaAt pts i j k) where
   pub accepted-at : {side toJ toI : Float} {q : TriangleQuality} {t : Bool} → side ≡ apart pts j i → toJ ≡ apart pts j k → toI ≡ apart pts i k → qualityOf side toJ toI area ≡ q → t ≡ accepts s r q → t ≡ accepts s r (qualityAt pts i j k)

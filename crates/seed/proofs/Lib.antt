@@ -8,3 +8,4 @@ pub mod Nothing
 pub mod Measured
 pub mod Threes
 pub mod Larger
+pub mod WithArea

@@ -1,9 +1,13 @@
 -- The definition's answers as the code gives them, and parts of the search for a seed. Definitions only.
 use Prim.Native.Nat.{ℕ}
+use mathlib.Core.Path.{_≡_}
 use mathlib.Core.Bool.{true, false}
 use mathlib.Core.List.{List}
 use mathlib.Core.Option.{Option, none, some}
+use lib.Ieee.{Float}
+use Rattle.triangle.specs.Quality.{isZero}
 use Rattle.patch.specs.Search.{Floats, isSecond, thirdOf, secondOf}
+use Rattle.decisions.specs.Found.{areaAt}
 use Rattle.seed.specs.declared.Seed.{Seed}
 use Rattle.seed.specs.declared.Seed.the-variants.{Triangle, Nothing}
 
@@ -21,3 +25,8 @@ module _ {R : Type 0} (floats : Floats R) (r : R) (used : List ℕ) where
   -- the seed with i as the first point
   unfoldable pub withFirst : ℕ → Option (ℕ × ℕ × ℕ)
   withFirst i = secondOf floats r used i (floats .near r i) (floats .near r i)
+
+-- the computed area of a seed's triangle, in its own order, is not exactly zero
+abbrev pub WithArea : List Float → Seed → Type 0
+WithArea pts (Triangle i j k) = isZero (areaAt pts i j k) ≡ false
+WithArea pts Nothing = Unit {0}

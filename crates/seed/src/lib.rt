@@ -16,7 +16,7 @@ ghost use Rattle.nearby.specs.Ready.{Held, usedIn, Kept};
 ghost use mathlib.Core.Option.{none};
 ghost use Rattle.seed.specs.Known.{Known, Number, Growing, NothingTo};
 ghost use Rattle.seed.specs.declared.Seed.the-variants.{Nothing};
-ghost use Rattle.seed.specs.Found.{seedFound};
+ghost use Rattle.seed.specs.Found.{seedFound, WithArea};
 
 pub enum Seed {
     Triangle(usize, usize, usize),
@@ -29,7 +29,7 @@ pub struct Search {
     pub purse: usize,
 }
 
-// The first triangle of unused points at a radius that is acceptable, in the order of their numbers and neighbours. It may be known that there is none.
+// The first triangle of unused points at a radius that is acceptable, in the order of their numbers and neighbours; it is never without area. It may be known that there is none.
 pub fn find_seed_triangle(
     s: Scene,
     points: &[f32],
@@ -40,7 +40,8 @@ pub fn find_seed_triangle(
 ) -> Search
     requires { ⌜ Held s (now points) (now w) × Indexed (s .grid) (now points) (s .n) (now w) × Hashed hash (now points) (s .n) (now w)
         × (known ≡ true → searching (floatsOf s (now points)) (s .n) .seedOf radius (usedIn s (now w)) ≡ none) ⌝ }
-    ensures { λ r. ⌜ (r .seed ≡ seedFound (searching (floatsOf s (now (points .entry))) (s .n) .seedOf radius (usedIn s (now (w .entry))))) × Kept s (now (w .entry)) (now (w .exit)) ⌝ }
+    ensures { λ r. ⌜ (r .seed ≡ seedFound (searching (floatsOf s (now (points .entry))) (s .n) .seedOf radius (usedIn s (now (w .entry))))) × Kept s (now (w .entry)) (now (w .exit))
+        × WithArea (now (points .entry)) (r .seed) ⌝ }
 {
     if known {
         return nothing_found(0);

@@ -149,9 +149,9 @@ fn races(random: &mut Random) -> Vec<Race> {
     races
 }
 
-/// Clouds without area, with thresholds of zero: the port alone has to refuse them in under 20 ms. The Rust lays a triangle
+/// `bench area`, and rows of `bench clouds`: clouds without area, with thresholds of zero: the port alone has to refuse them in under 20 ms. The Rust lays a triangle
 /// without area there, and the amended one looks at each three points.
-fn without_area() -> bool {
+pub fn without_area() -> bool {
     let plain = Settings { quality_threshold: 0.0, min_triangle_area: 0.0, ..Settings::at_radius(1.0) };
     let wide = Settings { radius: 1_000.0, ..plain };
     let line: Vec<f32> = (0..4_096u16).flat_map(|i| [f32::from(i), 0.0, 0.0]).collect();

@@ -15,12 +15,13 @@ fn main() {
     let reached = match std::env::args().nth(1).as_deref() {
         None => numbers::bench(),
         Some("clouds") => clouds::bench(),
+        Some("area") => clouds::without_area(),
         Some("files") => files::bench(),
         Some("slow") => slow::bench(),
         Some("alone") => slow::alone(),
         Some("hunt") => slow::hunt(),
         Some(other) => panic!(
-            "bench {other}: there are only `bench`, `bench clouds`, `bench files`, `bench slow`, `bench alone` and `bench hunt`"
+            "bench {other}: there are only `bench`, `bench clouds`, `bench area`, `bench files`, `bench slow`, `bench alone` and `bench hunt`"
         ),
     };
     std::process::exit(i32::from(!reached));

@@ -5,6 +5,7 @@ use Rattle.nearby.specs.Ready.{usedIn}
 use Rattle.nearby.proofs.Keeping.{kept-self}
 use Rattle.seed.specs.Found.{seedFound}
 use Rattle.seed.proofs.Nothing.{hopeless-nothing}
+use Rattle.seed.proofs.WithArea.{seed-area}
 use borrow.Author.Needs.{needs}
 use Rattle.seed.proofs.find_seed_triangle.Statement.{statement}
 use Rattle.seed.proofs.find_seed_triangle.Tie as tie
@@ -13,7 +14,10 @@ nothing-found-requires : tie.Need-nothing-found-requires
 nothing-found-requires c κs = search needs
 
 returns : tie.Need-returns
-returns c = let x = c .before .before .before .before .args in (c .nothing-found .ensures ∙ sym (ap seedFound (c .before .before .before .before .pre .3 (c .before .if1 .taken))), kept-self (x .s) (x .w .now))
+returns c =
+    let x = c .before .before .before .before .args in
+    let e = c .nothing-found .ensures ∙ sym (ap seedFound (c .before .before .before .before .pre .3 (c .before .if1 .taken))) in
+    (e, kept-self (x .s) (x .w .now), seed-area (x .s) (x .points .now) (x .radius) (usedIn (x .s) (x .w .now)) e)
 
 is-hopeless-requires : tie.Need-is-hopeless-requires
 is-hopeless-requires c κs = search needs
@@ -24,8 +28,12 @@ nothing-found-requires-2 c κs = search needs
 returns-2 : tie.Need-returns-2
 unfolding searching
 returns-2 c =
-    let x = c .before .before .before .before .before .before .args in
-    (c .nothing-found2 .ensures ∙ sym (ap seedFound (hopeless-nothing (x .s) (x .points .now) (x .radius) (usedIn (x .s) (x .w .now)) 1000 (c .before .before .before .before .before .before .pre .2 .linked .ready .numbers) (c .before .before .is-hopeless .ensures (c .before .if2 .taken)))), kept-self (x .s) (x .w .now))
+    let b = c .before .before .before .before .before .before in
+    let x = b .args in
+    let used = usedIn (x .s) (x .w .now) in
+    let h = hopeless-nothing (x .s) (x .points .now) (x .radius) used 1000 (b .pre .2 .linked .ready .numbers) (c .before .before .is-hopeless .ensures (c .before .if2 .taken)) in
+    let e = c .nothing-found2 .ensures ∙ sym (ap seedFound h) in
+    (e, kept-self (x .s) (x .w .now), seed-area (x .s) (x .points .now) (x .radius) used e)
 
 limits-of-requires : tie.Need-limits-of-requires
 limits-of-requires c κs = search needs
@@ -38,7 +46,10 @@ same-length c = search needs
 
 returns-3 : tie.Need-returns-3
 unfolding searching
-returns-3 c = c .before .before .find-from .ensures
+returns-3 c =
+    let x = c .before .before .before .before .before .before .before .before .before .before .args in
+    let f = c .before .before .find-from .ensures in
+    (f .0, f .1, seed-area (x .s) (x .points .now) (x .radius) (usedIn (x .s) (x .w .now)) (f .0))
 
 pub find-seed-triangle-spec : {M : Type 1} → statement M
 find-seed-triangle-spec = tie.close (tie.spec nothing-found-requires returns is-hopeless-requires nothing-found-requires-2 returns-2 limits-of-requires find-from-requires same-length returns-3)
