@@ -1,6 +1,7 @@
 -- Laws about the definitions of specs/, which the functions' proofs cite.
 pub mod Bytes
 pub mod Numeral
+pub mod Bare
 pub mod Closest
 pub mod Nearest
 pub mod Quotient

@@ -1,6 +1,6 @@
 -- Laws of a number at a place of the bytes, as the code meets its parts. Assumes nothing.
-use mathlib.Core.Path.{_≡_, sym, ap, _∙_}
-use mathlib.Core.Bool.{Bool, true, false}
+use mathlib.Core.Path.{_≡_, refl, sym, ap, _∙_}
+use mathlib.Core.Bool.{Bool, true, false, cond}
 use mathlib.Core.List.{List}
 use Prim.Native.Nat.{ℕ, _+_, _-_, _^_, _≤_, _<_}
 use native.Mathlib.Omega.{arith}
@@ -62,10 +62,16 @@ module _ (s : List ℕ) (at : ℕ) (negative : Bool) where
     magnitude-read units p e u d = let n = found-count s at end found in rw (found-rest s at end found, ← n, e, ← u) d
 
 -- ---- the sign
-pub number-negative : (s : List ℕ) (at : ℕ) (p : Parsed Float) → startsWith 45 (drop at s) ≡ true → p ≡ magnitude true (drop (at + 1) s) → p ≡ number (drop at s)
-unfolding number
-number-negative s at p minus e = rw (minus, drop-drop 1 at s) e
+module _ (s : List ℕ) (at : ℕ) where
+  -- a number is what stands behind the minus, if there is one
+  pub number-start : number (drop at s) ≡ magnitude (startsWith 45 (drop at s)) (drop (cond (startsWith 45 (drop at s)) (at + 1) at) s)
+  unfolding number
+  number-start = go (startsWith 45 (drop at s))
+    where
+      go : (t : Bool) → cond t (magnitude true (drop 1 (drop at s))) (magnitude false (drop at s)) ≡ magnitude t (drop (cond t (at + 1) at) s)
+      go true = ap (magnitude true) (drop-drop 1 at s)
+      go false = refl
 
-pub number-plain : (s : List ℕ) (at : ℕ) (p : Parsed Float) → startsWith 45 (drop at s) ≡ false → p ≡ magnitude false (drop at s) → p ≡ number (drop at s)
-unfolding number
-number-plain s at p none e = rw none e
+  pub number-signed : (start : ℕ) (negative : Bool) (p : Parsed Float) → start ≡ cond (startsWith 45 (drop at s)) (at + 1) at → negative ≡ startsWith 45 (drop at s)
+      → p ≡ magnitude negative (drop start s) → p ≡ number (drop at s)
+  number-signed start negative p e n h = rw (number-start, ← e, ← n) h

@@ -1,10 +1,10 @@
 -- What the inner functions require, and promise to each other.
-use Prim.Native.Nat.{ℕ, _-_, _*_, _^_, _≤_, _<_}
+use Prim.Native.Nat.{ℕ, zero, suc, _-_, _*_, _^_, _≤_, _<_}
 use mathlib.Core.Path.{_≡_}
 use mathlib.Core.List.{List, map}
 use lib.ListN.{length, drop}
 use lib.Ieee.{Float}
-use Rattle.cloud.specs.Format.{digits, body, Lines, good, wrong}
+use Rattle.cloud.specs.Format.{Parsed, parsed, malformed, digits, body, Lines, good, wrong}
 use Rattle.cloud.specs.Answers.{flat, over}
 use Rattle.cloud.specs.declared.line.Triple.{Triple}
 use Rattle.cloud.specs.declared.line.Point.{Point}
@@ -63,3 +63,14 @@ tripleEnd TripleRead.Malformed = 0
 unfoldable pub pointEnd : PointRead → ℕ
 pointEnd (PointRead.Line point next) = next
 pointEnd PointRead.Malformed = 0
+
+-- ---- the first pass, which works out no number
+-- what was parsed, without its value
+unfoldable pub bare : {A : Type 0} → Parsed A → Parsed Unit
+bare (parsed a rest) = parsed tt rest
+bare malformed = malformed
+
+-- a place behind something stands for the bytes s from there on; 0, which is behind nothing, for none of its kind
+unfoldable pub skipMeans : List ℕ → ℕ → Parsed Unit
+skipMeans s zero = malformed
+skipMeans s (suc n) = parsed tt (drop (suc n) s)

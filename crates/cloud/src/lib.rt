@@ -6,6 +6,7 @@ mod number;
 mod point_lines;
 pub mod reader;
 mod rounding;
+mod skipping;
 
 pub use line::Point;
 pub use line::PointRead;

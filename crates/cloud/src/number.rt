@@ -1,5 +1,6 @@
 // One number of the file: an optional minus, 1 to 5 digits, and optionally a point and 1 to 6 digits.
 ghost use mathlib.Core.Path.{_≡_};
+ghost use mathlib.Core.Bool.{cond};
 ghost use Prim.Native.Nat.{_+_, _-_, _^_, _≤_, _<_};
 ghost use lib.ListN.{take, drop};
 ghost use Rattle.cloud.specs.Format.{startsWith, startsDigit, digits, few, whole, fraction, magnitude, number};
@@ -31,7 +32,7 @@ fn is_digit(s: &[u8], at: usize) -> bool
 }
 
 // The place after the digits that start at a place.
-fn digits_end(s: &[u8], at: usize) -> usize
+pub fn digits_end(s: &[u8], at: usize) -> usize
     ensures { λ r. ⌜ r ≡ at + digits (drop at (now (s .entry))) ⌝ }
 {
     let mut i = at;
@@ -42,7 +43,7 @@ fn digits_end(s: &[u8], at: usize) -> usize
 }
 
 // Whether there are 1 to most digits.
-fn is_few(count: usize, most: usize) -> bool
+pub fn is_few(count: usize, most: usize) -> bool
     ensures { λ r. ⌜ r ≡ few count most ⌝ }
 {
     if 1 <= count { count <= most } else { false }
@@ -103,12 +104,15 @@ fn magnitude_at(s: &[u8], at: usize, negative: bool) -> NumberRead
     }
 }
 
+// The place behind a minus, or the place itself where there is none.
+pub fn behind_minus(s: &[u8], at: usize) -> usize
+    ensures { λ r. ⌜ r ≡ cond (startsWith 45 (drop at (now (s .entry)))) (at + 1) at ⌝ }
+{
+    if byte_is(s, at, b'-') { at + 1 } else { at }
+}
+
 pub fn number_at(s: &[u8], at: usize) -> NumberRead
     ensures { λ r. ⌜ numberMeans (now (s .entry)) r ≡ number (drop at (now (s .entry))) ⌝ }
 {
-    if byte_is(s, at, b'-') {
-        magnitude_at(s, at + 1, true)
-    } else {
-        magnitude_at(s, at, false)
-    }
+    magnitude_at(s, behind_minus(s, at), byte_is(s, at, b'-'))
 }

@@ -1,4 +1,4 @@
-// The points' lines: counted first, and stored once it is known that all are well formed and fit.
+// The points' lines: counted first, with no number worked out, and stored once it is known that all are well formed and fit.
 ghost use mathlib.Core.Path.{_≡_};
 ghost use mathlib.Core.List.{_++_};
 ghost use Prim.Native.Nat.{_+_, _≤_};
@@ -6,12 +6,10 @@ ghost use lib.ListN.{length, take, drop};
 ghost use Rattle.cloud.specs.Format.{body};
 ghost use Rattle.cloud.specs.Answers.{counted, numbersOf};
 ghost use Rattle.cloud.specs.Ready.{Fitting, laid};
-use crate::line::Point;
-use crate::line::PointRead;
 use crate::line::Triple;
-use crate::line::point_at;
 use crate::reader::LineRead;
 use crate::reader::line_of;
+use crate::skipping::skip_point;
 
 // How many lines there are, or the number of the first malformed one, from 1.
 pub enum Counted {
@@ -25,15 +23,12 @@ pub fn count_points(s: &[u8], from: usize) -> Counted
     let mut count: usize = 0;
     let mut at = from;
     while at < s.len() {
-        match point_at(s, at) {
-            PointRead::Line { point: _, next } => {
-                count += 1;
-                at = next;
-            }
-            PointRead::Malformed => {
-                return Counted::Malformed { line: count + 1 };
-            }
+        let next = skip_point(s, at);
+        if next == 0 {
+            return Counted::Malformed { line: count + 1 };
         }
+        count += 1;
+        at = next;
     }
     Counted::Lines { count }
 }
