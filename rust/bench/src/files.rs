@@ -7,11 +7,22 @@ use std::hint::black_box;
 
 const POINTS: usize = 4_096;
 
-/// A wall's file: its points, that many times as large, with one number of places throughout.
-fn file(scale: f64, places: usize) -> Vec<u8> {
+/// The points of a file: a wall's, or any.
+#[derive(Clone, Copy, Debug)]
+enum Points {
+    Wall,
+    Random,
+}
+
+/// A file of points, that many times as large, with one number of places throughout.
+fn file(points: Points, scale: f64, places: usize) -> Vec<u8> {
     let random = &mut Random::new(1, 0);
+    let coordinates = match points {
+        Points::Wall => clouds::wall(random, 128, 32, 0.2).points,
+        Points::Random => (0..3 * POINTS).map(|_| random.within(-1.0, 1.0) as f32).collect(),
+    };
     let mut text = format!("{:.places$}\n", 0.5 * scale);
-    for point in clouds::wall(random, 128, 32, 0.2).points.chunks(3) {
+    for point in coordinates.chunks(3) {
         let position = point.iter().map(|x| format!("{:.places$},", f64::from(*x) * scale));
         let normal: Vec<String> = (0..3).map(|_| format!("{:.places$}", random.within(-1.0, 1.0))).collect();
         text.extend(position);
@@ -34,8 +45,8 @@ fn by_rust(bytes: &[u8], points: &mut [f32], normals: &mut [f32]) -> Option<f32>
     Some(radius)
 }
 
-fn read(scale: f64, places: usize) -> bool {
-    let bytes = file(scale, places);
+fn read(kind: Points, scale: f64, places: usize) -> bool {
+    let bytes = file(kind, scale, places);
     let [mut points, mut normals, mut other, mut another] = [(); 4].map(|()| vec![0.0f32; 3 * POINTS]);
     let found = port::read_cloud(&bytes, &mut points, &mut normals);
     let radius = by_rust(&bytes, &mut other, &mut another);
@@ -45,11 +56,12 @@ fn read(scale: f64, places: usize) -> bool {
         || _ = black_box(port::read_cloud(black_box(&bytes), &mut points, &mut normals)),
         || _ = black_box(by_rust(black_box(&bytes), &mut other, &mut another)),
     );
-    judge(&format!("a point of a cloud file, {places} places, up to {scale}"), times, 1.0)
+    judge(&format!("a point of a cloud file, {kind:?}, {places} places, up to {scale}"), times, 1.0)
 }
 
 pub fn bench() -> bool {
-    [(1.0, 6), (1_000.0, 3), (1_000.0, 6)]
+    let rows = [Points::Wall, Points::Random]
         .into_iter()
-        .fold(true, |reached, (scale, places)| read(scale, places) && reached)
+        .flat_map(|kind| [(kind, 1.0, 6), (kind, 1_000.0, 3), (kind, 1_000.0, 6)]);
+    rows.fold(true, |reached, (kind, scale, places)| read(kind, scale, places) && reached)
 }
