@@ -49,8 +49,8 @@ module _ (points normals : List Float) (c : BallPivotingConfig) (faces words : L
   pub faces-inside : p .answer ≡ 0 → 3 * p .faces ≤ length faces'
   faces-inside z = omega (arith, accepts z .1 .0, accepts z .1 .1, ap length (faces-are z), length-written (found c points .faces) faces)
 
-  front : p .answer ≡ 0 → take (3 * p .faces) faces' ≡ view.flat (found c points .faces)
-  front z =
+  pub faces-front : p .answer ≡ 0 → take (3 * p .faces) faces' ≡ view.flat (found c points .faces)
+  faces-front z =
       let a = accepts z .1 in
       ap (λ (k : ℕ). take (3 * k) faces') (a .0) ∙ ap (take (3 * length (found c points .faces))) (faces-are z) ∙ written-front (found c points .faces) faces (a .1)
 
@@ -58,7 +58,7 @@ module _ (points normals : List Float) (c : BallPivotingConfig) (faces words : L
   pub listed-front : p .answer ≡ 0 → listed (countsOf (length points / 3) p) (take (3 * p .faces) faces') ≡ patchText (length points / 3) p (found c points)
   unfolding listed patchText
   listed-front z =
-      let e = front z in
+      let e = faces-front z in
       let a = accepts z .1 in
       let long : 3 * p .faces ≤ length (view.flat (found c points .faces)) = omega (arith, a .0, length-flat (found c points .faces)) in
       rw (e, eq-eqb (p .answer) 0 z, le-leb (3 * p .faces) (length (view.flat (found c points .faces))) long)

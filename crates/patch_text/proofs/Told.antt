@@ -77,7 +77,7 @@ module _ (bytes : List ℕ) (points normals : List Float) (faces words floats : 
         ∙ short-text short
 
     -- the points that were read
-    read : r .answer ≡ 0 → (ps : List Point) × (outcome bytes (length points) (length normals) ≡ accepted (told (outcome bytes (length points) (length normals)) .radius) ps)
+    pub read : r .answer ≡ 0 → (ps : List Point) × (outcome bytes (length points) (length normals) ≡ accepted (told (outcome bytes (length points) (length normals)) .radius) ps)
     read z = outcome-accepted bytes (length points) (length normals) (sym (ap (λ (q : CloudRead). q .answer) (h .answer)) ∙ z)
 
     told-count : (o : Outcome) (radius : Float) (ps : List Point) → o ≡ accepted radius ps → told o .count ≡ length ps
@@ -100,7 +100,7 @@ module _ (bytes : List ℕ) (points normals : List Float) (faces words floats : 
     pub normals-inside : r .answer ≡ 0 → 3 * r .count ≤ length normals'
     normals-inside z = inside (λ p. p .normal) normals normals' z (h .normals-hold)
 
-    front : (part : Point → Triple) (old new : List Float) (z : r .answer ≡ 0) → new ≡ after part (outcome bytes (length points) (length normals)) old → take (3 * r .count) new ≡ flat (map part (read z .0))
+    pub front : (part : Point → Triple) (old new : List Float) (z : r .answer ≡ 0) → new ≡ after part (outcome bytes (length points) (length normals)) old → take (3 * r .count) new ≡ flat (map part (read z .0))
     front part old new z e =
         ap (λ (k : ℕ). take (3 * k) new) (counted z) ∙ ap (take (3 * length (read z .0))) (held part old new z e) ∙ over-front part (read z .0) old
 

@@ -7,7 +7,7 @@ use Rattle.lay.proofs.main.Tie as tie
 use Rattle.lay.proofs.main.Reads as reads
 use Rattle.lay.proofs.main.Lts as lts
 use Rattle.lay.proofs.print_patch.Reads as print-patch-reads
-use Rattle.lay.proofs.read_all.Reads as read-all-reads
+use Rattle.reading.proofs.read_all.Reads as read-all-reads
 
 -- src/main.rt:89:22
 slice-aggregate-read-all : tie.Need-slice-aggregate-read-all

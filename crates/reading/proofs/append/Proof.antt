@@ -4,8 +4,8 @@ use mathlib.Core.Path.{_≡_}
 use lib.ListN.{length, length-set}
 use native.Mathlib.Omega.{arith}
 use borrow.Author.Needs.{needs}
-use Rattle.lay.proofs.append.Statement.{statement}
-use Rattle.lay.proofs.append.Tie as tie
+use Rattle.reading.proofs.append.Statement.{statement}
+use Rattle.reading.proofs.append.Tie as tie
 
 abbrev Inv-loop : tie.InvT-loop
 Inv-loop input₀ at bytes next₀ i₀ input next i = (i ≤ length bytes) × ((length input ≡ length input₀) × (next ≤ length input₀))

@@ -3,8 +3,8 @@ use Prim.Native.Nat.{_≤_}
 use mathlib.Core.Path.{_≡_}
 use lib.ListN.{length}
 use borrow.Author.Needs.{needs}
-use Rattle.lay.proofs.read_all.Statement.{statement}
-use Rattle.lay.proofs.read_all.Tie as tie
+use Rattle.reading.proofs.read_all.Statement.{statement}
+use Rattle.reading.proofs.read_all.Tie as tie
 
 abbrev Inv-loop : tie.InvT-loop
 Inv-loop input₀ p₀ turns₀ input p turns = (length input ≡ length input₀) × (p .length ≤ length input₀)

@@ -1,0 +1,2 @@
+-- Laws about the definitions of specs/, which the functions' proofs cite.
+pub mod Outputs
