@@ -149,8 +149,8 @@ fn races(random: &mut Random) -> Vec<Race> {
     races
 }
 
-/// `bench area`, and rows of `bench clouds`: clouds without area, with thresholds of zero: the port alone has to refuse them in under 20 ms. The Rust lays a triangle
-/// without area there, and the amended one looks at each three points.
+/// `bench area`, and rows of `bench clouds`: clouds without area and thresholds of zero, which the port has to refuse in
+/// under 20 ms. It is timed alone: the Rust lays a triangle without area there, and the amended one tries each triple.
 pub fn without_area() -> bool {
     let plain = Settings { quality_threshold: 0.0, min_triangle_area: 0.0, ..Settings::at_radius(1.0) };
     let wide = Settings { radius: 1_000.0, ..plain };

@@ -2,7 +2,7 @@
 //!
 //! `bench` times the root and a triangle's quality, `bench clouds` whole calls over clouds of a fixed seed, the families of
 //! slow clouds among them, which `bench slow [NAME] [POINTS]` times alone. `bench hunt SECONDS SEED` looks for clouds on which
-//! the port is slower than the Rust. `bench files` times the reading of cloud files. Both sides are called in turn, and the best of their rounds counts. It fails where a ratio
+//! the port is slower than the Rust. `bench files` times the reading of cloud files, `bench area` the refusal of clouds without area. Both sides are called in turn, and the best of their rounds counts. It fails where a ratio
 //! that is to be reached is not. `bench alone NAME POINTS` times the port on a family without the Rust.
 
 mod clock;

@@ -416,8 +416,8 @@ pub fn compute_triangle_quality(c: &[f32; 9]) -> TriangleQuality {
     unsafe { linked::yb_compute_triangle_quality(c[0], c[1], c[2], c[3], c[4], c[5], c[6], c[7], c[8]) }
 }
 
-/// Whether a triangle with these measures is laid at this radius, under these three settings. An area of exactly zero, of either
-/// sign, is turned down under every setting.
+/// Whether a triangle with these measures is laid at this radius, under these three settings. An area of exactly zero,
+/// of either sign, is turned down under every setting.
 pub fn is_triangle_acceptable(
     quality: TriangleQuality,
     radius: f32,
