@@ -7,6 +7,7 @@ use mathlib.Core.List.{List, map, _++_}
 use lib.Dec.{ltb, eqb}
 use lib.ListN.{length, drop}
 use lib.Ieee.{Float}
+use Rattle.answers.specs.Answers.{noRoom}
 use Rattle.settings.specs.Settings.{defaults}
 use Rattle.patch.specs.View as patch
 use Rattle.ball_pivoting.specs.Reconstruct.{Found, found, reconstructed}
@@ -59,7 +60,7 @@ outcomeOutput (cloud.refused answer detail) faces words floats room = refusedWit
 unfoldable pub fileOutput : List ℕ → ℕ → ℕ → ℕ → ℕ → ℕ → ℕ → Output
 unfolding outcomeOutput
 fileOutput bytes points normals faces words floats room =
-    cond (ltb 65536 (length bytes)) (refusedWith 11 0)
+    cond (ltb 65536 (length bytes)) (refusedWith noRoom 0)
     (outcomeOutput (cloud.outcome bytes points normals) faces words floats room)
 
 -- the program: room for 512 points and 5,000 faces, work slices for so many points, and a file of 5,000 facets

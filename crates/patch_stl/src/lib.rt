@@ -78,7 +78,7 @@ pub fn lay_stl(
     ensures { λ r. ⌜ Outputs (fileOutput (now (input .entry)) (length (now (points .entry))) (length (now (normals .entry))) (length (now (faces .entry))) (length (now (words .entry))) (length (now (floats .entry))) (length (now (out .entry)))) (now (out .entry)) r (now (out .exit)) ⌝ }
 {
     if patch_text::MOST_BYTES < input.len() {
-        return refuse(11, 0, out);
+        return refuse(answers::ROOM, 0, out);
     }
     let read = cloud::read_cloud(input, points, normals);
     if read.answer != 0 {
