@@ -179,6 +179,9 @@ pub fn refused(side: &dyn Side, count: u64, seed: u64, first: u64) -> Report {
         if let Some(at) = REASONS.iter().position(|reason| *reason == called.answer) {
             met[usize::from(called.plain)][at] += 1;
         }
+        if ["edge", "thousandth"].contains(&case.kind) && !called.plain {
+            report.note(&format!("{} {}:", case.kind, called.answer));
+        }
         if let Some(text) = called.unlike {
             report.differs(|| format!("{text}\n{}", describe(&case, number, seed)));
         }

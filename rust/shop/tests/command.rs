@@ -95,6 +95,8 @@ fn statuses() {
         ("seventh-field", 10, "line 3"),
         ("too-far", 4, "point 2"),
         ("two-points", 8, "no triangle was found: there are fewer than three points"),
+        ("none-close", 15, "no triangle was found: no three points lie close enough together"),
+        ("in-a-line", 16, "no triangle was found: all that were judged were turned down"),
     ];
     for (name, status, end) in expected {
         let (code, line) = failed(&["lay", &format!("{cases}/{name}.csv")]);
