@@ -29,7 +29,7 @@ yarrowbleat: lays a surface of triangles over a scanned bell wall
   yarrowbleat --help, yarrowbleat --version
 
 A FILE `-` is standard input. The status is 0, or 1 if something could not be read, written or understood; of a refused
-cloud it is the number of the answer, 1 to 11, of the first one where there are several.
+cloud it is the number of the answer, 1 to 11, 15 or 16, of the first one where there are several.
 ";
 
 /// Why the command ends with a status other than 0: one line.
