@@ -5,7 +5,7 @@ use mathlib.Core.Bool.{Bool, true}
 use mathlib.Core.List.{List, [], _∷_}
 use native.Mathlib.Omega.{arith}
 use lib.Dec.{T, eqb}
-use lib.ListN.{length, take, getD}
+use lib.ListN.{length, getD}
 use lib.Seq.{getD-take}
 use lib.Ieee.{Float, nan, le}
 use borrow.Author.Tests.{eq-eqb}
@@ -33,7 +33,8 @@ use Rattle.radii.specs.declared.Radii.{Radii}
 use Rattle.laying.specs.Laying.{Footing, rulesOf}
 use Rattle.plain.specs.Reached.{plainReached}
 use Rattle.plain.proofs.Reached.{plain-reached}
-use Rattle.reaching.specs.Reaching.{reaches, Grows, Each, InOrder, lastFrom}
+use Rattle.reaching.specs.Reaching.{reaches}
+use Rattle.reaching.specs.Triple.{Grows, Each, InOrder, lastFrom}
 use Rattle.reaching.proofs.Deciding.{last-decides, last-at, faces-reached}
 use Rattle.reaching.proofs.Growing.{floats-grow}
 use Rattle.reaching.proofs.Rising.{radii-rising}

@@ -9,13 +9,13 @@ use lib.Dec.{T, eqb, ltb}
 use lib.ListN.{length, take}
 use lib.Ieee.{Float, lt}
 use lib.Ieee.Bits.{is-true}
-use borrow.Author.Tests.{eqb-true, eqb-false, ne-eqb, lt-ltb}
+use borrow.Author.Tests.{eqb-true, eqb-false, lt-ltb}
 use Rattle.vector.specs.Vector.{squared, distance}
 use Rattle.vector.specs.declared.Point3f.{Point3f}
 use Rattle.vector.proofs.Distances.{squared-fits}
 use Rattle.points.specs.Points.{pointAt}
 use Rattle.lists.specs.Lists.{bit, count, any, unused}
-use Rattle.lists.specs.Members.{In, Below, only}
+use Rattle.lists.specs.Members.{In, only}
 use Rattle.lists.proofs.Bools.{either, not-true, true-not-false, and-both}
 use Rattle.lists.proofs.Counts.{any-true, true-any, count-mono}
 use Rattle.lists.proofs.Members.{in-head, only-count, only-none}
@@ -30,12 +30,13 @@ use Rattle.decisions.specs.declared.Scene.{Scene}
 use Rattle.decisions.specs.Decisions.{reach, apart, isClose, around, floatsOf}
 use Rattle.decisions.proofs.Within.{within}
 use Rattle.nearby.specs.declared.Filter.{Filter}
-use Rattle.nearby.specs.Ready.{Held, Listed, Kept, usedIn, listed}
+use Rattle.nearby.specs.Ready.{Held, Listed, Kept, listed}
 use Rattle.nearby.specs.Narrow.{inCells, cellAt, Filters, Collected}
 use Rattle.nearby.proofs.Earlier.{neighbors-only, order-of-count}
-use Rattle.nearby.proofs.Keeping.{held-kept, cells-kept, hashed-search, kept-on}
+use Rattle.nearby.proofs.Keeping.{held-kept, cells-kept, hashed-search}
 use Rattle.nearby.proofs.Rest.{Rest, nth, rest-start, rest-step, rest-hit, rest-end}
-use Rattle.reaching.specs.Reaching.{reaches, Reaches}
+use Rattle.reaching.specs.Reaching.{reaches}
+use Rattle.reaching.specs.Triple.{Reaches}
 use Rattle.reaching.proofs.Reaching.{both-true, differ, differs, reaches-exactly}
 use Rattle.judged.specs.Triples.{isBeside, isBesideBoth, hasThird, Around, Fresh, Tells}
 

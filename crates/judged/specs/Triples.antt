@@ -16,7 +16,7 @@ use Rattle.decisions.specs.Decisions.{reach, isClose, floatsOf}
 use Rattle.nearby.specs.declared.Filter.{Filter}
 use Rattle.nearby.specs.Ready.{Held, usedIn}
 use Rattle.nearby.specs.Narrow.{inCells, cellAt, Filters}
-use Rattle.reaching.specs.Reaching.{Reaches}
+use Rattle.reaching.specs.Triple.{Reaches}
 
 -- k is another point than i, its cell makes it a neighbour of i, and it is close to i
 unfoldable pub isBeside : Scene → List Float → Float → ℕ → ℕ → Bool

@@ -1,4 +1,5 @@
-// Whether some triple of the seed search comes to the quality test at a radius, where no point is used: asked after a search that found nothing, and without its order and its filters.
+// Whether some triple of the search for a seed comes to the quality test at a radius, where no point is used: asked after a
+// search that found nothing, without its order and its filters.
 use decisions::Scene;
 use nearby::Filter;
 use spatial_hash::Hash;

@@ -29,7 +29,7 @@ use Rattle.lists.specs.Lists.{count}
 use Rattle.lists.proofs.Bools.{either, and-both, not-true}
 use Rattle.decisions.specs.Decisions.{reach, apart, isClose, around, floatsOf}
 use Rattle.decisions.specs.declared.Scene.{Scene}
-use Rattle.reaching.specs.Reaching.{Grows}
+use Rattle.reaching.specs.Triple.{Grows}
 
 clash : {A : Type 0} → true ≡ false → A
 clash e = absurd (subst T e tt)

@@ -1,5 +1,5 @@
 -- The cell size of settings in range is above 0. Assumes nothing.
-use Prim.Native.Nat.{ℕ, zero, suc, _+_, _*_, _≤_, _<_}
+use Prim.Native.Nat.{zero, suc}
 use native.Mathlib.Nat.{mul-pos}
 use mathlib.Core.Path.{_≡_, sym, subst}
 use mathlib.Core.Bool.{Bool, true, false}

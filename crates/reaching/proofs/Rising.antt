@@ -1,25 +1,19 @@
 -- The radii of an accepted cloud are numbers in rising order. Assumes nothing.
 use Prim.Native.Nat.{ℕ, zero, suc, _+_, _-_, _*_, _≤_, _<_, min}
-use native.Mathlib.Nat.{div-mul-le-self, le-div-iff-mul-le, mul-pos, mul-le-mul-right}
+use native.Mathlib.Nat.{div-mul-le-self, le-div-iff-mul-le, mul-le-mul-right}
 use mathlib.Core.Path.{_≡_, refl, sym, subst}
-use mathlib.Core.Bool.{Bool, true, false, cond, true≢false}
+use mathlib.Core.Bool.{Bool, true, false, cond}
 use mathlib.Core.List.{List, [], _∷_, _++_, map}
 use native.Mathlib.Omega.{arith}
-use lib.Dec.{T, eqb, lt→ltb}
+use lib.Dec.{T, eqb}
 use borrow.Author.Tests.{eqb-false}
 use lib.ListN.{length, take, getD, length-take}
-use lib.Ieee.{Float, nan, inf, fin, binary32, lt, le, isNan, ofBits, ofInt}
-use lib.Ieee.Fits.{down-pos}
-use lib.Ieee.Positive.{positive}
-use lib.Ieee.Exact.{HasValue}
-use lib.Ieee.Back.{round-whole}
-use Rattle.numbers.specs.Rounded.{f32, _⊕_, _⊖_, _⊗_}
+use lib.Ieee.{Float, nan, lt, le, isNan, ofBits}
+use Rattle.numbers.specs.Rounded.{f32, _⊖_, _⊗_}
 use Rattle.numbers.proofs.OrderLaws.{le-right}
-use Rattle.numbers.proofs.SumOrder.{add-unsigned}
-use Rattle.numbers.proofs.QuotientOrder.{div-number}
 use Rattle.vector.specs.Vector.{Finite, distance, squared}
 use Rattle.points.specs.Points.{pointAt}
-use Rattle.sorting.specs.Sorted.{insert, insertAll, sorted, All, Rising, whole, percentileOf, indexOf}
+use Rattle.sorting.specs.Sorted.{insert, insertAll, sorted, All, Rising, percentileOf, indexOf}
 use Rattle.sorting.proofs.Rising.{all-take}
 use Rattle.settings.specs.declared.BallPivotingConfig.{BallPivotingConfig}
 use Rattle.settings.specs.Settled.{Settled}
@@ -30,7 +24,7 @@ use Rattle.grid.specs.declared.SpatialGrid.{SpatialGrid}
 use Rattle.grid.proofs.Near.{neighbors-below}
 use Rattle.lists.proofs.Bools.{and-both}
 use Rattle.spatial_hash.proofs.Squares.{Good, root-good, squared-good, distance-back}
-use Rattle.radii.specs.Radii.{distancesTo, total, average, nearOf, nearest, densitiesFrom, stepOf, sampleCount, spaced, dedup, candidates, radiiAt, adaptiveRadii}
+use Rattle.radii.specs.Radii.{distancesTo, average, nearOf, nearest, densitiesFrom, stepOf, sampleCount, spaced, dedup, candidates, radiiAt, adaptiveRadii}
 use Rattle.radii.proofs.Rising.{Number, Ascending, insert-ascending, sorted-good}
 use Rattle.radii.proofs.Densities.{average-number}
 use Rattle.reaching.proofs.Growing.{double-number}
