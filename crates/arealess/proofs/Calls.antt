@@ -109,7 +109,7 @@ module _ (pts normals : List Float) (c : BallPivotingConfig) (words floats : ℕ
       beside c pts .differs m (written-injective (sourceFound c pts .faces) (found c pts .faces) slice (a .fit) l w)
 
   pub call-beside : CallBeside c pts normals words floats slice
-  call-beside = record { same = same; differs = differs }
+  call-beside = record { same = same; slice-same = λ h i. facesAfter (same h i) (beside c pts .same h i) slice; differs = differs }
 
 pub arealess : Arealess
 arealess c pts = (beside c pts, from-seeds c pts, λ normals words floats slice. call-beside pts normals c words floats slice)

@@ -60,9 +60,13 @@ pub record OnlyFromSeeds (c : BallPivotingConfig) (pts : List Float) : Type 0 wh
 -- the whole call beside the source's: its answer, detail, counts and radii, and the face slice
 module _ (c : BallPivotingConfig) (pts normals : List Float) (words floats : ℕ) (slice : List ℕ) where
   pub record CallBeside : Type 0 where
+    -- where the source finds no face of area zero both are the source's
     pub same : sourceZeros c pts ≡ 0
         → reconstructed pts normals c (length slice) words floats
         ≡ sourceReconstructed pts normals c (length slice) words floats
+    pub slice-same : sourceZeros c pts ≡ 0
+        → facesAfter (reconstructed pts normals c (length slice) words floats) (found c pts) slice
+        ≡ facesAfter (sourceReconstructed pts normals c (length slice) words floats) (sourceFound c pts) slice
     -- where the source's call answers 0 with a face of area zero, the result differs or the face slice does
     pub differs : sourceReconstructed pts normals c (length slice) words floats .answer ≡ 0 → 1 ≤ sourceZeros c pts
         → reconstructed pts normals c (length slice) words floats
