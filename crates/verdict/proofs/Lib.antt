@@ -1,0 +1,4 @@
+-- What the functions' proofs cite, what is claimed of a verdict, and fixed cases.
+pub mod Checks
+pub mod Laws
+pub mod Cases

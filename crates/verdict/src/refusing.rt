@@ -1,0 +1,56 @@
+// The checks: 1 to 5 of the main call, then whether the three numbers name points, and whether they differ.
+ghost use mathlib.Core.Path.{_≡_};
+ghost use Rattle.domain.specs.Refusals.{firstRefusal};
+ghost use Rattle.verdict.specs.Judged.{numberChecks, judgeRefusal};
+use domain::Refusal;
+use settings::BallPivotingConfig;
+
+// Lengths of work slices for the most points: with these the main call's checks end with 5, since 7 never comes.
+const WORDS: usize = 98368;
+
+const FLOATS: usize = 16448;
+
+// 14 where one of the numbers is none of n points, 17 where two are equal, or 0.
+fn number_answer(n: usize, i: usize, j: usize, k: usize) -> u32
+    ensures { λ r. ⌜ r ≡ firstRefusal (numberChecks n i j k) .answer ⌝ }
+{
+    if n <= i {
+        return 14;
+    }
+    if n <= j {
+        return 14;
+    }
+    if n <= k {
+        return 14;
+    }
+    if i == j {
+        return 17;
+    }
+    if j == k {
+        return 17;
+    }
+    if k == i {
+        return 17;
+    }
+    0
+}
+
+pub fn refusal_of_judging(
+    points: &[f32],
+    normals: &[f32],
+    settings: BallPivotingConfig,
+    i: usize,
+    j: usize,
+    k: usize,
+) -> Refusal
+    ensures { λ r. ⌜ r ≡ judgeRefusal (now (points .entry)) (now (normals .entry)) settings i j k ⌝ }
+{
+    let refusal = domain::refusal_of_reconstruct(points, normals, settings, WORDS, FLOATS);
+    if refusal.answer != 0 {
+        return refusal;
+    }
+    Refusal {
+        answer: number_answer(points.len() / 3, i, j, k),
+        detail: 0,
+    }
+}
