@@ -30,6 +30,7 @@
  *   14  a face or a number names a point that isn't there
  *   15  no triangle was found: of the triples that were tried none lay close enough together to be judged, at any radius
  *   16  no triangle was found: all triples that were judged were turned down
+ *   17  two of three point numbers are equal
  *   19  the tally is full: it has 100,000 patches
  *   20  a season's patch has no points, more than 4,096, more covered than scanned or more than 10,000 faces
  *   21  figures are asked of an empty tally
@@ -79,6 +80,7 @@ typedef enum {
     YB_NO_SUCH_POINT = 14,
     YB_NONE_CLOSE = 15,
     YB_ALL_TURNED_DOWN = 16,
+    YB_EQUAL_NUMBERS = 17,
     YB_TALLY_FULL = 19,
     YB_SEASON_PATCH = 20,
     YB_TALLY_EMPTY = 21,
@@ -105,6 +107,7 @@ static inline const char *yb_answer_text(uint32_t answer) {
     case YB_NO_SUCH_POINT: return "a face or a number names a point that isn't there";
     case YB_NONE_CLOSE: return "no triangle was found: no three points lie close enough together";
     case YB_ALL_TURNED_DOWN: return "no triangle was found: all that were judged were turned down";
+    case YB_EQUAL_NUMBERS: return "two of three point numbers are equal";
     case YB_TALLY_FULL: return "the tally has 100,000 patches";
     case YB_SEASON_PATCH: return "the patch's counts can't be entered";
     case YB_TALLY_EMPTY: return "the tally is empty";
@@ -191,6 +194,17 @@ typedef struct {
     size_t detail;
     size_t faces; /* facets read, nine numbers each */
 } YbStlRead;
+
+/* Why a triangle was turned down, or that it was not. At a refusal kind and measured are 0. */
+typedef struct {
+    uint32_t answer;
+    uint32_t detail;
+    uint32_t kind;  /* a YbKind */
+    float measured; /* good, poor: the score; no area, small: the area; long: the edge ratio times the root of the area */
+} YbVerdict;
+
+/* The kinds of a verdict, in the order of the tests but for the first. */
+typedef enum { YB_GOOD = 1, YB_NO_AREA = 2, YB_SMALL = 3, YB_POOR = 4, YB_LONG = 5 } YbKind;
 
 /* What is entered of a patch: a number of the caller's own, the cloud's points, those that a face touches, faces. */
 typedef struct {
@@ -378,6 +392,20 @@ YbStlWritten yb_write_stl(const float *points, size_t points_len, const uint32_t
  */
 YbStlRead yb_read_stl(const uint8_t *bytes, size_t bytes_len, float *corners, size_t corners_len);
 
+/*
+ * Why the triangle of the points i, j and k was turned down, or that it was not. They are measured in this order, by
+ * the acceptance test's order at settings.radius: no area (exactly zero), small (an area below min_triangle_area), poor
+ * (a score below quality_threshold), long (the edge ratio times the root of the area above radius * max_edge_factor).
+ * Good is proved to be told exactly where yb_is_triangle_acceptable is true (good-exactly of crate verdict).
+ *
+ * points, normals: as for yb_reconstruct_with_normals; nothing is written and no work slice is needed.
+ * i, j, k: three different point numbers, from 0.
+ *
+ * Answers 0 to 5, 14 or 17, tried in this order. A long triangle's measure may be infinite.
+ */
+YbVerdict yb_judge_triangle(const float *points, size_t points_len, const float *normals, size_t normals_len,
+                            YbBallPivotingConfig settings, size_t i, size_t j, size_t k);
+
 /* ---- Seasons ---- */
 
 /*
@@ -475,6 +503,12 @@ YB_AT(YbFigures, best, 64);
 YB_AT(YbFigures, worst, 80);
 YB_AT(YbFigures, best_coverage, 96);
 YB_AT(YbFigures, worst_coverage, 112);
+
+YB_SIZE(YbVerdict, 16);
+YB_AT(YbVerdict, answer, 0);
+YB_AT(YbVerdict, detail, 4);
+YB_AT(YbVerdict, kind, 8);
+YB_AT(YbVerdict, measured, 12);
 
 #undef YB_SIZE
 #undef YB_AT

@@ -16,6 +16,8 @@ ghost use Rattle.stl_file.specs.Answers.{Wrote, Got};
 ghost use Rattle.release.specs.Release.{version, layout};
 ghost use Rattle.tally.specs.Tallies.{addedTo};
 ghost use Rattle.tally.specs.Working.{figuresOf};
+ghost use Rattle.verdict.specs.Judged.{judged};
+ghost use Rattle.verdict.specs.Numbered.{told};
 use ball_pivoting::Patch;
 use cloud::CloudRead;
 use estimate::Estimate;
@@ -26,6 +28,7 @@ use stl_file::StlWritten;
 use tally::Figures;
 use tally::SeasonPatch;
 use tally::Tally;
+use verdict::numbered::Verdict;
 
 #[no_mangle]
 pub extern "C" fn yb_version() -> u32
@@ -217,6 +220,20 @@ pub extern "C" fn yb_read_stl(bytes: &[u8], corners: &mut [f32]) -> StlRead
     ensures { λ r. ⌜ Got (now (bytes .entry)) (now (corners .entry)) r (now (corners .exit)) ⌝ }
 {
     stl_file::read_stl(bytes, corners)
+}
+
+#[no_mangle]
+pub extern "C" fn yb_judge_triangle(
+    points: &[f32],
+    normals: &[f32],
+    settings: BallPivotingConfig,
+    i: usize,
+    j: usize,
+    k: usize,
+) -> Verdict
+    ensures { λ r. ⌜ r ≡ told (judged (now (points .entry)) (now (normals .entry)) settings i j k) ⌝ }
+{
+    verdict::numbered::numbered(verdict::judge_triangle(points, normals, settings, i, j, k))
 }
 
 // Adds a patch to a lent tally, where it is.

@@ -1,4 +1,5 @@
--- What the crate's contracts cite, leaves first.
+-- What the crate's contracts cite, leaves first, and what is claimed.
 pub mod Verdict
 pub mod Judged
 pub mod Numbered
+pub mod Claims

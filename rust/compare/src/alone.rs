@@ -2,7 +2,7 @@
 
 use crate::report::Report;
 use crate::sides::{Mirror, Number};
-use crate::{clouds, lengths, numbers, triangles};
+use crate::{clouds, lengths, numbers, triangles, verdicts};
 use expect::{Found, BUDGET};
 use generate::{case, Case};
 use std::cell::Cell;
@@ -97,6 +97,25 @@ fn stretched(off: u32) -> impl Fn(&[f32; 3], &[f32; 3]) -> f32 {
     move |p, q| f32::from_bits(lengths::machine(p, q).to_bits() + left.take())
 }
 
+/// The expected verdicts; the tenth has one field turned.
+fn misjudged(field: &str) -> impl Fn(&[f32], &[f32], &oracle::Settings, [usize; 3]) -> expect::verdicts::Verdict + '_ {
+    let left = Cell::new(10);
+    move |points, normals, settings, triple| {
+        let mut verdict = expect::verdicts::judge(points, normals, settings, triple);
+        left.set(left.get() - 1);
+        if left.get() == 0 {
+            match field {
+                "answer" => verdict.answer ^= 1,
+                "detail" => verdict.detail ^= 1,
+                "kind" => verdict.kind ^= 8,
+                "measured" => verdict.measured = f32::from_bits(verdict.measured.to_bits() ^ 1),
+                _ => {}
+            }
+        }
+        verdict
+    }
+}
+
 /// Puts the oracle in the port's place, then turns one bit of one result: each turned bit must be found, alone.
 pub fn selftest() -> Report {
     let mut report = Report::new("selftest");
@@ -114,6 +133,9 @@ pub fn selftest() -> Report {
     // Another length than the machine's; and, further off, one past the bound.
     found("length", 1, &|| lengths::lengths(&stretched(1), count, seed));
     found("length", 2, &|| lengths::lengths(&stretched(8), count, seed));
+    for (field, faults) in [("", 0), ("answer", 1), ("detail", 1), ("kind", 1), ("measured", 1)] {
+        found(field, faults, &|| verdicts::verdicts(&misjudged(field), count, seed, 50 * first));
+    }
     for call in Number::ALL.map(Number::call) {
         found(call, 1, &|| numbers::numbers(&Mirror::new(call), count, seed));
     }

@@ -10,6 +10,7 @@ mod report;
 mod shrink;
 mod sides;
 mod triangles;
+mod verdicts;
 
 use sides::Linked;
 
@@ -19,6 +20,7 @@ const USAGE: &str = "usage:
   compare cuts STEP                       the cut of every STEP-th pattern, and of its ceil
   compare lengths COUNT SEED              the largest error of a length, beside its bound
   compare triangles COUNT SEED [FIRST]    circumradius, quality, acceptance
+  compare verdicts COUNT SEED [FIRST]     why a triangle was turned down, of points of generated clouds
   compare estimate COUNT SEED [FIRST]     the radius estimate on generated clouds
   compare reconstruct COUNT SEED [FIRST]  the reconstruction on generated clouds
   compare refused COUNT SEED [FIRST]      clouds without a triangle, for each of the reasons
@@ -39,6 +41,7 @@ fn main() {
         ("cuts", [step]) if *step > 0 => numbers::cuts(&Linked, *step),
         ("lengths", [count, seed]) => lengths::lengths(&port::distance, *count, *seed),
         ("triangles", [count, seed, first @ ..]) => triangles::triangles(&Linked, *count, *seed, start(first)),
+        ("verdicts", [count, seed, first @ ..]) => verdicts::verdicts(&port::judge, *count, *seed, start(first)),
         ("estimate", [count, seed, first @ ..]) => clouds::estimate(&Linked, *count, *seed, start(first)),
         ("reconstruct", [count, seed, first @ ..]) => clouds::reconstruct(&Linked, *count, *seed, start(first)),
         ("refused", [count, seed, first @ ..]) => clouds::refused(&Linked, *count, *seed, start(first)),

@@ -5,6 +5,7 @@ pub use yarrowbleat::sys::{
     max, min, read_cloud, sqrt, TriangleQuality as Quality,
 };
 
+use expect::verdicts::Verdict;
 use expect::{Estimate, Lent, Patch};
 use oracle::{Limits, Settings};
 use yarrowbleat::sys;
@@ -33,6 +34,11 @@ fn config(s: &Settings) -> sys::BallPivotingConfig {
         use_spatial_index: s.use_spatial_index,
         spatial_cell_factor: s.spatial_cell_factor,
     }
+}
+
+pub fn judge(points: &[f32], normals: &[f32], settings: &Settings, triple: [usize; 3]) -> Verdict {
+    let r = sys::judge_triangle(points, normals, config(settings), triple);
+    Verdict { answer: r.answer, detail: r.detail, kind: r.kind, measured: r.measured }
 }
 
 pub fn reconstruct(points: &[f32], normals: &[f32], settings: &Settings, lent: &mut Lent) -> Patch {

@@ -38,6 +38,8 @@ pub enum Error {
     NoneClose,
     /// 16. No triangle was found: all that were judged were turned down. Loosen the settings.
     AllTurnedDown,
+    /// 17. Two of three point numbers are equal.
+    EqualNumbers,
     /// 19. The tally has 100,000 patches.
     TallyFull,
     /// 20. A season's patch has no points, more than 4,096, more covered than scanned or more than 10,000 faces.
@@ -75,6 +77,7 @@ pub fn answer_text(answer: u32) -> &'static str {
         14 => "a face or a number names a point that isn't there",
         15 => "no triangle was found: no three points lie close enough together",
         16 => "no triangle was found: all that were judged were turned down",
+        17 => "two of three point numbers are equal",
         19 => "the tally has 100,000 patches",
         20 => "the patch's counts can't be entered",
         21 => "the tally is empty",
@@ -115,6 +118,7 @@ impl Error {
             14 => Error::NoSuchPoint,
             15 => Error::NoneClose,
             16 => Error::AllTurnedDown,
+            17 => Error::EqualNumbers,
             19 => Error::TallyFull,
             20 => Error::SeasonPatch,
             21 => Error::TallyEmpty,
@@ -142,6 +146,7 @@ impl Error {
             Error::NoSuchPoint => 14,
             Error::NoneClose => 15,
             Error::AllTurnedDown => 16,
+            Error::EqualNumbers => 17,
             Error::TallyFull => 19,
             Error::SeasonPatch => 20,
             Error::TallyEmpty => 21,

@@ -15,10 +15,12 @@ mod error;
 mod stl;
 pub mod sys;
 pub mod tally;
+mod verdict;
 
 pub use config::BallPivotingConfig;
 pub use error::{answer_text, Error};
 pub use stl::{read_stl, write_stl};
+pub use verdict::{judge_triangle, Explained, Verdict};
 
 /// The most points of a cloud.
 pub const MAX_POINTS: usize = 4_096;

@@ -123,6 +123,20 @@ pub struct StlRead {
     pub faces: usize,
 }
 
+/// Why a triangle was turned down, or that it was not.
+#[repr(C)]
+#[derive(Clone, Copy, Debug)]
+pub struct Verdict {
+    /// The answer's number, 0 where there is a verdict.
+    pub answer: u32,
+    /// The answer's detail, 0 where none is named.
+    pub detail: u32,
+    /// 1 good, 2 no area, 3 small, 4 poor, 5 long; 0 at a refusal.
+    pub kind: u32,
+    /// What was measured; 0 at a refusal.
+    pub measured: f32,
+}
+
 /// What is entered of a patch: the number that its caller gave, and its counts.
 #[repr(C)]
 #[derive(Clone, Copy, Debug, Default, PartialEq, Eq)]
@@ -221,6 +235,7 @@ layouts! {
     Fraction 16: numerator 0, denominator 8;
     Figures 128: answer 0, patches 8, mean 16, variance 32, coverage 48, best 64, worst 80, best_coverage 96,
         worst_coverage 112;
+    Verdict 16: answer 0, detail 4, kind 8, measured 12;
 }
 
 /// The layouts as one number, FNV-1a over their names, sizes and offsets: another number is another layout.
@@ -348,6 +363,16 @@ mod linked {
             bytes_len: usize,
         ) -> StlWritten;
         pub fn yb_read_stl(bytes: *const u8, bytes_len: usize, corners: *mut f32, corners_len: usize) -> StlRead;
+        pub fn yb_judge_triangle(
+            points: *const f32,
+            points_len: usize,
+            normals: *const f32,
+            normals_len: usize,
+            settings: BallPivotingConfig,
+            i: usize,
+            j: usize,
+            k: usize,
+        ) -> Verdict;
         pub fn yb_tally_add(tally: *mut Tally, patch: SeasonPatch) -> u32;
         pub fn yb_tally_figures(tally: *const Tally) -> Figures;
     }
@@ -510,6 +535,13 @@ pub fn write_stl(points: &[f32], faces: &[u32], bytes: &mut [u8]) -> StlWritten 
 /// Reads the corners of a binary STL file into a lent slice, nine numbers a facet; the answer is 0, 12 or 13.
 pub fn read_stl(bytes: &[u8], corners: &mut [f32]) -> StlRead {
     unsafe { linked::yb_read_stl(bytes.as_ptr(), bytes.len(), corners.as_mut_ptr(), corners.len()) }
+}
+
+/// Why the triangle of three points of a cloud was turned down, or that it was not.
+pub fn judge_triangle(points: &[f32], normals: &[f32], settings: BallPivotingConfig, triple: [usize; 3]) -> Verdict {
+    let [i, j, k] = triple;
+    let (points_len, normals_len) = (points.len(), normals.len());
+    unsafe { linked::yb_judge_triangle(points.as_ptr(), points_len, normals.as_ptr(), normals_len, settings, i, j, k) }
 }
 
 /// Adds a patch to a tally, where it is; the answer is 0, 24, 20 or 19.

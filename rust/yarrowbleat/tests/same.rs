@@ -7,7 +7,7 @@ const HEADER: &str = include_str!("../../../c/yarrowbleat.h");
 const SYS: &str = include_str!("../src/sys.rs");
 const EXPORTS: &str = include_str!("../../../crates/exports/src/lib.rt");
 const RELEASE: &str = include_str!("../../../crates/release/src/lib.rt");
-const STRUCTS: [(&str, &str); 11] = [
+const STRUCTS: [(&str, &str); 12] = [
     ("TriangleQuality", include_str!("../../../crates/quality/src/lib.rt")),
     ("Estimate", include_str!("../../../crates/estimate/src/lib.rt")),
     ("BallPivotingConfig", include_str!("../../../crates/settings/src/lib.rt")),
@@ -19,6 +19,7 @@ const STRUCTS: [(&str, &str); 11] = [
     ("Tally", include_str!("../../../crates/tally/src/lib.rt")),
     ("Fraction", include_str!("../../../crates/fractions/src/lib.rt")),
     ("Figures", include_str!("../../../crates/tally/src/lib.rt")),
+    ("Verdict", include_str!("../../../crates/verdict/src/numbered.rt")),
 ];
 
 /// What stands between two marks, from the first place where the one before it stands.
