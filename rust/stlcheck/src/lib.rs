@@ -1,6 +1,7 @@
 //! Holds a writer and a reader of binary STL against the ones of this crate, on patches and files drawn from a seed.
 
 pub mod cases;
+pub mod readers;
 pub mod reference;
 
 use cases::{File, Patch};
