@@ -3,3 +3,4 @@ pub mod Clouds
 pub mod Starred
 pub mod Tries
 pub mod Texts
+pub mod Stl
