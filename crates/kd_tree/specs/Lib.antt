@@ -1,0 +1,3 @@
+-- Bounding boxes, and the tree of the splits.
+pub mod Boxes
+pub mod Tree
