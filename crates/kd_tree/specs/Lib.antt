@@ -1,3 +1,4 @@
 -- Bounding boxes, and the tree of the splits.
 pub mod Boxes
 pub mod Tree
+pub mod Written
