@@ -1,1 +1,4 @@
 pub mod Cases
+pub mod Scanning
+pub mod Tree
+pub mod Splitting
