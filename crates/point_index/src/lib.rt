@@ -1,0 +1,125 @@
+// An index beside a cloud's points, by which the nearest point is found at once: the k-d tree of the cloud, as numbers in a lent slice.
+mod fill;
+
+use domain::Refusal;
+ghost use mathlib.Core.Path.{_≡_};
+ghost use mathlib.Core.List.{_++_};
+ghost use Prim.Native.Nat.{_+_, _*_, _/_, _≤_, _<_};
+ghost use lib.ListN.{length, drop};
+ghost use Rattle.lists.specs.Lists.{upFrom};
+ghost use Rattle.kd_tree.specs.Tree.{indexSize, built, belongs};
+ghost use Rattle.kd_tree.specs.Written.{Splits};
+ghost use Rattle.point_index.specs.Index.{indexRefusal, Fits, Builds, Tells};
+
+// The answer's number and its detail.
+#[repr(C)]
+pub struct Indexed {
+    pub answer: u32,
+    pub detail: u32,
+}
+
+// The answer's number, its detail, and whether the index is the cloud's, which is no at a refusal.
+#[repr(C)]
+pub struct Belongs {
+    pub answer: u32,
+    pub detail: u32,
+    pub belongs: bool,
+}
+
+// What the checks answer, for slices of the given lengths. The estimate's are the same for a percentile that passes.
+pub fn refusal_of_index(points: &[f32], index: usize, words: usize, floats: usize) -> Refusal
+    ensures { λ r. ⌜ r ≡ indexRefusal (now (points .entry)) index words floats ⌝ }
+{
+    let refusal = domain::refusal_of_estimate(points, 0.5, words, floats);
+    if refusal.answer != 0 {
+        return refusal;
+    }
+    if index < 8 * (points.len() / 3) + 64 {
+        return Refusal {
+            answer: 7,
+            detail: 0,
+        };
+    }
+    refusal
+}
+
+// The numbers of all points as the splits leave them, and the boxes at the front of the floats; answers where these end.
+fn order_points(points: &[f32], order: &mut [u32], floats: &mut [f32]) -> usize
+    requires { ⌜ (0 < length (now order)) × (length (now order) ≤ 4096) × (4 * length (now order) + 64 ≤ length (now floats)) ⌝ }
+    ensures { λ r. ⌜ Splits (now (points .entry)) (upFrom 0 (length (now (order .entry)))) (now (order .exit)) (now (floats .entry)) (now (floats .exit)) 0 r ⌝ }
+{
+    fill::number_order(order);
+    kd_tree::split(points, order, floats, 0)
+}
+
+// The index of an accepted cloud.
+pub fn build(points: &[f32], index: &mut [u32], floats: &mut [f32])
+    requires { ⌜ Fits (now points) (length (now index)) (length (now floats)) ⌝ }
+    ensures { λ _. ⌜ now (index .exit) ≡ built (now (points .entry)) ++ drop (indexSize (length (now (points .entry)) / 3)) (now (index .entry)) ⌝ }
+{
+    let n = points.len() / 3;
+    let end = order_points(points, &mut index[..n], floats);
+    fill::put_bits(&floats[..end], index, n);
+    fill::clear_between(index, n + end, 8 * n + 64);
+}
+
+// Whether an index is an accepted cloud's: it is built afresh in the work slice.
+pub fn matches(points: &[f32], index: &[u32], words: &mut [u32], floats: &mut [f32]) -> bool
+    requires { ⌜ Fits (now points) (length (now index)) (length (now floats)) × (indexSize (length (now points) / 3) ≤ length (now words)) ⌝ }
+    ensures { λ r. ⌜ r ≡ belongs (now (points .entry)) (now (index .entry)) ⌝ }
+{
+    build(points, words, floats);
+    fill::same_front(index, words, 8 * (points.len() / 3) + 64)
+}
+
+// Builds the index of a cloud in a lent slice.
+pub fn build_index(
+    points: &[f32],
+    index: &mut [u32],
+    words: &mut [u32],
+    floats: &mut [f32],
+) -> Indexed
+    ensures { λ r. ⌜ Builds (now (points .entry)) (now (index .entry)) (now (words .entry)) (now (floats .entry)) r (now (index .exit)) (now (words .exit)) (now (floats .exit)) ⌝ }
+{
+    let refusal = refusal_of_index(points, index.len(), words.len(), floats.len());
+    if refusal.answer != 0 {
+        return Indexed {
+            answer: refusal.answer,
+            detail: refusal.detail,
+        };
+    }
+    build(points, index, floats);
+    clearing::clear_u32(words);
+    clearing::clear_f32(floats);
+    Indexed {
+        answer: 0,
+        detail: 0,
+    }
+}
+
+// Tells whether an index is a cloud's: building it afresh gives the same numbers.
+pub fn index_belongs(
+    points: &[f32],
+    index: &[u32],
+    words: &mut [u32],
+    floats: &mut [f32],
+) -> Belongs
+    ensures { λ r. ⌜ Tells (now (points .entry)) (now (index .entry)) (now (words .entry)) (now (floats .entry)) r (now (words .exit)) (now (floats .exit)) ⌝ }
+{
+    let refusal = refusal_of_index(points, index.len(), words.len(), floats.len());
+    if refusal.answer != 0 {
+        return Belongs {
+            answer: refusal.answer,
+            detail: refusal.detail,
+            belongs: false,
+        };
+    }
+    let same = matches(points, index, words, floats);
+    clearing::clear_u32(words);
+    clearing::clear_f32(floats);
+    Belongs {
+        answer: 0,
+        detail: 0,
+        belongs: same,
+    }
+}
