@@ -266,7 +266,7 @@ split-split-requires : (t : ℕ) → split-lts.Need-split-requires (
   split-below t,
   split.Post,
 ) (split-at t) split.Post
-split-split-requires t c κs = let o = c .before .before .before .before .before .before .before .before .before .before .before .before .before .before .before .before .before .before .before .before .args .order .now in let m = length o / 2 in let n : 8 < length o = c .before .before .before .before .before .before .before .before .before .before .if1 .left in let z = c .before .before .before .before .before .before .sort in let r = z .last .1 .1 .0 in let q = c .before .before .before .before .before .before .before .before .before .before .before .before .before .put-box in let b1 = q .last .0 in let e2 = same-len-mid (c .before .before .before .before .before .before .before .before .before .before .before .before .before .before .before .before .before .before .before .before .args .at + 6) (length b1 - (c .before .before .before .before .before .before .before .before .before .before .before .before .before .before .before .before .before .before .before .before .args .at + 6)) b1 (z .last .1 .1 .1 .0) (z .kept .1 .1 .1 .0) ∙ q .kept .0 in  let f = first-size _ o r _ _ n (c .before .before .before .before .before .before .before .before .before .before .before .before .before .before .before .box-of .ensures) (c .before .before .before .before .before .before .before .before .before .longest .ensures .0) (z .ensures) in (omega (arith, c .before .before .before .before .before .before .before .before .before .before .before .before .before .before .before .before .before .before .before .before .pre .0, f), (omega (arith, f), first-room _ o r _ _ n (c .before .before .before .before .before .before .before .before .before .before .before .before .before .before .before .box-of .ensures) (c .before .before .before .before .before .before .before .before .before .longest .ensures .0) (z .ensures) (c .before .before .before .before .before .before .before .before .before .before .before .before .before .before .before .before .before .before .before .before .args .at) (length (c .before .before .before .before .before .before .before .before .before .before .before .before .before .before .before .before .before .before .before .before .args .boxes .now)) _ (c .before .before .before .before .before .before .before .before .before .before .before .before .before .before .before .before .before .before .before .before .pre .1 .1) e2, small-take m r (sorted-small _ o r _ _ n (c .before .before .before .before .before .before .before .before .before .before .before .before .before .before .before .box-of .ensures) (c .before .before .before .before .before .before .before .before .before .longest .ensures .0) (z .ensures) (c .before .before .before .before .before .before .before .before .before .before .before .before .before .before .before .before .before .before .before .before .pre .1 .2))))
+split-split-requires t c κs = let o = c .before .before .before .before .before .before .before .before .before .before .before .before .before .before .before .before .before .before .before .before .args .order .now in let m = length o / 2 in let n : 8 < length o = c .before .before .before .before .before .before .before .before .before .before .if1 .left in let z = c .before .before .before .before .before .before .sort in let r = z .last .1 .1 .0 in let q = c .before .before .before .before .before .before .before .before .before .before .before .before .before .put-box in let b1 = q .last .0 in let e2 = same-len-mid (c .before .before .before .before .before .before .before .before .before .before .before .before .before .before .before .before .before .before .before .before .args .at + 6) (length b1 - (c .before .before .before .before .before .before .before .before .before .before .before .before .before .before .before .before .before .before .before .before .args .at + 6)) b1 (z .last .1 .1 .1 .0) (z .kept .1 .1 .1 .0) ∙ q .kept .0 in let f = first-size _ o r _ _ n (c .before .before .before .before .before .before .before .before .before .before .before .before .before .before .before .box-of .ensures) (c .before .before .before .before .before .before .before .before .before .longest .ensures .0) (z .ensures) in (omega (arith, c .before .before .before .before .before .before .before .before .before .before .before .before .before .before .before .before .before .before .before .before .pre .0, f), (omega (arith, f), first-room _ o r _ _ n (c .before .before .before .before .before .before .before .before .before .before .before .before .before .before .before .box-of .ensures) (c .before .before .before .before .before .before .before .before .before .longest .ensures .0) (z .ensures) (c .before .before .before .before .before .before .before .before .before .before .before .before .before .before .before .before .before .before .before .before .args .at) (length (c .before .before .before .before .before .before .before .before .before .before .before .before .before .before .before .before .before .before .before .before .args .boxes .now)) _ (c .before .before .before .before .before .before .before .before .before .before .before .before .before .before .before .before .before .before .before .before .pre .1 .1) e2, small-take m r (sorted-small _ o r _ _ n (c .before .before .before .before .before .before .before .before .before .before .before .before .before .before .before .box-of .ensures) (c .before .before .before .before .before .before .before .before .before .longest .ensures .0) (z .ensures) (c .before .before .before .before .before .before .before .before .before .before .before .before .before .before .before .before .before .before .before .before .pre .1 .2))))
 
 split-mul-split : (t : ℕ) → split-lts.Need-mul-split (
   box-of-reads.Asked,
@@ -336,7 +336,7 @@ split-split-requires-2 : (t : ℕ) → split-lts.Need-split-requires-2 (
   split-below t,
   split.Post,
 ) (split-at t) split.Post
-split-split-requires-2 t c κs = let o = c .before .before .before .before .before .before .before .before .before .before .before .before .before .before .before .before .before .before .before .before .before .before .before .before .before .before .before .args .order .now in let m = length o / 2 in let n : 8 < length o = c .before .before .before .before .before .before .before .before .before .before .before .before .before .before .before .before .before .if1 .left in let z = c .before .before .before .before .before .before .before .before .before .before .before .before .before .sort in let r = z .last .1 .1 .0 in let q = c .before .before .before .before .before .before .before .before .before .before .before .before .before .before .before .before .before .before .before .before .put-box in let b1 = q .last .0 in let e2 = same-len-mid (c .before .before .before .before .before .before .before .before .before .before .before .before .before .before .before .before .before .before .before .before .before .before .before .before .before .before .before .args .at + 6) (length b1 - (c .before .before .before .before .before .before .before .before .before .before .before .before .before .before .before .before .before .before .before .before .before .before .before .before .before .before .before .args .at + 6)) b1 (z .last .1 .1 .1 .0) (z .kept .1 .1 .1 .0) ∙ q .kept .0 in let x = c .before .before .before .before .before .before .split in let a = x .last .1 .0 in let ka = x .kept .1 .0 in  let f = second-size _ o r _ _ n (c .before .before .before .before .before .before .before .before .before .before .before .before .before .before .before .before .before .before .before .before .before .before .box-of .ensures) (c .before .before .before .before .before .before .before .before .before .before .before .before .before .before .before .before .longest .ensures .0) (z .ensures) a ka in (omega (arith, c .before .before .before .before .before .before .before .before .before .before .before .before .before .before .before .before .before .before .before .before .before .before .before .before .before .before .before .pre .0, f), (omega (arith, f), second-room _ o r _ _ n (c .before .before .before .before .before .before .before .before .before .before .before .before .before .before .before .before .before .before .before .before .before .before .box-of .ensures) (c .before .before .before .before .before .before .before .before .before .before .before .before .before .before .before .before .longest .ensures .0) (z .ensures) a ka (c .before .before .before .before .before .before .before .before .before .before .before .before .before .before .before .before .before .before .before .before .before .before .before .before .before .before .before .args .at) (x .result) (length (c .before .before .before .before .before .before .before .before .before .before .before .before .before .before .before .before .before .before .before .before .before .before .before .before .before .before .before .args .boxes .now)) _ (c .before .before .before .before .before .before .before .before .before .before .before .before .before .before .before .before .before .before .before .before .before .before .before .before .before .before .before .pre .1 .1) (x .kept .1 .1 .0 ∙ e2) (x .ensures .ends), second-small _ o r _ _ n (c .before .before .before .before .before .before .before .before .before .before .before .before .before .before .before .before .before .before .before .before .before .before .box-of .ensures) (c .before .before .before .before .before .before .before .before .before .before .before .before .before .before .before .before .longest .ensures .0) (z .ensures) a ka (c .before .before .before .before .before .before .before .before .before .before .before .before .before .before .before .before .before .before .before .before .before .before .before .before .before .before .before .pre .1 .2)))
+split-split-requires-2 t c κs = let o = c .before .before .before .before .before .before .before .before .before .before .before .before .before .before .before .before .before .before .before .before .before .before .before .before .before .before .before .args .order .now in let m = length o / 2 in let n : 8 < length o = c .before .before .before .before .before .before .before .before .before .before .before .before .before .before .before .before .before .if1 .left in let z = c .before .before .before .before .before .before .before .before .before .before .before .before .before .sort in let r = z .last .1 .1 .0 in let q = c .before .before .before .before .before .before .before .before .before .before .before .before .before .before .before .before .before .before .before .before .put-box in let b1 = q .last .0 in let e2 = same-len-mid (c .before .before .before .before .before .before .before .before .before .before .before .before .before .before .before .before .before .before .before .before .before .before .before .before .before .before .before .args .at + 6) (length b1 - (c .before .before .before .before .before .before .before .before .before .before .before .before .before .before .before .before .before .before .before .before .before .before .before .before .before .before .before .args .at + 6)) b1 (z .last .1 .1 .1 .0) (z .kept .1 .1 .1 .0) ∙ q .kept .0 in let x = c .before .before .before .before .before .before .split in let a = x .last .1 .0 in let ka = x .kept .1 .0 in let f = second-size _ o r _ _ n (c .before .before .before .before .before .before .before .before .before .before .before .before .before .before .before .before .before .before .before .before .before .before .box-of .ensures) (c .before .before .before .before .before .before .before .before .before .before .before .before .before .before .before .before .longest .ensures .0) (z .ensures) a ka in (omega (arith, c .before .before .before .before .before .before .before .before .before .before .before .before .before .before .before .before .before .before .before .before .before .before .before .before .before .before .before .pre .0, f), (omega (arith, f), second-room _ o r _ _ n (c .before .before .before .before .before .before .before .before .before .before .before .before .before .before .before .before .before .before .before .before .before .before .box-of .ensures) (c .before .before .before .before .before .before .before .before .before .before .before .before .before .before .before .before .longest .ensures .0) (z .ensures) a ka (c .before .before .before .before .before .before .before .before .before .before .before .before .before .before .before .before .before .before .before .before .before .before .before .before .before .before .before .args .at) (x .result) (length (c .before .before .before .before .before .before .before .before .before .before .before .before .before .before .before .before .before .before .before .before .before .before .before .before .before .before .before .args .boxes .now)) _ (c .before .before .before .before .before .before .before .before .before .before .before .before .before .before .before .before .before .before .before .before .before .before .before .before .before .before .before .pre .1 .1) (x .kept .1 .1 .0 ∙ e2) (x .ensures .ends), second-small _ o r _ _ n (c .before .before .before .before .before .before .before .before .before .before .before .before .before .before .before .before .before .before .before .before .before .before .box-of .ensures) (c .before .before .before .before .before .before .before .before .before .before .before .before .before .before .before .before .longest .ensures .0) (z .ensures) a ka (c .before .before .before .before .before .before .before .before .before .before .before .before .before .before .before .before .before .before .before .before .before .before .before .before .before .before .before .pre .1 .2)))
 
 split-same-length-3 : (t : ℕ) → split-lts.Need-same-length-3 (
   box-of-reads.Asked,
