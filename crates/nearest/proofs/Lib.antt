@@ -1,0 +1,5 @@
+-- Laws of the definitions, leaves first.
+pub mod Lengths
+pub mod Bounds
+pub mod AnyOrder
+pub mod Scanning

@@ -1,0 +1,238 @@
+-- Scanning a list by its halves, in either order, and leaving out those whose box is too far. Assumes nothing.
+use mathlib.Core.Path.{_≡_, refl, sym, ap, _∙_, subst, subst⁻¹}
+use mathlib.Core.Bool.{Bool, true, false}
+use mathlib.Core.List.{List, [], _∷_, _++_}
+use Prim.Native.Nat.{ℕ, suc, _+_, _-_, _*_, _/_, _≤_, _<_}
+use native.Mathlib.Nat.{le-of-eq}
+use native.Mathlib.Omega.{arith}
+use lib.Dec.{T, ltb, eqb}
+use lib.Ieee.{Float, lt}
+use lib.ListN.{length, getD, take, drop, take-append-drop, length-drop, drop-of-length-le}
+use lib.Seq.{drop-cons, take-all, length-take-le}
+use Rattle.lists.specs.Lists.{count}
+use Rattle.lists.specs.Members.{In}
+use Rattle.lists.proofs.Counts.{count-append}
+use Rattle.lists.proofs.Members.{in-head}
+use Rattle.numbers.specs.Root.{root}
+use Rattle.numbers.proofs.OrderLaws.{lt-le, le-not-lt, lt-le-trans}
+use Rattle.vector.specs.Vector.{squared, distance}
+use Rattle.vector.specs.declared.Point3f.{Point3f}
+use Rattle.vector.proofs.Distances.{squared-fits, distance-is}
+use Rattle.points.specs.Points.{pointAt}
+use Rattle.bounds.specs.Within.{Limit}
+use Rattle.nearest.specs.declared.Best.{Best}
+use Rattle.nearest.specs.Scan.{Near, lengthTo}
+use Rattle.nearest.specs.Parts.{closer, scanned, Length, nearOf, Keeps}
+use Rattle.nearest.specs.Boxes.{reachOf, boxesBelow, secondAt, Known, Held, Boxed, leaf, node, Ready}
+use Rattle.nearest.proofs.Lengths.{distance-length}
+use Rattle.nearest.proofs.Bounds.{reach-least, inside-finite}
+use Rattle.nearest.proofs.AnyOrder.{found, any-order}
+
+true-of : (b : Bool) → T b → b ≡ true
+true-of true h = refl
+true-of false h = absurd h
+
+false-of : (b : Bool) → (T b → ⊥) → b ≡ false
+false-of true h = absurd (h tt)
+false-of false h = refl
+
+-- ---- one point
+kept : (best : Near) (d : Float) (number : ℕ) → T (lt (best .distance) d) → closer best d number ≡ best
+unfolding closer
+kept best d number h = rw (false-of (lt d (best .distance)) (λ k. le-not-lt (best .distance) d (lt-le (best .distance) d h) k), true-of (lt (best .distance) d) h)
+
+-- a square above the limit is that of a farther point
+farther : (best : Best) (p spot : Point3f) → Limit (best .distance) (best .limit) → T (lt (best .limit) (squared p spot)) → T (lt (best .distance) (distance p spot))
+farther best p spot lim h = subst⁻¹ (λ (z : Float). T (lt (best .distance) z)) (distance-is p spot) (lim (squared p spot) (squared-fits p spot) h)
+
+abbrev bestOf : Float → ℕ → Float → Best
+bestOf d number limit = record { distance = d; number = number; limit = limit }
+
+module _ (best : Best) (p spot : Point3f) (number : ℕ) where
+  pub passed : {s : Float} → Limit (best .distance) (best .limit) → s ≡ squared p spot → lt (best .limit) s ≡ true → Keeps best (closer (nearOf best) (distance p spot) number)
+  passed lim e h = record {
+    found-is = sym (kept (nearOf best) (distance p spot) number (farther best p spot lim (subst⁻¹ T (ap (λ (z : Float). lt (best .limit) z) (sym e) ∙ h) tt)));
+    limit-holds = lim;
+  }
+
+  pub root-is : {s d : Float} → s ≡ squared p spot → d ≡ root s → d ≡ distance p spot
+  root-is e g = g ∙ ap root e ∙ sym (distance-is p spot)
+
+  pub nearer-taken : {d l : Float} → d ≡ distance p spot → lt d (best .distance) ≡ true → Limit d l → Keeps (bestOf d number l) (closer (nearOf best) (distance p spot) number)
+  unfolding closer
+  nearer-taken {d} {l} e h lim = record {
+    found-is = subst (λ (z : Float). nearOf (bestOf d number l) ≡ closer (nearOf best) z number) e (rw (h));
+    limit-holds = lim;
+  }
+
+  pub farther-left : {d : Float} → Limit (best .distance) (best .limit) → d ≡ distance p spot → lt d (best .distance) ≡ false → lt (best .distance) d ≡ true → Keeps best (closer (nearOf best) (distance p spot) number)
+  unfolding closer
+  farther-left lim e h k = record {
+    found-is = subst (λ (z : Float). nearOf best ≡ closer (nearOf best) z number) e (rw (h, k));
+    limit-holds = lim;
+  }
+
+  pub lower-taken : {d l : Float} → d ≡ distance p spot → lt d (best .distance) ≡ false → lt (best .distance) d ≡ false → ltb number (best .number) ≡ true → Limit d l → Keeps (bestOf d number l) (closer (nearOf best) (distance p spot) number)
+  unfolding closer
+  lower-taken {d} {l} e h k m lim = record {
+    found-is = subst (λ (z : Float). nearOf (bestOf d number l) ≡ closer (nearOf best) z number) e (rw (h, k, m));
+    limit-holds = lim;
+  }
+
+  pub higher-left : {d : Float} → Limit (best .distance) (best .limit) → d ≡ distance p spot → lt d (best .distance) ≡ false → lt (best .distance) d ≡ false → ltb number (best .number) ≡ false → Keeps best (closer (nearOf best) (distance p spot) number)
+  unfolding closer
+  higher-left lim e h k m = record {
+    found-is = subst (λ (z : Float). nearOf best ≡ closer (nearOf best) z number) e (rw (h, k, m));
+    limit-holds = lim;
+  }
+
+-- ---- the loop: what is left leads to the whole
+pub record Left (key : ℕ → Float) (xs : List ℕ) (best : Best) (i : ℕ) (now : Best) : Type 0 where
+  pub most : i ≤ length xs
+  pub same : scanned key (drop i xs) (nearOf now) ≡ scanned key xs (nearOf best)
+  pub limited : Limit (now .distance) (now .limit)
+
+pub left-start : (key : ℕ → Float) (xs : List ℕ) (best : Best) → Limit (best .distance) (best .limit) → Left key xs best 0 best
+left-start key xs best lim = record { most = omega arith; same = refl; limited = lim }
+
+module _ (key : ℕ → Float) {xs : List ℕ} {best : Best} {i : ℕ} {now : Best} where
+  pub left-step : {d : Float} {r : Best} → Left key xs best i now → i < length xs → d ≡ key (getD xs i 0) → Keeps r (closer (nearOf now) d (getD xs i 0)) → Left key xs best (i + 1) r
+  unfolding scanned
+  left-step {d} {r} l h ed k =
+      let e : suc i ≡ i + 1 = omega arith in
+      record {
+        most = omega arith;
+        same = ap (λ (z : Near). scanned key (drop (i + 1) xs) z) (k .found-is ∙ ap (λ (z : Float). closer (nearOf now) z (getD xs i 0)) ed)
+            ∙ ap (λ (n : ℕ). scanned key (drop n xs) (closer (nearOf now) (key (getD xs i 0)) (getD xs i 0))) (sym e)
+            ∙ ap (λ (z : List ℕ). scanned key z (nearOf now)) (sym (drop-cons xs i 0 h)) ∙ l .same;
+        limited = k .limit-holds;
+      }
+
+  pub left-end : Left key xs best i now → length xs ≤ i → Keeps now (scanned key xs (nearOf best))
+  unfolding scanned
+  left-end l h = record {
+    found-is = sym (ap (λ (z : List ℕ). scanned key z (nearOf now)) (drop-of-length-le xs {i = i} h)) ∙ l .same;
+    limit-holds = l .limited;
+  }
+
+-- ---- by halves
+scanned-append : (key : ℕ → Float) (xs ys : List ℕ) (best : Near) → scanned key (xs ++ ys) best ≡ scanned key ys (scanned key xs best)
+unfolding scanned
+scanned-append key [] ys best = refl
+scanned-append key (x ∷ xs) ys best = scanned-append key xs ys (closer best (key x) x)
+
+rest-is : (xs : List ℕ) (m : ℕ) → take (length xs - m) (drop m xs) ≡ drop m xs
+rest-is xs m = take-all (length xs - m) (drop m xs) (le-of-eq (length-drop m xs))
+
+pub second-size : (xs : List ℕ) (m : ℕ) → length (take (length xs - m) (drop m xs)) ≡ length xs - m
+second-size xs m = ap length (rest-is xs m) ∙ length-drop m xs
+
+counted : (v m : ℕ) (xs : List ℕ) → count (eqb v) (take m xs) + count (eqb v) (drop m xs) ≡ count (eqb v) xs
+counted v m xs = sym (count-append (eqb v) (take m xs) (drop m xs)) ∙ ap (count (eqb v)) (take-append-drop m xs)
+
+in-first : (xs : List ℕ) (m v : ℕ) → In v (take m xs) → In v xs
+in-first xs m v i = omega (arith, i, counted v m xs)
+
+in-second : (xs : List ℕ) (m v : ℕ) → In v (drop m xs) → In v xs
+in-second xs m v i = omega (arith, i, counted v m xs)
+
+-- ---- what is farther than the best changes nothing
+all-kept : (key : ℕ → Float) (xs : List ℕ) (best : Near) → ((v : ℕ) → In v xs → T (lt (best .distance) (key v))) → best ≡ scanned key xs best
+unfolding scanned
+all-kept key [] best h = refl
+all-kept key (x ∷ xs) best h = all-kept key xs best (λ v i. h v (omega (arith, i))) ∙ ap (λ (z : Near). scanned key xs z) (sym (kept best (key x) x (h x (in-head x xs))))
+
+-- ---- the boxes
+held : {points : List Float} {words xs : List ℕ} {at width : ℕ} → Boxed points words xs at width → Held points words xs at
+held (leaf h k) = k
+held (node h k a b) = k
+
+first-boxed : {points : List Float} {words xs : List ℕ} {at width : ℕ} → Boxed points words xs at width → 8 < length xs → Boxed points words (take (length xs / 2) xs) (at + 6) (width / 2)
+first-boxed (leaf h k) l = absurd (omega arith)
+first-boxed (node h k a b) l = a
+
+second-boxed : {points : List Float} {words xs : List ℕ} {at width : ℕ} → Boxed points words xs at width → 8 < length xs → Boxed points words (drop (length xs / 2) xs) (secondAt at width (length xs)) (width / 2)
+second-boxed (leaf h k) l = absurd (omega arith)
+second-boxed (node h k a b) l = b
+
+-- ---- the search of a part
+module _ {points : List Float} {spot : Point3f} {words : List ℕ} {at width : ℕ} {square : Float} {xs : List ℕ} {best : Best} (r : Ready points spot words at width square xs best) where
+  abbrev key : ℕ → Float
+  key v = lengthTo points spot v
+
+  pub here : Held points words xs at
+  here = held (r .boxed)
+
+  good : (v : ℕ) → In v xs → Length (key v)
+  good v i = distance-length (pointAt points v) spot (inside-finite words at spot (pointAt points v) (r .spot-finite) (here .inside v i)) (r .spot-finite)
+
+  pub left-out : lt (best .limit) square ≡ true → Keeps best (scanned key xs (nearOf best))
+  left-out e = record {
+    found-is = all-kept key xs (nearOf best) (λ v i. farther best (pointAt points v) spot (r .best-limit)
+        (lt-le-trans (best .limit) (reachOf words at spot) (squared (pointAt points v) spot) (subst⁻¹ T (ap (λ (z : Float). lt (best .limit) z) (sym (r .square-is)) ∙ e) tt)
+        (reach-least words at spot (pointAt points v) (r .spot-finite) (here .inside v i))));
+    limit-holds = r .best-limit;
+  }
+
+  -- the halves' boxes
+  pub first-held : 8 < length xs → Held points words (take (length xs / 2) xs) (at + 6)
+  first-held l = held (first-boxed (r .boxed) l)
+
+  pub second-held : 8 < length xs → {p : ℕ} → p ≡ boxesBelow (width / 2) (length xs / 2) → Held points words (drop (length xs / 2) xs) (at + 6 + 6 * p)
+  second-held l {p} e = subst⁻¹ (λ (z : ℕ). Held points words (drop (length xs / 2) xs) (at + 6 + 6 * z)) e (held (second-boxed (r .boxed) l))
+
+  module _ {b : Best} (lb : Length (b .distance)) (tb : Limit (b .distance) (b .limit)) (l : 8 < length xs) where
+    pub first-ready : {a : Float} → a ≡ reachOf words (at + 6) spot → Ready points spot words (at + 6) (width / 2) a (take (length xs / 2) xs) b
+    first-ready e = record {
+      boxed = first-boxed (r .boxed) l;
+      narrow = omega (arith, r .narrow);
+      few = omega (arith, r .few, length-take-le (length xs / 2) xs (omega arith));
+      spot-finite = r .spot-finite;
+      square-is = e;
+      best-length = lb;
+      best-limit = tb;
+    }
+
+    pub second-ready : {a : Float} {p : ℕ} → p ≡ boxesBelow (width / 2) (length xs / 2) → a ≡ reachOf words (at + 6 + 6 * p) spot
+        → Ready points spot words (at + 6 + 6 * p) (width / 2) a (take (length xs - length xs / 2) (drop (length xs / 2) xs)) b
+    second-ready {a} {p} ep e = record {
+      boxed = subst⁻¹ (λ (z : ℕ). Boxed points words (take (length xs - length xs / 2) (drop (length xs / 2) xs)) (at + 6 + 6 * z) (width / 2)) ep
+          (subst⁻¹ (λ (z : List ℕ). Boxed points words z (secondAt at width (length xs)) (width / 2)) (rest-is xs (length xs / 2)) (second-boxed (r .boxed) l));
+      narrow = omega (arith, r .narrow);
+      few = omega (arith, r .few, second-size xs (length xs / 2));
+      spot-finite = r .spot-finite;
+      square-is = e;
+      best-length = lb;
+      best-limit = tb;
+    }
+
+  -- after one half the best is a length still
+  size-of : (part : List ℕ) → ((v : ℕ) → In v part → In v xs) → {a : Best} → Keeps a (scanned key part (nearOf best)) → Length (a .distance)
+  size-of part from k = subst⁻¹ (λ (z : Near). Length (z .distance)) (k .found-is) (found key part (λ v i. good v (from v i)) (nearOf best) (r .best-length) .size)
+
+  pub first-size : {a : Best} → Keeps a (scanned key (take (length xs / 2) xs) (nearOf best)) → Length (a .distance)
+  first-size k = size-of (take (length xs / 2) xs) (in-first xs (length xs / 2)) k
+
+  pub second-length : {a : Best} → Keeps a (scanned key (take (length xs - length xs / 2) (drop (length xs / 2) xs)) (nearOf best)) → Length (a .distance)
+  second-length {a} k = size-of (drop (length xs / 2) xs) (in-second xs (length xs / 2)) (subst (λ (z : List ℕ). Keeps a (scanned key z (nearOf best))) (rest-is xs (length xs / 2)) k)
+
+  pub in-turn : {a z : Best} → Keeps a (scanned key (take (length xs / 2) xs) (nearOf best)) → Keeps z (scanned key (take (length xs - length xs / 2) (drop (length xs / 2) xs)) (nearOf a)) → Keeps z (scanned key xs (nearOf best))
+  in-turn {a} {z} ka kz =
+      let m = length xs / 2 in
+      record {
+        found-is = kz .found-is ∙ ap (λ (l : List ℕ). scanned key l (nearOf a)) (rest-is xs m) ∙ ap (λ (n : Near). scanned key (drop m xs) n) (ka .found-is)
+            ∙ sym (scanned-append key (take m xs) (drop m xs) (nearOf best)) ∙ ap (λ (l : List ℕ). scanned key l (nearOf best)) (take-append-drop m xs);
+        limit-holds = kz .limit-holds;
+      }
+
+  pub turned : {a z : Best} → Keeps a (scanned key (take (length xs - length xs / 2) (drop (length xs / 2) xs)) (nearOf best)) → Keeps z (scanned key (take (length xs / 2) xs) (nearOf a)) → Keeps z (scanned key xs (nearOf best))
+  turned {a} {z} ka kz =
+      let m = length xs / 2 in
+      let both = drop m xs ++ take m xs in
+      let to : (v : ℕ) → In v both → In v xs = λ v i. omega (arith, i, counted v m xs, count-append (eqb v) (drop m xs) (take m xs)) in
+      let from : (v : ℕ) → In v xs → In v both = λ v i. omega (arith, i, counted v m xs, count-append (eqb v) (drop m xs) (take m xs)) in
+      record {
+        found-is = kz .found-is ∙ ap (λ (n : Near). scanned key (take m xs) n) (ka .found-is ∙ ap (λ (l : List ℕ). scanned key l (nearOf best)) (rest-is xs m))
+            ∙ sym (scanned-append key (drop m xs) (take m xs) (nearOf best)) ∙ any-order key both xs (λ v i. good v (to v i)) (nearOf best) (r .best-length) to from;
+        limit-holds = kz .limit-holds;
+      }

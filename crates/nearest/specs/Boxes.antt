@@ -1,0 +1,93 @@
+-- Boxes that hold the parts of a list of points, in preorder, and how far they are. Definitions only.
+use mathlib.Core.Path.{_≡_}
+use mathlib.Core.Bool.{cond, not}
+use mathlib.Core.List.{List}
+use Prim.Native.Nat.{ℕ, _+_, _-_, _*_, _/_, _≤_, _<_}
+use lib.Dec.{T, leb}
+use lib.Ieee.{Float, binary32, lt, le, ofBits, nanBits}
+use lib.Ieee.Scale.{finite}
+use lib.ListN.{length, getD, take, drop}
+use Rattle.lists.specs.Members.{In}
+use Rattle.vector.specs.Vector.{Finite, point, squared}
+use Rattle.vector.specs.declared.Point3f.{Point3f}
+use Rattle.points.specs.Points.{pointAt}
+use Rattle.bounds.specs.Within.{Limit}
+use Rattle.nearest.specs.declared.Best.{Best}
+use Rattle.nearest.specs.Parts.{Length}
+
+-- the coordinate whose bits stand in a word
+abbrev pub wordAt : List ℕ → ℕ → Float
+wordAt words k = ofBits binary32 (getD words k 0)
+
+-- the nearest number to v between lo and hi
+unfoldable pub clampTo : Float → Float → Float → Float
+clampTo v lo hi = cond (lt v lo) lo (cond (lt hi v) hi v)
+
+-- the place nearest to the spot in the box that stands at a word: three least coordinates, then three greatest
+abbrev pub clamped : List ℕ → ℕ → Point3f → Point3f
+clamped words at spot =
+    point (clampTo (spot .x) (wordAt words at) (wordAt words (at + 3)))
+    (clampTo (spot .y) (wordAt words (at + 1)) (wordAt words (at + 4)))
+    (clampTo (spot .z) (wordAt words (at + 2)) (wordAt words (at + 5)))
+
+-- how far the box is from the spot, squared
+unfoldable pub reachOf : List ℕ → ℕ → Point3f → Float
+reachOf words at spot = squared (clamped words at spot) spot
+
+-- a number between two, all three finite
+pub record Between (lo hi v : Float) : Type 0 where
+  pub lo-finite : T (finite lo)
+  pub hi-finite : T (finite hi)
+  pub v-finite : T (finite v)
+  pub above : T (le lo v)
+  pub below : T (le v hi)
+
+-- a point within the box
+pub record Inside (words : List ℕ) (at : ℕ) (p : Point3f) : Type 0 where
+  pub on-x : Between (wordAt words at) (wordAt words (at + 3)) (p .x)
+  pub on-y : Between (wordAt words (at + 1)) (wordAt words (at + 4)) (p .y)
+  pub on-z : Between (wordAt words (at + 2)) (wordAt words (at + 5)) (p .z)
+
+-- six words that are the bits of numbers
+pub record Six (words : List ℕ) (at : ℕ) : Type 0 where
+  pub long : at + 6 ≤ length words
+  pub numbers : (k : ℕ) → k < 6 → T (not (nanBits binary32 (getD words (at + k) 0)))
+
+-- numbers of points that are there
+abbrev pub Known : List Float → List ℕ → Type 0
+Known points xs = (v : ℕ) → In v xs → 3 * v + 2 < length points
+
+-- a box that holds all points of a list
+pub record Held (points : List Float) (words : List ℕ) (xs : List ℕ) (at : ℕ) : Type 0 where
+  pub six : Six words at
+  pub known : Known points xs
+  pub inside : (v : ℕ) → In v xs → Inside words at (pointAt points v)
+
+-- How many boxes a part of n points has, where width is the power of two with n up to nine and above half of nine
+-- times it: the halves at that depth are eight or fewer but for n - 8 * width of nine.
+unfoldable pub boxesBelow : ℕ → ℕ → ℕ
+boxesBelow width n = cond (leb n 8) 1 (2 * (width + (n - 8 * width)) - 1)
+
+-- where the second half's box stands
+abbrev pub secondAt : ℕ → ℕ → ℕ → ℕ
+secondAt at width n = at + 6 + 6 * boxesBelow (width / 2) (n / 2)
+
+-- the box at a place holds the list, and those behind it its halves, as long as more than eight are left
+pub data Boxed (points : List Float) (words : List ℕ) : List ℕ → ℕ → ℕ → Type 0 where
+  leaf : {xs : List ℕ} {at width : ℕ} → length xs ≤ 8 → Held points words xs at → Boxed points words xs at width
+  node : {xs : List ℕ} {at width : ℕ} → 8 < length xs → Held points words xs at
+      → Boxed points words (take (length xs / 2) xs) (at + 6) (width / 2)
+      → Boxed points words (drop (length xs / 2) xs) (secondAt at width (length xs)) (width / 2)
+      → Boxed points words xs at width
+
+-- what a search of a part starts from
+pub record Ready
+    (points : List Float) (spot : Point3f) (words : List ℕ) (at width : ℕ) (square : Float) (xs : List ℕ) (best : Best)
+    : Type 0 where
+  pub boxed : Boxed points words xs at width
+  pub narrow : width ≤ 4096
+  pub few : length xs ≤ 4096
+  pub spot-finite : Finite spot
+  pub square-is : square ≡ reachOf words at spot
+  pub best-length : Length (best .distance)
+  pub best-limit : Limit (best .distance) (best .limit)

@@ -1,0 +1,36 @@
+-- The nearest of a list of points in any order, for contracts inside. Definitions only.
+use mathlib.Core.Path.{_≡_}
+use mathlib.Core.Bool.{cond}
+use mathlib.Core.List.{List, [], _∷_}
+use Prim.Native.Nat.{ℕ}
+use lib.Dec.{T, ltb}
+use lib.Ieee.{Float, binary32, lt, fits}
+use Rattle.numbers.specs.Bounds.{unsigned}
+use Rattle.bounds.specs.Within.{Limit}
+use Rattle.nearest.specs.declared.Best.{Best}
+use Rattle.nearest.specs.Scan.{Near}
+
+-- the nearer, and the lower number on equality
+unfoldable pub closer : Near → Float → ℕ → Near
+closer best d number =
+    cond (lt d (best .distance)) (record { distance = d; number = number })
+    (cond (lt (best .distance) d) best
+    (cond (ltb number (best .number)) (record { distance = d; number = number }) best))
+
+-- the nearest of the best so far and a list
+unfoldable pub scanned : (ℕ → Float) → List ℕ → Near → Near
+scanned key [] best = best
+scanned key (x ∷ xs) best = scanned key xs (closer best (key x) x)
+
+-- a length as `distance` gives it
+pub record Length (d : Float) : Type 0 where
+  pub is-f32 : T (fits binary32 d)
+  pub sign : T (unsigned d)
+
+abbrev pub nearOf : Best → Near
+nearOf best = record { distance = best .distance; number = best .number }
+
+-- what is kept stands for the one found, and its limit is one of its length
+pub record Keeps (best : Best) (found : Near) : Type 0 where
+  pub found-is : nearOf best ≡ found
+  pub limit-holds : Limit (best .distance) (best .limit)

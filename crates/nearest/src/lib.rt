@@ -1,0 +1,147 @@
+// The nearest of a list of points, by boxes that hold its halves: a part whose box is strictly farther than the best so far is left out.
+use vector::Point3f;
+ghost use mathlib.Core.Path.{_≡_};
+ghost use mathlib.Core.Bool.{not};
+ghost use Prim.Native.Nat.{_≤_, _<_};
+ghost use lib.Dec.{T};
+ghost use lib.Ieee.{binary32, nanBits};
+ghost use lib.ListN.{length, getD};
+ghost use Rattle.bounds.specs.Within.{Limit};
+ghost use Rattle.vector.specs.Vector.{distance};
+ghost use Rattle.nearest.specs.Scan.{lengthTo};
+ghost use Rattle.nearest.specs.Parts.{closer, scanned, nearOf, Keeps};
+ghost use Rattle.nearest.specs.Boxes.{wordAt, clampTo, reachOf, boxesBelow, Six, Known, Ready};
+
+// The nearest point so far. A square above the limit has a root above the distance, so that most points need no root.
+pub struct Best {
+    pub distance: f32,
+    pub number: u32,
+    pub limit: f32,
+}
+
+// The nearer of the best so far and a point, the lower number on equality.
+fn closer(best: Best, p: Point3f, spot: Point3f, number: u32) -> Best
+    requires { ⌜ Limit (best .distance) (best .limit) ⌝ }
+    ensures { λ r. ⌜ Keeps r (closer (nearOf best) (distance p spot) number) ⌝ }
+{
+    let square = vector::distance_squared(p, spot);
+    if best.limit < square {
+        return best;
+    }
+    let distance = numbers::sqrt(square);
+    if distance < best.distance {
+        return Best {
+            distance: distance,
+            number: number,
+            limit: bounds::square_limit(distance),
+        };
+    }
+    if best.distance < distance {
+        return best;
+    }
+    if number < best.number {
+        return Best {
+            distance: distance,
+            number: number,
+            limit: bounds::square_limit(distance),
+        };
+    }
+    best
+}
+
+// The nearest of the best so far and all points of a list.
+fn scan(points: &[f32], spot: Point3f, order: &[u32], best: Best) -> Best
+    requires { ⌜ Limit (best .distance) (best .limit) ⌝ }
+    requires { ⌜ Known (now points) (now order) ⌝ }
+    ensures { λ r. ⌜ Keeps r (scanned (lengthTo (now (points .entry)) spot) (now (order .entry)) (nearOf best)) ⌝ }
+{
+    let mut found = best;
+    let mut i: usize = 0;
+    while i < order.len() {
+        let number = order[i];
+        let p = points::point_at(points, number as usize);
+        found = closer(found, p, spot, number);
+        i += 1;
+    }
+    found
+}
+
+fn clamp_to(v: f32, lo: f32, hi: f32) -> f32
+    ensures { λ r. ⌜ r ≡ clampTo v lo hi ⌝ }
+{
+    if v < lo {
+        return lo;
+    }
+    if hi < v {
+        return hi;
+    }
+    v
+}
+
+// The coordinate whose bits a word has.
+fn word_at(words: &[u32], at: usize) -> f32
+    requires { ⌜ (at < length (now words)) × T (not (nanBits binary32 (getD (now words) at 0))) ⌝ }
+    ensures { λ r. ⌜ r ≡ wordAt (now (words .entry)) at ⌝ }
+{
+    f32::from_bits(words[at])
+}
+
+// How far the spot is from the box at a place, squared.
+pub fn reach(words: &[u32], at: usize, spot: Point3f) -> f32
+    requires { ⌜ Six (now words) at ⌝ }
+    ensures { λ r. ⌜ r ≡ reachOf (now (words .entry)) at spot ⌝ }
+{
+    let x = clamp_to(spot.x, word_at(words, at), word_at(words, at + 3));
+    let y = clamp_to(spot.y, word_at(words, at + 1), word_at(words, at + 4));
+    let z = clamp_to(spot.z, word_at(words, at + 2), word_at(words, at + 5));
+    vector::distance_squared(vector::point(x, y, z), spot)
+}
+
+// How many boxes a part of n points has.
+fn boxes_below(width: usize, n: usize) -> usize
+    requires { ⌜ (width ≤ 4096) × (n ≤ 4096) ⌝ }
+    ensures { λ r. ⌜ r ≡ boxesBelow width n ⌝ }
+{
+    if n <= 8 {
+        return 1;
+    }
+    if 8 * width < n {
+        return 2 * (n - 7 * width) - 1;
+    }
+    2 * width - 1
+}
+
+// The same as `scan`, but that parts whose box is farther than the best so far are left out, and of two halves the nearer one comes first.
+pub fn search(
+    points: &[f32],
+    spot: Point3f,
+    words: &[u32],
+    at: usize,
+    width: usize,
+    square: f32,
+    order: &[u32],
+    best: Best,
+) -> Best
+    requires { ⌜ Ready (now points) spot (now words) at width square (now order) best ⌝ }
+    ensures { λ r. ⌜ Keeps r (scanned (lengthTo (now (points .entry)) spot) (now (order .entry)) (nearOf best)) ⌝ }
+{
+    if best.limit < square {
+        return best;
+    }
+    let n = order.len();
+    if n <= 8 {
+        return scan(points, spot, order, best);
+    }
+    let half = n / 2;
+    let below = width / 2;
+    let first = at + 6;
+    let second = first + 6 * boxes_below(below, half);
+    let a = reach(words, first, spot);
+    let b = reach(words, second, spot);
+    if b < a {
+        let later = search(points, spot, words, second, below, b, &order[half..], best);
+        return search(points, spot, words, first, below, a, &order[..half], later);
+    }
+    let earlier = search(points, spot, words, first, below, a, &order[..half], best);
+    search(points, spot, words, second, below, b, &order[half..], earlier)
+}
