@@ -130,10 +130,10 @@ second-size xs m = ap length (rest-is xs m) ∙ length-drop m xs
 counted : (v m : ℕ) (xs : List ℕ) → count (eqb v) (take m xs) + count (eqb v) (drop m xs) ≡ count (eqb v) xs
 counted v m xs = sym (count-append (eqb v) (take m xs) (drop m xs)) ∙ ap (count (eqb v)) (take-append-drop m xs)
 
-in-first : (xs : List ℕ) (m v : ℕ) → In v (take m xs) → In v xs
+pub in-first : (xs : List ℕ) (m v : ℕ) → In v (take m xs) → In v xs
 in-first xs m v i = omega (arith, i, counted v m xs)
 
-in-second : (xs : List ℕ) (m v : ℕ) → In v (drop m xs) → In v xs
+pub in-second : (xs : List ℕ) (m v : ℕ) → In v (drop m xs) → In v xs
 in-second xs m v i = omega (arith, i, counted v m xs)
 
 -- ---- what is farther than the best changes nothing
@@ -143,7 +143,7 @@ all-kept key [] best h = refl
 all-kept key (x ∷ xs) best h = all-kept key xs best (λ v i. h v (omega (arith, i))) ∙ ap (λ (z : Near). scanned key xs z) (sym (kept best (key x) x (h x (in-head x xs))))
 
 -- ---- the boxes
-held : {points : List Float} {words xs : List ℕ} {at width : ℕ} → Boxed points words xs at width → Held points words xs at
+pub held : {points : List Float} {words xs : List ℕ} {at width : ℕ} → Boxed points words xs at width → Held points words xs at
 held (leaf h k) = k
 held (node h k a b) = k
 

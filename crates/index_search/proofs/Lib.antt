@@ -1,0 +1,6 @@
+-- Laws of the definitions, leaves first.
+pub mod Counted
+pub mod Widths
+pub mod Holding
+pub mod Parts
+pub mod Own

@@ -1,0 +1,48 @@
+use mathlib.Core.Path.{refl, sym, ap, _∙_}
+use native.Mathlib.Omega.{arith}
+use Rattle.vector.specs.Vector.{distance}
+use Rattle.vector.specs.declared.Point3f.{Point3f}
+use Rattle.index_search.proofs.Own.{whole-length, first-six, started, nearest-found}
+use borrow.Author.Needs.{needs}
+use Rattle.index_search.proofs.nearest_in.Statement.{statement}
+use Rattle.index_search.proofs.nearest_in.Tie as tie
+use Rattle.index_search.proofs.nearest_in.Reads as reads
+use Rattle.index_search.proofs.nearest_in.Lts as lts
+use Rattle.bounds.proofs.square_limit.Reads as square-limit-reads
+use Rattle.nearest.proofs.reach.Reads as reach-reads
+use Rattle.nearest.proofs.search.Reads as search-reads
+use Rattle.points.proofs.point_at.Reads as point-at-reads
+use Rattle.vector.proofs.distance.Reads as distance-reads
+
+point-at-requires : tie.Need-point-at-requires
+point-at-requires c κs = omega (arith, c .before .before .pre .0 .cloud .some, c .before .before .pre .0 .cloud .threes)
+
+distance-requires : tie.Need-distance-requires
+distance-requires c κs = search needs
+
+square-limit-requires : tie.Need-square-limit-requires
+square-limit-requires c κs = search needs
+
+reach-requires : tie.Need-reach-requires
+reach-requires c κs = let a = c .before .before .before .before .before .args in let own = c .before .before .before .before .before .pre .0 in let fit = c .before .before .before .before .shared-slice-known .given in first-six own fit (a .width) (c .before .before .before .before .before .pre .1)
+
+slice-aggregate-search : tie.Need-slice-aggregate-search
+slice-aggregate-search c = let a = c .before .before .before .before .before .before .before .args in let own = c .before .before .before .before .before .before .before .pre .0 in let fit = c .before .before .before .before .before .before .shared-slice-known .given in sym (whole-length own fit)
+
+search-requires : tie.Need-search-requires
+search-requires c κs = let a = c .before .before .before .before .before .before .before .args in let own = c .before .before .before .before .before .before .before .pre .0 in let fit = c .before .before .before .before .before .before .shared-slice-known .given in started own fit (a .spot) (c .before .before .before .before .before .before .before .pre .3) (a .width) (c .before .before .before .before .before .before .before .pre .1) (c .before .before .before .before .before .before .before .pre .2) (c .before .before .before .distance .ensures ∙ ap (λ (p : Point3f). distance p (a .spot)) (c .before .before .before .before .point-at .ensures)) (c .before .before .square-limit .ensures) (c .before .reach .ensures)
+
+returns : tie.Need-returns
+returns c = let a = c .before .before .before .before .before .before .before .before .args in let own = c .before .before .before .before .before .before .before .before .pre .0 in let fit = c .before .before .before .before .before .before .before .shared-slice-known .given in nearest-found own fit (a .spot) (c .before .before .before .before .before .before .before .before .pre .3) (c .before .before .before .before .distance .ensures ∙ ap (λ (p : Point3f). distance p (a .spot)) (c .before .before .before .before .before .point-at .ensures)) refl (c .search .ensures)
+
+pub nearest-in-spec : {M : Type 1} → statement M
+nearest-in-spec =
+    tie.close
+    (tie.spec
+    point-at-requires
+    distance-requires
+    square-limit-requires
+    reach-requires
+    slice-aggregate-search
+    search-requires
+    returns)
