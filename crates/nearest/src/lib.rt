@@ -143,5 +143,14 @@ pub fn search(
         return search(points, spot, words, first, below, a, &order[..half], later);
     }
     let earlier = search(points, spot, words, first, below, a, &order[..half], best);
-    search(points, spot, words, second, below, b, &order[half..], earlier)
+    search(
+        points,
+        spot,
+        words,
+        second,
+        below,
+        b,
+        &order[half..],
+        earlier,
+    )
 }

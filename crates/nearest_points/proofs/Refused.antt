@@ -117,7 +117,7 @@ accepted points spots index words floats e =
     }
 
 -- a spot is finite: it is a cloud of one point
-spot-finite : (x y z : Float) → inside (neg farthest) farthest x ≡ true → inside (neg farthest) farthest y ≡ true → inside (neg farthest) farthest z ≡ true → Finite (point x y z)
+pub spot-finite : (x y z : Float) → inside (neg farthest) farthest x ≡ true → inside (neg farthest) farthest y ≡ true → inside (neg farthest) farthest z ≡ true → Finite (point x y z)
 spot-finite x y z a b c = record { x-finite = cloud-finite one 0 (omega arith); y-finite = cloud-finite one 1 (omega arith); z-finite = cloud-finite one 2 (omega arith) }
   where
     near : Within farthest (x ∷ y ∷ z ∷ [])
@@ -125,9 +125,14 @@ spot-finite x y z a b c = record { x-finite = cloud-finite one 0 (omega arith); 
     near (suc zero) h = b
     near (suc (suc zero)) h = c
     near (suc (suc (suc k))) h = absurd (omega arith)
+
     one : Cloud 1 (x ∷ y ∷ z ∷ [])
     one = record { some = omega arith; few = omega arith; threes = refl; near = near }
 
 pub spots-finite : (spots : List Float) → Within farthest spots → (i : ℕ) → 3 * i + 2 < length spots → Finite (pointAt spots i)
 unfolding pointAt
 spots-finite spots near i h = spot-finite (getD spots (3 * i) nan) (getD spots (3 * i + 1) nan) (getD spots (3 * i + 2) nan) (near (3 * i) (omega arith)) (near (3 * i + 1) (omega arith)) (near (3 * i + 2) h)
+
+-- one spot inside the domain
+pub one-finite : (x y z : Float) → Within farthest (x ∷ y ∷ z ∷ []) → Finite (point x y z)
+one-finite x y z near = spot-finite x y z (near 0 (omega arith)) (near 1 (omega arith)) (near 2 (omega arith))

@@ -22,6 +22,9 @@ use Rattle.nearest_points.specs.declared.Searched.{Searched}
 abbrev pub answerOf : ℕ → ℕ → Searched
 answerOf answer detail = record { answer = answer; detail = detail }
 
+abbrev pub nearestOf : ℕ → ℕ → ℕ → Float → Nearest
+nearestOf answer detail p d = record { answer = answer; detail = detail; point = p; distance = d }
+
 -- an answer's number and detail are a refusal's
 pub record Answers (r : Searched) (f : Refusal) : Type 0 where
   pub answered : r .answer ≡ f .answer

@@ -1,12 +1,13 @@
 // The point of a cloud that is nearest to a spot, and those nearest to many spots, by the cloud's index.
 ghost use mathlib.Core.Path.{_≡_};
+ghost use mathlib.Core.List.{[], _∷_};
 ghost use Prim.Native.Nat.{_/_, _≤_};
 ghost use lib.ListN.{length};
 ghost use Rattle.ranges.specs.Range.{firstOutside, farthest};
 ghost use Rattle.domain.specs.Accepted.{Within};
 ghost use Rattle.domain.specs.Refusals.{firstRefusal};
 ghost use Rattle.index_search.specs.Indexed.{Indexed, Width};
-ghost use Rattle.nearest_points.specs.Found.{answerOf, Answers, checksBy, numbersIn};
+ghost use Rattle.nearest_points.specs.Found.{answerOf, nearestOf, Answers, checksBy, numbersIn, Searches, Nears};
 
 // The answer's number, its detail, and the nearest point with its distance, both 0 at a refusal.
 #[repr(C)]
@@ -31,6 +32,25 @@ fn answer_of(answer: u32, detail: usize) -> Searched
         answer: answer,
         detail: detail,
     }
+}
+
+fn nearest_of(answer: u32, detail: u32, point: u32, distance: f32) -> Nearest
+    ensures { λ r. ⌜ r ≡ nearestOf answer detail point distance ⌝ }
+{
+    Nearest {
+        answer: answer,
+        detail: detail,
+        point: point,
+        distance: distance,
+    }
+}
+
+// 0 where a spot is outside the domain, else 1, as of a list of spots.
+fn spot_outside(x: f32, y: f32, z: f32) -> usize
+    ensures { λ r. ⌜ r ≡ firstOutside farthest (x ∷ y ∷ z ∷ []) ⌝ }
+{
+    let spot = [x, y, z];
+    ranges::first_outside(&spot[..], 10000.0)
 }
 
 // What the checks up to 7 answer, for slices of the given lengths and the first spot outside the domain.
@@ -91,4 +111,69 @@ fn fill(points: &[f32], spots: &[f32], index: &[u32], width: usize, found: &mut 
         found[i] = best.number;
         i += 1;
     }
+}
+
+// The nearest point to one spot: what is told of a list with that spot alone.
+pub fn nearest_point(
+    points: &[f32],
+    x: f32,
+    y: f32,
+    z: f32,
+    index: &[u32],
+    words: &mut [u32],
+    floats: &mut [f32],
+) -> Nearest
+    ensures { λ r. ⌜ Nears (now (points .entry)) x y z (now (index .entry)) (now (words .entry)) (now (floats .entry)) r (now (words .exit)) (now (floats .exit)) ⌝ }
+{
+    let bad = spot_outside(x, y, z);
+    let refusal = refusal_of_search(points, 3, bad, index.len(), words.len(), floats.len());
+    if refusal.answer != 0 {
+        return nearest_of(refusal.answer, refusal.detail as u32, 0, 0.0);
+    }
+    let own = point_index::matches(points, index, words, floats);
+    clearing::clear_u32(words);
+    clearing::clear_f32(floats);
+    if !own {
+        return nearest_of(22, 0, 0, 0.0);
+    }
+    let width = index_search::width_of(points.len() / 3);
+    let best = index_search::nearest_in(points, index, width, vector::point(x, y, z));
+    nearest_of(0, 0, best.number, best.distance)
+}
+
+// The nearest point to each of many spots: its number goes to the spot's place in the found slice.
+pub fn nearest_points(
+    points: &[f32],
+    spots: &[f32],
+    index: &[u32],
+    found: &mut [u32],
+    words: &mut [u32],
+    floats: &mut [f32],
+) -> Searched
+    ensures { λ r. ⌜ Searches (now (points .entry)) (now (spots .entry)) (now (index .entry)) (now (found .entry)) (now (words .entry)) (now (floats .entry)) r (now (found .exit)) (now (words .exit)) (now (floats .exit)) ⌝ }
+{
+    let bad = ranges::first_outside(spots, 10000.0);
+    let refusal = refusal_of_search(
+        points,
+        spots.len(),
+        bad,
+        index.len(),
+        words.len(),
+        floats.len(),
+    );
+    if refusal.answer != 0 {
+        return refusal;
+    }
+    let own = point_index::matches(points, index, words, floats);
+    clearing::clear_u32(words);
+    clearing::clear_f32(floats);
+    if found.len() < spots.len() / 3 {
+        return answer_of(13, 0);
+    }
+    if !own {
+        return answer_of(22, 0);
+    }
+    let width = index_search::width_of(points.len() / 3);
+    fill(points, spots, index, width, found);
+    answer_of(0, 0)
 }

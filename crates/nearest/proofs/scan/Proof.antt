@@ -3,7 +3,6 @@ use borrow.Author.Needs.{needs}
 use lib.ListN.{length, getD}
 use mathlib.Core.Path.{ap}
 use Prim.Native.Nat.{_-_}
-
 use Rattle.lists.proofs.Members.{in-at}
 use Rattle.vector.specs.Vector.{distance}
 use Rattle.vector.specs.declared.Point3f.{Point3f}
