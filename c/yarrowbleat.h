@@ -31,9 +31,11 @@
  *   15  no triangle was found: of the triples that were tried none lay close enough together to be judged, at any radius
  *   16  no triangle was found: all triples that were judged were turned down
  *   17  two of three point numbers are equal
+ *   13  an output slice is too short
  *   19  the tally is full: it has 100,000 patches
  *   20  a season's patch has no points, more than 4,096, more covered than scanned or more than 10,000 faces
  *   21  figures are asked of an empty tally
+ *   22  the index isn't this cloud's
  *   24  no season can have left the tally, see YbTally
  *
  * The checks are made in this order, but that 15 and 16 stand right behind 8, and but for a tally's and an STL file's,
@@ -84,6 +86,7 @@ typedef enum {
     YB_TALLY_FULL = 19,
     YB_SEASON_PATCH = 20,
     YB_TALLY_EMPTY = 21,
+    YB_FOREIGN_INDEX = 22,
     YB_TALLY = 24
 } YbAnswer;
 
@@ -108,9 +111,11 @@ static inline const char *yb_answer_text(uint32_t answer) {
     case YB_NONE_CLOSE: return "no triangle was found: no three points lie close enough together";
     case YB_ALL_TURNED_DOWN: return "no triangle was found: all that were judged were turned down";
     case YB_EQUAL_NUMBERS: return "two of three point numbers are equal";
+    case YB_OUTPUT_TOO_SHORT: return "an output slice is too short";
     case YB_TALLY_FULL: return "the tally has 100,000 patches";
     case YB_SEASON_PATCH: return "the patch's counts can't be entered";
     case YB_TALLY_EMPTY: return "the tally is empty";
+    case YB_FOREIGN_INDEX: return "the index isn't this cloud's";
     case YB_TALLY: return "no season can have left this tally";
     default: return "an answer that this version has no words for";
     }
@@ -122,6 +127,9 @@ static inline const char *yb_answer_text(uint32_t answer) {
 /* The least lengths of the work slices for n points. */
 #define YB_WORDS(n) (24 * (size_t)(n) + 64)
 #define YB_FLOATS(n) (4 * (size_t)(n) + 64)
+
+/* The least length of an index of n points. */
+#define YB_INDEX(n) (8 * (size_t)(n) + 64)
 
 /* The length of a face slice that never gets a 9, whatever the cloud: 3 numbers a face, at most 10,000 faces. */
 #define YB_FACE_NUMBERS 30000
@@ -248,6 +256,33 @@ typedef struct {
     YbFraction best_coverage;
     YbFraction worst_coverage;
 } YbFigures;
+
+/* The answer of building an index. */
+typedef struct {
+    uint32_t answer;
+    uint32_t detail;
+} YbIndexed;
+
+/* Whether an index is a cloud's; no at a refusal. */
+typedef struct {
+    uint32_t answer;
+    uint32_t detail;
+    bool belongs;
+} YbBelongs;
+
+/* The nearest point to a spot and its distance, both 0 at a refusal. */
+typedef struct {
+    uint32_t answer;
+    uint32_t detail;
+    uint32_t point;
+    float distance;
+} YbNearest;
+
+/* The answer of a search for many spots. */
+typedef struct {
+    uint32_t answer;
+    size_t detail;
+} YbSearched;
 
 /* ---- The library itself ---- */
 
@@ -417,6 +452,57 @@ uint32_t yb_tally_add(YbTally *tally, YbSeasonPatch patch);
 /* The figures of the tally. Answers 0, 24 or 21, tried in this order; at a refusal every other field is 0. */
 YbFigures yb_tally_figures(const YbTally *tally);
 
+/* ---- The nearest scanned point ---- */
+
+/*
+ * Builds the index of a cloud, by which the nearest point is found at once: a tree of boxes, split at the middle of the
+ * points' order along the longest side until eight points or fewer remain.
+ *
+ * points: three coordinates a point, 1 to 4,096 points.
+ * index: gets YB_INDEX(n) = 8n + 64 numbers: the point numbers as the splits leave them, the boxes' coordinates as
+ * bits, zeros. What lies past them stays.
+ * words, floats: work slices of at least YB_WORDS(n) and YB_FLOATS(n) entries.
+ *
+ * Answers 0, 1, 2 (first half), 3, 4 (coordinates) or 7 (also for a short index). At 0 both work slices end as zeros;
+ * at a refusal all three slices are as they were.
+ */
+YbIndexed yb_build_index(const float *points, size_t points_len, uint32_t *index, size_t index_len, uint32_t *words,
+                         size_t words_len, float *floats, size_t floats_len);
+
+/*
+ * Tells whether an index is this cloud's: yes exactly if building it afresh gives the same numbers. Any bits are taken;
+ * numbers past the first 8n + 64 are not read. Answers and work slices as for yb_build_index.
+ */
+YbBelongs yb_index_belongs(const float *points, size_t points_len, const uint32_t *index, size_t index_len,
+                           uint32_t *words, size_t words_len, float *floats, size_t floats_len);
+
+/*
+ * The point nearest to the spot (x, y, z): the least computed length, the lowest number among equals, exactly as a scan
+ * over all points finds it.
+ *
+ * index, words, floats: as for yb_build_index.
+ *
+ * Answers 0, 1, 2 (first half), 3, 4 (coordinates; of the spot with the point count as detail), 7 or 22, tried in this
+ * order. At 0 and 22 both work slices end as zeros, at any other answer they are as they were. That the index is this
+ * cloud's is found out by building it anew, which costs more than a scan: for many spots take yb_nearest_points.
+ */
+YbNearest yb_nearest_point(const float *points, size_t points_len, float x, float y, float z, const uint32_t *index,
+                           size_t index_len, uint32_t *words, size_t words_len, float *floats, size_t floats_len);
+
+/*
+ * The points nearest to many spots, each as yb_nearest_point finds it; the index is looked at once.
+ *
+ * spots: three coordinates a spot; none are fine.
+ * found: gets a point number a spot, spots_len / 3 of them. What lies past them stays, at a refusal all of it does.
+ *
+ * Answers 0, 1, 2 (first half, also for the spots' length), 3, 4 (coordinates; of a spot the detail is the point count
+ * and the spot's number from 0), 7, 13 or 22, tried in this order. At 0, 13 and 22 both work slices end as zeros, at any
+ * other answer they are as they were.
+ */
+YbSearched yb_nearest_points(const float *points, size_t points_len, const float *spots, size_t spots_len,
+                             const uint32_t *index, size_t index_len, uint32_t *found, size_t found_len,
+                             uint32_t *words, size_t words_len, float *floats, size_t floats_len);
+
 /* ---- The layout that the library was built with ---- */
 
 #define YB_SIZE(type, size) YB_ASSERT(sizeof(type) == (size), "the size of " #type)
@@ -509,6 +595,24 @@ YB_AT(YbVerdict, answer, 0);
 YB_AT(YbVerdict, detail, 4);
 YB_AT(YbVerdict, kind, 8);
 YB_AT(YbVerdict, measured, 12);
+YB_SIZE(YbIndexed, 8);
+YB_AT(YbIndexed, answer, 0);
+YB_AT(YbIndexed, detail, 4);
+
+YB_SIZE(YbBelongs, 12);
+YB_AT(YbBelongs, answer, 0);
+YB_AT(YbBelongs, detail, 4);
+YB_AT(YbBelongs, belongs, 8);
+
+YB_SIZE(YbNearest, 16);
+YB_AT(YbNearest, answer, 0);
+YB_AT(YbNearest, detail, 4);
+YB_AT(YbNearest, point, 8);
+YB_AT(YbNearest, distance, 12);
+
+YB_SIZE(YbSearched, 16);
+YB_AT(YbSearched, answer, 0);
+YB_AT(YbSearched, detail, 8);
 
 #undef YB_SIZE
 #undef YB_AT

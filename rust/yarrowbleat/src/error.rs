@@ -12,7 +12,7 @@ pub enum Error {
     Lengths,
     /// 3. There are more than 4,096 points, or more than 1,000,000 faces to write.
     TooManyPoints,
-    /// 4. A coordinate or normal of this point, from 0, is outside the domain.
+    /// 4. A coordinate or normal of this point, from 0, is outside the domain; spots are numbered on from the points.
     Point(usize),
     /// 5. This setting, from 1 in the order of the scope's list, is outside its bounds.
     Setting(usize),
@@ -40,12 +40,15 @@ pub enum Error {
     AllTurnedDown,
     /// 17. Two of three point numbers are equal.
     EqualNumbers,
+    /// 13. An output slice is too short.
     /// 19. The tally has 100,000 patches.
     TallyFull,
     /// 20. A season's patch has no points, more than 4,096, more covered than scanned or more than 10,000 faces.
     SeasonPatch,
     /// 21. The tally is empty.
     TallyEmpty,
+    /// 22. The index isn't this cloud's.
+    ForeignIndex,
     /// 24. No season can have left this tally.
     Tally,
     /// An answer that this version of the crate has no name for.
@@ -78,9 +81,11 @@ pub fn answer_text(answer: u32) -> &'static str {
         15 => "no triangle was found: no three points lie close enough together",
         16 => "no triangle was found: all that were judged were turned down",
         17 => "two of three point numbers are equal",
+        13 => "an output slice is too short",
         19 => "the tally has 100,000 patches",
         20 => "the patch's counts can't be entered",
         21 => "the tally is empty",
+        22 => "the index isn't this cloud's",
         24 => "no season can have left this tally",
         _ => "an answer that this version has no words for",
     }
@@ -122,6 +127,7 @@ impl Error {
             19 => Error::TallyFull,
             20 => Error::SeasonPatch,
             21 => Error::TallyEmpty,
+            22 => Error::ForeignIndex,
             24 => Error::Tally,
             answer => Error::Unknown { answer, detail },
         })
@@ -150,6 +156,7 @@ impl Error {
             Error::TallyFull => 19,
             Error::SeasonPatch => 20,
             Error::TallyEmpty => 21,
+            Error::ForeignIndex => 22,
             Error::Tally => 24,
             Error::Unknown { answer, .. } => *answer,
         }

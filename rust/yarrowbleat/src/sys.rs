@@ -205,6 +205,52 @@ pub struct Figures {
     pub worst_coverage: Fraction,
 }
 
+/// The answer of building an index.
+#[repr(C)]
+#[derive(Clone, Copy, Debug, PartialEq, Eq)]
+pub struct Indexed {
+    /// The answer's number, 0 where the call accepts.
+    pub answer: u32,
+    /// The answer's detail, 0 where none is named.
+    pub detail: u32,
+}
+
+/// Whether an index is a cloud's.
+#[repr(C)]
+#[derive(Clone, Copy, Debug, PartialEq, Eq)]
+pub struct Belongs {
+    /// The answer's number, 0 where the call accepts.
+    pub answer: u32,
+    /// The answer's detail, 0 where none is named.
+    pub detail: u32,
+    /// Whether the index is this cloud's; no at a refusal.
+    pub belongs: bool,
+}
+
+/// The nearest point to a spot.
+#[repr(C)]
+#[derive(Clone, Copy, Debug, PartialEq)]
+pub struct Nearest {
+    /// The answer's number, 0 where the call accepts.
+    pub answer: u32,
+    /// The answer's detail, 0 where none is named.
+    pub detail: u32,
+    /// The nearest point, the lowest number among equals; 0 at a refusal.
+    pub point: u32,
+    /// Its distance; 0 at a refusal.
+    pub distance: f32,
+}
+
+/// The answer of a search for many spots.
+#[repr(C)]
+#[derive(Clone, Copy, Debug, PartialEq, Eq)]
+pub struct Searched {
+    /// The answer's number, 0 where the call accepts.
+    pub answer: u32,
+    /// The answer's detail, 0 where none is named.
+    pub detail: usize,
+}
+
 /// A struct's name, its size, and each field with its offset.
 pub type Layout = (&'static str, usize, &'static [(&'static str, usize)]);
 
@@ -236,6 +282,12 @@ layouts! {
     Figures 128: answer 0, patches 8, mean 16, variance 32, coverage 48, best 64, worst 80, best_coverage 96,
         worst_coverage 112;
     Verdict 16: answer 0, detail 4, kind 8, measured 12;
+}
+
+    Indexed 8: answer 0, detail 4;
+    Belongs 12: answer 0, detail 4, belongs 8;
+    Nearest 16: answer 0, detail 4, point 8, distance 12;
+    Searched 16: answer 0, detail 8;
 }
 
 /// The layouts as one number, FNV-1a over their names, sizes and offsets: another number is another layout.
@@ -375,6 +427,53 @@ mod linked {
         ) -> Verdict;
         pub fn yb_tally_add(tally: *mut Tally, patch: SeasonPatch) -> u32;
         pub fn yb_tally_figures(tally: *const Tally) -> Figures;
+        pub fn yb_build_index(
+            points: *const f32,
+            points_len: usize,
+            index: *mut u32,
+            index_len: usize,
+            words: *mut u32,
+            words_len: usize,
+            floats: *mut f32,
+            floats_len: usize,
+        ) -> Indexed;
+        pub fn yb_index_belongs(
+            points: *const f32,
+            points_len: usize,
+            index: *const u32,
+            index_len: usize,
+            words: *mut u32,
+            words_len: usize,
+            floats: *mut f32,
+            floats_len: usize,
+        ) -> Belongs;
+        pub fn yb_nearest_point(
+            points: *const f32,
+            points_len: usize,
+            x: f32,
+            y: f32,
+            z: f32,
+            index: *const u32,
+            index_len: usize,
+            words: *mut u32,
+            words_len: usize,
+            floats: *mut f32,
+            floats_len: usize,
+        ) -> Nearest;
+        pub fn yb_nearest_points(
+            points: *const f32,
+            points_len: usize,
+            spots: *const f32,
+            spots_len: usize,
+            index: *const u32,
+            index_len: usize,
+            found: *mut u32,
+            found_len: usize,
+            words: *mut u32,
+            words_len: usize,
+            floats: *mut f32,
+            floats_len: usize,
+        ) -> Searched;
     }
 }
 
@@ -552,4 +651,82 @@ pub fn tally_add(tally: &mut Tally, patch: SeasonPatch) -> u32 {
 /// The figures of a tally; the answer is 0, 24 or 21.
 pub fn tally_figures(tally: &Tally) -> Figures {
     unsafe { linked::yb_tally_figures(tally) }
+}
+
+/// Builds a cloud's index in a lent slice of at least 8n + 64 words.
+pub fn build_index(points: &[f32], index: &mut [u32], words: &mut [u32], floats: &mut [f32]) -> Indexed {
+    unsafe {
+        linked::yb_build_index(
+            points.as_ptr(),
+            points.len(),
+            index.as_mut_ptr(),
+            index.len(),
+            words.as_mut_ptr(),
+            words.len(),
+            floats.as_mut_ptr(),
+            floats.len(),
+        )
+    }
+}
+
+/// Whether an index is this cloud's.
+pub fn index_belongs(points: &[f32], index: &[u32], words: &mut [u32], floats: &mut [f32]) -> Belongs {
+    unsafe {
+        linked::yb_index_belongs(
+            points.as_ptr(),
+            points.len(),
+            index.as_ptr(),
+            index.len(),
+            words.as_mut_ptr(),
+            words.len(),
+            floats.as_mut_ptr(),
+            floats.len(),
+        )
+    }
+}
+
+/// The nearest point to a spot, by the cloud's index.
+pub fn nearest_point(points: &[f32], spot: &[f32; 3], index: &[u32], words: &mut [u32], floats: &mut [f32]) -> Nearest {
+    unsafe {
+        linked::yb_nearest_point(
+            points.as_ptr(),
+            points.len(),
+            spot[0],
+            spot[1],
+            spot[2],
+            index.as_ptr(),
+            index.len(),
+            words.as_mut_ptr(),
+            words.len(),
+            floats.as_mut_ptr(),
+            floats.len(),
+        )
+    }
+}
+
+/// The nearest points to many spots, three numbers a spot: a point number goes to each spot's place in `found`.
+pub fn nearest_points(
+    points: &[f32],
+    spots: &[f32],
+    index: &[u32],
+    found: &mut [u32],
+    words: &mut [u32],
+    floats: &mut [f32],
+) -> Searched {
+    unsafe {
+        linked::yb_nearest_points(
+            points.as_ptr(),
+            points.len(),
+            spots.as_ptr(),
+            spots.len(),
+            index.as_ptr(),
+            index.len(),
+            found.as_mut_ptr(),
+            found.len(),
+            words.as_mut_ptr(),
+            words.len(),
+            floats.as_mut_ptr(),
+            floats.len(),
+        )
+    }
 }

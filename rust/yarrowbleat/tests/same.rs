@@ -7,7 +7,7 @@ const HEADER: &str = include_str!("../../../c/yarrowbleat.h");
 const SYS: &str = include_str!("../src/sys.rs");
 const EXPORTS: &str = include_str!("../../../crates/exports/src/lib.rt");
 const RELEASE: &str = include_str!("../../../crates/release/src/lib.rt");
-const STRUCTS: [(&str, &str); 12] = [
+const STRUCTS: [(&str, &str); 16] = [
     ("TriangleQuality", include_str!("../../../crates/quality/src/lib.rt")),
     ("Estimate", include_str!("../../../crates/estimate/src/lib.rt")),
     ("BallPivotingConfig", include_str!("../../../crates/settings/src/lib.rt")),
@@ -20,6 +20,10 @@ const STRUCTS: [(&str, &str); 12] = [
     ("Fraction", include_str!("../../../crates/fractions/src/lib.rt")),
     ("Figures", include_str!("../../../crates/tally/src/lib.rt")),
     ("Verdict", include_str!("../../../crates/verdict/src/numbered.rt")),
+    ("Indexed", include_str!("../../../crates/point_index/src/lib.rt")),
+    ("Belongs", include_str!("../../../crates/point_index/src/lib.rt")),
+    ("Nearest", include_str!("../../../crates/nearest_points/src/lib.rt")),
+    ("Searched", include_str!("../../../crates/nearest_points/src/lib.rt")),
 ];
 
 /// What stands between two marks, from the first place where the one before it stands.
