@@ -18,9 +18,15 @@ ghost use Rattle.tally.specs.Tallies.{addedTo};
 ghost use Rattle.tally.specs.Working.{figuresOf};
 ghost use Rattle.verdict.specs.Judged.{judged};
 ghost use Rattle.verdict.specs.Numbered.{told};
+ghost use Rattle.point_index.specs.Index.{Builds, Tells};
+ghost use Rattle.nearest_points.specs.Found.{Nears, Searches};
 use ball_pivoting::Patch;
 use cloud::CloudRead;
 use estimate::Estimate;
+use nearest_points::Nearest;
+use nearest_points::Searched;
+use point_index::Belongs;
+use point_index::Indexed;
 use quality::TriangleQuality;
 use settings::BallPivotingConfig;
 use stl_file::StlRead;
@@ -252,4 +258,57 @@ pub extern "C" fn yb_tally_figures(tally: &Tally) -> Figures
     ensures { λ r. ⌜ r ≡ figuresOf (now (tally .entry)) ⌝ }
 {
     tally::figures_of(*tally)
+}
+
+#[no_mangle]
+pub extern "C" fn yb_build_index(
+    points: &[f32],
+    index: &mut [u32],
+    words: &mut [u32],
+    floats: &mut [f32],
+) -> Indexed
+    ensures { λ r. ⌜ Builds (now (points .entry)) (now (index .entry)) (now (words .entry)) (now (floats .entry)) r (now (index .exit)) (now (words .exit)) (now (floats .exit)) ⌝ }
+{
+    point_index::build_index(points, index, words, floats)
+}
+
+#[no_mangle]
+pub extern "C" fn yb_index_belongs(
+    points: &[f32],
+    index: &[u32],
+    words: &mut [u32],
+    floats: &mut [f32],
+) -> Belongs
+    ensures { λ r. ⌜ Tells (now (points .entry)) (now (index .entry)) (now (words .entry)) (now (floats .entry)) r (now (words .exit)) (now (floats .exit)) ⌝ }
+{
+    point_index::index_belongs(points, index, words, floats)
+}
+
+#[no_mangle]
+pub extern "C" fn yb_nearest_point(
+    points: &[f32],
+    x: f32,
+    y: f32,
+    z: f32,
+    index: &[u32],
+    words: &mut [u32],
+    floats: &mut [f32],
+) -> Nearest
+    ensures { λ r. ⌜ Nears (now (points .entry)) x y z (now (index .entry)) (now (words .entry)) (now (floats .entry)) r (now (words .exit)) (now (floats .exit)) ⌝ }
+{
+    nearest_points::nearest_point(points, x, y, z, index, words, floats)
+}
+
+#[no_mangle]
+pub extern "C" fn yb_nearest_points(
+    points: &[f32],
+    spots: &[f32],
+    index: &[u32],
+    found: &mut [u32],
+    words: &mut [u32],
+    floats: &mut [f32],
+) -> Searched
+    ensures { λ r. ⌜ Searches (now (points .entry)) (now (spots .entry)) (now (index .entry)) (now (found .entry)) (now (words .entry)) (now (floats .entry)) r (now (found .exit)) (now (words .exit)) (now (floats .exit)) ⌝ }
+{
+    nearest_points::nearest_points(points, spots, index, found, words, floats)
 }
