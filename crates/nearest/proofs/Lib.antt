@@ -1,4 +1,5 @@
 -- Laws of the definitions, leaves first.
+pub mod Cases
 pub mod Lengths
 pub mod Bounds
 pub mod AnyOrder

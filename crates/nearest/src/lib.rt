@@ -118,14 +118,14 @@ pub fn search(
     words: &[u32],
     at: usize,
     width: usize,
-    square: f32,
+    far: f32,
     order: &[u32],
     best: Best,
 ) -> Best
-    requires { ⌜ Ready (now points) spot (now words) at width square (now order) best ⌝ }
+    requires { ⌜ Ready (now points) spot (now words) at width far (now order) best ⌝ }
     ensures { λ r. ⌜ Keeps r (scanned (lengthTo (now (points .entry)) spot) (now (order .entry)) (nearOf best)) ⌝ }
 {
-    if best.limit < square {
+    if best.limit < far {
         return best;
     }
     let n = order.len();

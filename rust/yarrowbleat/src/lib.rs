@@ -13,6 +13,7 @@ struct Readme;
 mod config;
 mod error;
 mod stl;
+pub mod index;
 pub mod sys;
 pub mod tally;
 mod verdict;
