@@ -10,6 +10,7 @@
 mod clock;
 mod clouds;
 mod files;
+mod nearest;
 mod numbers;
 mod refused;
 mod slow;
@@ -21,7 +22,11 @@ fn main() {
         Some("clouds") => clouds::bench(),
         Some("area") => clouds::without_area(),
         Some("files") => files::bench(),
+<<<<<<< HEAD
         Some("stl") => stl::bench(),
+=======
+        Some("nearest") => nearest::bench(),
+>>>>>>> e9869a0 (Docs and the benchmark of the nearest point)
         Some("slow") => slow::bench(),
         Some("refused") => refused::bench(),
         Some("alone") => slow::alone(),
