@@ -19,6 +19,10 @@ AllBut base count b w = (k : ℕ) → 1 ≤ k → k < count → k ≢ b → Node
 node-same : (base : ℕ) (v w : List ℕ) (k : ℕ) → getD v (base + k) 0 ≡ getD w (base + k) 0 → getD v (base + 2 * k) 0 ≡ getD w (base + 2 * k) 0 → getD v (base + 2 * k + 1) 0 ≡ getD w (base + 2 * k + 1) 0 → Node base w k → Node base v k
 node-same base v w k a b c h = a ∙ h ∙ ap₂ min (sym b) (sym c)
 
+-- words outside the tree don't matter
+pub nodes-same : (base count : ℕ) (v w : List ℕ) → ((k : ℕ) → base ≤ k → getD v k 0 ≡ getD w k 0) → Nodes base count w → Nodes base count v
+nodes-same base count v w same h k l m = node-same base v w k (same (base + k) (omega arith)) (same (base + 2 * k) (omega arith)) (same (base + 2 * k + 1) (omega arith)) (h k l m)
+
 -- the least of the two below stored at node b
 self-stored : (base : ℕ) (w : List ℕ) (b v : ℕ) → 1 ≤ b → base + b < length w → v ≡ min (getD w (base + 2 * b) 0) (getD w (base + 2 * b + 1) 0) → Node base (set w (base + b) v) b
 self-stored base w b v l room is =
