@@ -38,11 +38,11 @@ numbers-once (suc m) k j =
     omega arith
 
 module _ (p : ℕ → Bool) (d x : ℕ) (xs : List ℕ) where
-  first-yes : p x ≡ true → firstOr p d (x ∷ xs) ≡ x
+  pub first-yes : p x ≡ true → firstOr p d (x ∷ xs) ≡ x
   unfolding firstOr
   first-yes h = rw (h, firstOr)
 
-  first-no : p x ≡ false → firstOr p d (x ∷ xs) ≡ firstOr p d xs
+  pub first-no : p x ≡ false → firstOr p d (x ∷ xs) ≡ firstOr p d xs
   unfolding firstOr
   first-no h = rw (h, firstOr)
 
@@ -67,22 +67,22 @@ first-none p d (x ∷ xs) h = ⊎-elim
     (either (p x))
 
 module _ (i x : ℕ) (xs : List ℕ) where
-  without-yes : eqb i x ≡ true → without i (x ∷ xs) ≡ xs
+  pub without-yes : eqb i x ≡ true → without i (x ∷ xs) ≡ xs
   unfolding without
   without-yes h = rw (h, without)
 
-  without-no : eqb i x ≡ false → without i (x ∷ xs) ≡ x ∷ without i xs
+  pub without-no : eqb i x ≡ false → without i (x ∷ xs) ≡ x ∷ without i xs
   unfolding without
   without-no h = rw (h, without)
 
-without-count : (i : ℕ) (xs : List ℕ) → 1 ≤ count (eqb i) xs → (j : ℕ) → bit (eqb j i) + count (eqb j) (without i xs) ≡ count (eqb j) xs
+pub without-count : (i : ℕ) (xs : List ℕ) → 1 ≤ count (eqb i) xs → (j : ℕ) → bit (eqb j i) + count (eqb j) (without i xs) ≡ count (eqb j) xs
 without-count i [] h j = absurd (omega arith)
 without-count i (x ∷ xs) h j = ⊎-elim
     (λ (t : eqb i x ≡ true). rw (without-yes i x xs t) (let e : bit (eqb j i) ≡ bit (eqb j x) = ap (λ (z : ℕ). bit (eqb j z)) (eqb-true i x t) in omega arith))
     (λ (t : eqb i x ≡ false). rw (without-no i x xs t) (let z : bit (eqb i x) ≡ 0 = ap bit t in let ih = without-count i xs (omega arith) j in omega arith))
     (either (eqb i x))
 
-without-length : (i : ℕ) (xs : List ℕ) → 1 ≤ count (eqb i) xs → suc (length (without i xs)) ≡ length xs
+pub without-length : (i : ℕ) (xs : List ℕ) → 1 ≤ count (eqb i) xs → suc (length (without i xs)) ≡ length xs
 without-length i [] h = absurd (omega arith)
 without-length i (x ∷ xs) h = ⊎-elim
     (λ (t : eqb i x ≡ true). rw (without-yes i x xs t))

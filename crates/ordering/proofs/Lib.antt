@@ -1,0 +1,3 @@
+pub mod Rising
+pub mod Running
+pub mod Slices
