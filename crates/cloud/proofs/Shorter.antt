@@ -15,20 +15,20 @@ Below n (parsed a rest) = length rest < n
 Below n malformed = Unit
 
 module _ {A : Type 0} where
-  below-more : (m n : ℕ) (p : Parsed A) → m ≤ n → Below m p → Below n p
+  pub below-more : (m n : ℕ) (p : Parsed A) → m ≤ n → Below m p → Below n p
   below-more m n (parsed a rest) h b = omega arith
   below-more m n malformed h b = tt
 
-  below-cond : (n : ℕ) (t : Bool) (p q : Parsed A) → (t ≡ true → Below n p) → Below n q → Below n (cond t p q)
+  pub below-cond : (n : ℕ) (t : Bool) (p q : Parsed A) → (t ≡ true → Below n p) → Below n q → Below n (cond t p q)
   below-cond n true p q a b = a refl
   below-cond n false p q a b = b
 
-below-then : {A B : Type 0} (n : ℕ) (p : Parsed A) (f : A → List ℕ → Parsed B) → Below n p → ((a : A) (rest : List ℕ) → length rest < n → Below n (f a rest)) → Below n (then p f)
+pub below-then : {A B : Type 0} (n : ℕ) (p : Parsed A) (f : A → List ℕ → Parsed B) → Below n p → ((a : A) (rest : List ℕ) → length rest < n → Below n (f a rest)) → Below n (then p f)
 unfolding then
 below-then n (parsed a rest) f b go = go a rest b
 below-then n malformed f b go = tt
 
-digits-within : (bs : List ℕ) → digits bs ≤ length bs
+pub digits-within : (bs : List ℕ) → digits bs ≤ length bs
 unfolding digits
 digits-within [] = omega arith
 digits-within (b ∷ bs) = go (isDigit b) (digits-within bs)
@@ -71,7 +71,7 @@ field-below end bs = below-then (length bs) (number bs) _ (number-below bs)
     (λ v rest h. below-cond (length bs) (startsWith end rest) (parsed v (drop 1 rest)) malformed (λ _. let len : length (drop 1 rest) ≡ length rest - 1 = length-drop 1 rest in omega arith) tt)
 
 -- what is shorter than shorter bytes is shorter
-next-below : {A : Type 0} (f : List ℕ → Parsed A) → ((bs : List ℕ) → Below (length bs) (f bs)) → (n : ℕ) (rest : List ℕ) → length rest < n → Below n (f rest)
+pub next-below : {A : Type 0} (f : List ℕ → Parsed A) → ((bs : List ℕ) → Below (length bs) (f bs)) → (n : ℕ) (rest : List ℕ) → length rest < n → Below n (f rest)
 next-below f below n rest h = below-more (length rest) n (f rest) (omega arith) (below rest)
 
 pub triple-below : (last : ℕ) (bs : List ℕ) → Below (length bs) (triple last bs)

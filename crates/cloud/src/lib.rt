@@ -2,7 +2,7 @@
 //
 // What the file means is the definition `file` of specs/Format.antt, and what the reader answers `outcome` of specs/Answers.antt.
 mod line;
-mod number;
+pub mod number;
 mod point_lines;
 pub mod reader;
 mod rounding;

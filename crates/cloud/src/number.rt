@@ -50,7 +50,7 @@ pub fn is_few(count: usize, most: usize) -> bool
 }
 
 // The whole number that the digits from at to end write.
-fn whole_of(s: &[u8], at: usize, end: usize) -> u32
+pub fn whole_of(s: &[u8], at: usize, end: usize) -> u32
     requires { ⌜ Digits (now s) at end ⌝ }
     ensures { λ r. ⌜ (r ≡ whole 0 (take (end - at) (drop at (now (s .entry))))) × (r < 10 ^ (end - at)) ⌝ }
 {
