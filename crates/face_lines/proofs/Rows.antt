@@ -25,6 +25,26 @@ unfolding lines
 lines-none zero = refl
 lines-none (suc fuel) = refl
 
+-- ---- the first malformed line is one from 1 on
+ahead-counts : (n : ℕ) (f : Face) (l : Lines) → ahead f l ≡ wrong n → 0 < n
+unfolding ahead
+ahead-counts n f (good fs) e = let z : _≡_ {A = ℕ} 0 1 = cc in absurd (omega arith)
+ahead-counts n f (wrong k) e = let h : suc k ≡ n = cc in omega arith
+
+lines-count : (fuel : ℕ) (bs : List ℕ) (n : ℕ) → lines fuel bs ≡ wrong n → 0 < n
+unfolding lines
+lines-count zero bs n e = let z : _≡_ {A = ℕ} 0 1 = cc in absurd (omega arith)
+lines-count (suc fuel) [] n e = let z : _≡_ {A = ℕ} 0 1 = cc in absurd (omega arith)
+lines-count (suc fuel) (b ∷ bs) n e = go (line (b ∷ bs)) e
+  where
+    go : (q : Parsed Face) → elim q [ parsed f rest ↦ ahead f (lines fuel rest) | malformed ↦ wrong 1 ] ≡ wrong n → 0 < n
+    go (parsed f rest) h = ahead-counts n f (lines fuel rest) h
+    go malformed h = let k : 1 ≡ n = cc in omega arith
+
+pub wrong-from-one : (s : List ℕ) (n : ℕ) → file s ≡ wrong n → 0 < n
+unfolding file
+wrong-from-one s = lines-count (length s) s
+
 -- ---- the lines from a place on, with fuel that lasts
 pub record From (s : List ℕ) (at : ℕ) (whole : Lines) : Type 0 where
   pub fuel : ℕ

@@ -15,7 +15,7 @@ use Rattle.face_lines.specs.Format.{line, Lines, good, wrong, ahead, fil
 use Rattle.face_lines.specs.Answers.{scanned}
 use Rattle.face_lines.specs.declared.FacesScanned.{FacesScanned}
 use Rattle.face_lines.proofs.Parts.{line-shorter}
-use Rattle.face_lines.proofs.Rows.{From, from-start, from-end, from-wrong, from-next}
+use Rattle.face_lines.proofs.Rows.{From, from-start, from-end, from-wrong, from-next, wrong-from-one}
 
 -- ---- flags
 module _ (p : Face → Bool) where
@@ -86,3 +86,31 @@ module _ (s : List ℕ) (n k : ℕ) (o t : Bool) (at : ℕ) (c : Scanning s n k 
           same = rw (eo, et) (c .same ∙ ap (onward n k o t) (m .1 .0) ∙ onward-ahead n k o t f (m .0));
           few = omega arith;
         }
+
+-- ---- what the pass says of the lines
+pub record Good (n : ℕ) (l : Lines) (r : FacesScanned) : Type 0 where
+  pub faces : List Face
+  pub lines : l ≡ good faces
+  pub many : r .count ≡ length faces
+  pub out : r .outside ≡ any (outside n) faces
+  pub same : r .twice ≡ any twice faces
+
+module _ (n : ℕ) (r : FacesScanned) where
+  by-lines : (l : Lines) → ((k : ℕ) → l ≡ wrong k → 0 < k) → r ≡ scanned n l → r .malformed ≡ 0 → Good n l r
+  unfolding scanned
+  by-lines (good fs) h e z = record {
+    faces = fs;
+    lines = refl;
+    many = ap (λ (q : FacesScanned). q .count) e;
+    out = ap (λ (q : FacesScanned). q .outside) e;
+    same = ap (λ (q : FacesScanned). q .twice) e;
+  }
+  by-lines (wrong k) h e z = absurd (omega (arith, h k refl, ap (λ (q : FacesScanned). q .malformed) e))
+
+  pub scanned-good : (s : List ℕ) → r ≡ scanned n (file s) → r .malformed ≡ 0 → Good n (file s) r
+  scanned-good s = by-lines (file s) (wrong-from-one s)
+
+  pub scanned-wrong : (l : Lines) → r ≡ scanned n l → (r .malformed ≡ 0 → ⊥) → l ≡ wrong (r .malformed)
+  unfolding scanned
+  scanned-wrong (good fs) e h = absurd (h (ap (λ (q : FacesScanned). q .malformed) e))
+  scanned-wrong (wrong k) e h = ap wrong (sym (ap (λ (q : FacesScanned). q .malformed) e))

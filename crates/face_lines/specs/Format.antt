@@ -12,13 +12,18 @@ unfoldable pub number : ℕ → List ℕ → Parsed ℕ
 unfolding startsWith digits few whole
 number end bs =
     let count = digits bs in
-    cond (few count 5 && startsWith end (drop count bs)) (parsed (whole 0 (take count bs)) (drop 1 (drop count bs))) malformed
+    cond
+    (few count 5 && startsWith end (drop count bs))
+    (parsed (whole 0 (take count bs)) (drop 1 (drop count bs)))
+    malformed
 
 -- a face's line: a,b,c
 unfoldable pub line : List ℕ → Parsed Face
 unfolding then number
 line bs =
-    then (number 44 bs) (λ a bs₁. then (number 44 bs₁) (λ b bs₂. then (number 10 bs₂) (λ c rest. parsed (face a b c) rest)))
+    then (number 44 bs) (λ a bs₁.
+    then (number 44 bs₁) (λ b bs₂.
+    then (number 10 bs₂) (λ c rest. parsed (face a b c) rest)))
 
 -- a run of lines: the faces, or the first malformed line, from 1
 pub data Lines : Type 0 where
