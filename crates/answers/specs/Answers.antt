@@ -53,6 +53,9 @@ noneClose = 15
 abbrev pub allTurnedDown : ℕ
 allTurnedDown = 16
 
+abbrev pub equalNumbers : ℕ
+equalNumbers = 17
+
 abbrev pub tallyFull : ℕ
 tallyFull = 19
 
@@ -61,6 +64,12 @@ badSeasonPatch = 20
 
 abbrev pub tallyEmpty : ℕ
 tallyEmpty = 21
+
+abbrev pub foreignIndex : ℕ
+foreignIndex = 22
+
+abbrev pub noOrder : ℕ
+noOrder = 23
 
 abbrev pub badTally : ℕ
 badTally = 24
@@ -89,12 +98,15 @@ answers =
     ∷ says badLine "a line of the cloud file is malformed"
     ∷ says noRoom "the file's points don't fit the slices"
     ∷ says badStl "the bytes are no STL file, or not as many as it says"
-    ∷ says shortOutput "the output slice is too short"
+    ∷ says shortOutput "an output slice is too short"
     ∷ says missingPoint "a face or a number names a point that isn't there"
     ∷ says noneClose "no triangle was found: no three points lie close enough together"
     ∷ says allTurnedDown "no triangle was found: all that were judged were turned down"
+    ∷ says equalNumbers "two of three point numbers are equal"
     ∷ says tallyFull "the tally has 100,000 patches"
     ∷ says badSeasonPatch "the patch's counts can't be entered"
     ∷ says tallyEmpty "the tally is empty"
+    ∷ says foreignIndex "the index isn't this cloud's"
+    ∷ says noOrder "no order makes the faces a patch in shape"
     ∷ says badTally "no season can have left this tally"
     ∷ []

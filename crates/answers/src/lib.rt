@@ -33,10 +33,16 @@ pub const NONE_CLOSE: u32 = 15;
 
 pub const ALL_TURNED_DOWN: u32 = 16;
 
+pub const EQUAL_NUMBERS: u32 = 17;
+
 pub const TALLY_FULL: u32 = 19;
 
 pub const SEASON_PATCH: u32 = 20;
 
 pub const TALLY_EMPTY: u32 = 21;
+
+pub const FOREIGN_INDEX: u32 = 22;
+
+pub const NO_ORDER: u32 = 23;
 
 pub const TALLY: u32 = 24;

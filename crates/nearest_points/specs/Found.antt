@@ -6,6 +6,7 @@ use mathlib.Core.List.{List, [], _∷_, _++_, map}
 use lib.Dec.{leb, ltb, eqb}
 use lib.ListN.{length, drop}
 use lib.Ieee.{Float}
+use Rattle.answers.specs.Answers.{outsidePoint, shortWork, shortOutput, foreignIndex}
 use Rattle.numbers.specs.Rounded.{f32}
 use Rattle.lists.specs.Lists.{upFrom}
 use Rattle.vector.specs.Vector.{point}
@@ -39,8 +40,8 @@ checksBy points spots bad badSpot index words floats =
     ∷ check (eqb (points % 3) 0 && eqb (spots % 3) 0) 2 0
     ∷ check (leb (points / 3) 4096) 3 0
     ∷ pointCheck (points / 3) bad
-    ∷ check (leb (spots / 3) badSpot) 4 (points / 3 + badSpot)
-    ∷ check (roomy (points / 3) words floats && leb (indexSize (points / 3)) index) 7 0
+    ∷ check (leb (spots / 3) badSpot) outsidePoint (points / 3 + badSpot)
+    ∷ check (roomy (points / 3) words floats && leb (indexSize (points / 3)) index) shortWork 0
     ∷ []
 
 unfoldable pub searchRefusal : List Float → List Float → ℕ → ℕ → ℕ → Refusal
@@ -56,7 +57,7 @@ checked points spots index words floats = eqb (searchRefusal points spots index 
 unfoldable pub nearestRefusal : List Float → List Float → List ℕ → ℕ → ℕ → ℕ → Refusal
 nearestRefusal points spots index words floats found =
     cond (checked points spots (length index) words floats)
-    (firstRefusal (check (leb (length spots / 3) found) 13 0 ∷ check (belongs points index) 22 0 ∷ []))
+    (firstRefusal (check (leb (length spots / 3) found) shortOutput 0 ∷ check (belongs points index) foreignIndex 0 ∷ []))
     (searchRefusal points spots (length index) words floats)
 
 -- the number of the point nearest to spot i

@@ -80,19 +80,19 @@ fn refusal_of_search(
     }
     let first = ranges::first_outside(points, 10000.0);
     if first < n {
-        return answer_of(4, first);
+        return answer_of(answers::POINT, first);
     }
     if bad < spots / 3 {
-        return answer_of(4, n + bad);
+        return answer_of(answers::POINT, n + bad);
     }
     if words < 24 * n + 64 {
-        return answer_of(7, 0);
+        return answer_of(answers::WORK, 0);
     }
     if floats < 4 * n + 64 {
-        return answer_of(7, 0);
+        return answer_of(answers::WORK, 0);
     }
     if index < 8 * n + 64 {
-        return answer_of(7, 0);
+        return answer_of(answers::WORK, 0);
     }
     answer_of(0, 0)
 }
@@ -134,7 +134,7 @@ pub fn nearest_point(
     clearing::clear_u32(words);
     clearing::clear_f32(floats);
     if !own {
-        return nearest_of(22, 0, 0, 0.0);
+        return nearest_of(answers::FOREIGN_INDEX, 0, 0, 0.0);
     }
     let width = index_search::width_of(points.len() / 3);
     let best = index_search::nearest_in(points, index, width, vector::point(x, y, z));
@@ -168,10 +168,10 @@ pub fn nearest_points(
     clearing::clear_u32(words);
     clearing::clear_f32(floats);
     if found.len() < spots.len() / 3 {
-        return answer_of(13, 0);
+        return answer_of(answers::OUTPUT_TOO_SHORT, 0);
     }
     if !own {
-        return answer_of(22, 0);
+        return answer_of(answers::FOREIGN_INDEX, 0);
     }
     let width = index_search::width_of(points.len() / 3);
     fill(points, spots, index, width, found);

@@ -5,6 +5,7 @@ use mathlib.Core.List.{List, [], _∷_, _++_}
 use lib.Dec.{ltb, eqb}
 use lib.ListN.{length}
 use lib.Ieee.{Float}
+use Rattle.answers.specs.Answers.{missingPoint, equalNumbers}
 use Rattle.ranges.specs.Range.{firstBadPoint}
 use Rattle.settings.specs.Settings.{firstBadSetting}
 use Rattle.settings.specs.declared.BallPivotingConfig.{BallPivotingConfig}
@@ -20,8 +21,8 @@ use Rattle.verdict.specs.declared.Judgement.the-variants.{Refused, Told}
 -- 14 unless all three are numbers of n points, then 17 unless they differ
 abbrev pub numberChecks : ℕ → ℕ → ℕ → ℕ → List Check
 numberChecks n i j k =
-    check (ltb i n && ltb j n && ltb k n) 14 0
-    ∷ check (not (eqb i j) && not (eqb j k) && not (eqb k i)) 17 0
+    check (ltb i n && ltb j n && ltb k n) missingPoint 0
+    ∷ check (not (eqb i j) && not (eqb j k) && not (eqb k i)) equalNumbers 0
     ∷ []
 
 -- 1 to 5 as in the main call, 14, 17

@@ -15,22 +15,22 @@ fn number_answer(n: usize, i: usize, j: usize, k: usize) -> u32
     ensures { λ r. ⌜ r ≡ firstRefusal (numberChecks n i j k) .answer ⌝ }
 {
     if n <= i {
-        return 14;
+        return answers::NO_SUCH_POINT;
     }
     if n <= j {
-        return 14;
+        return answers::NO_SUCH_POINT;
     }
     if n <= k {
-        return 14;
+        return answers::NO_SUCH_POINT;
     }
     if i == j {
-        return 17;
+        return answers::EQUAL_NUMBERS;
     }
     if j == k {
-        return 17;
+        return answers::EQUAL_NUMBERS;
     }
     if k == i {
-        return 17;
+        return answers::EQUAL_NUMBERS;
     }
     0
 }
