@@ -6,7 +6,7 @@ use mathlib.Core.List.{List, [], _∷_, _++_, map}
 use lib.Dec.{leb, ltb, eqb}
 use lib.ListN.{length, drop}
 use lib.Ieee.{Float}
-use Rattle.answers.specs.Answers.{outsidePoint, shortWork, shortOutput, foreignIndex}
+use Rattle.answers.specs.Answers.{noPoints, wrongLengths, tooManyPoints, outsidePoint, shortWork, shortOutput, foreignIndex}
 use Rattle.numbers.specs.Rounded.{f32}
 use Rattle.lists.specs.Lists.{upFrom}
 use Rattle.vector.specs.Vector.{point}
@@ -36,9 +36,9 @@ pub record Answers (r : Searched) (f : Refusal) : Type 0 where
 -- work as in the scope or an index of fewer than 8n + 64 numbers.
 abbrev pub checksBy : ℕ → ℕ → ℕ → ℕ → ℕ → ℕ → ℕ → List Check
 checksBy points spots bad badSpot index words floats =
-    check (ltb 0 points) 1 0
-    ∷ check (eqb (points % 3) 0 && eqb (spots % 3) 0) 2 0
-    ∷ check (leb (points / 3) 4096) 3 0
+    check (ltb 0 points) noPoints 0
+    ∷ check (eqb (points % 3) 0 && eqb (spots % 3) 0) wrongLengths 0
+    ∷ check (leb (points / 3) 4096) tooManyPoints 0
     ∷ pointCheck (points / 3) bad
     ∷ check (leb (spots / 3) badSpot) outsidePoint (points / 3 + badSpot)
     ∷ check (roomy (points / 3) words floats && leb (indexSize (points / 3)) index) shortWork 0

@@ -66,17 +66,17 @@ fn refusal_of_search(
 {
     let size = points.len();
     if size == 0 {
-        return answer_of(1, 0);
+        return answer_of(answers::NO_POINTS, 0);
     }
     if size % 3 != 0 {
-        return answer_of(2, 0);
+        return answer_of(answers::LENGTHS, 0);
     }
     if spots % 3 != 0 {
-        return answer_of(2, 0);
+        return answer_of(answers::LENGTHS, 0);
     }
     let n = size / 3;
     if 4096 < n {
-        return answer_of(3, 0);
+        return answer_of(answers::TOO_MANY_POINTS, 0);
     }
     let first = ranges::first_outside(points, 10000.0);
     if first < n {
