@@ -14,33 +14,31 @@
  * names for the numbers, yb_answer_text words:
  *
  *    1  the points slice is empty
- *    2  the points' (or faces') length is not a multiple of 3, or the normals' length differs from it
+ *    2  the points' length (or the faces' or the spots') is not a multiple of 3, or the normals' length differs from it
  *    3  there are more than 4,096 points, or more than 1,000,000 faces to write
  *    4  a coordinate is not within -10,000 to 10,000, or a normal's component is not finite; detail: the first such
  *       point, from 0
  *    5  a setting is outside its bounds; detail: the first such setting's number, see YbBallPivotingConfig
  *    6  the percentile is not within 0 to 1
- *    7  a work slice is too short
+ *    7  a work slice, or the index, is too short
  *    8  no triangle was found: there are fewer than three points
  *    9  the faces found don't fit the face slice
  *   10  a line of the cloud file is malformed; detail: the first such line, from 1
  *   11  all lines are well formed, but the points don't fit the slices
  *   12  the bytes are no STL file: fewer than 84, or not 84 + 50 times the count that they name
- *   13  the output slice is too short
+ *   13  an output slice is too short
  *   14  a face or a number names a point that isn't there
  *   15  no triangle was found: of the triples that were tried none lay close enough together to be judged, at any radius
  *   16  no triangle was found: all triples that were judged were turned down
  *   17  two of three point numbers are equal
- *   13  an output slice is too short
  *   19  the tally is full: it has 100,000 patches
  *   20  a season's patch has no points, more than 4,096, more covered than scanned or more than 10,000 faces
  *   21  figures are asked of an empty tally
  *   22  the index isn't this cloud's
  *   24  no season can have left the tally, see YbTally
  *
- * The checks are made in this order, but that 15 and 16 stand right behind 8, and but for a tally's and an STL file's,
- * whose calls name theirs; a not-a-number is within no bounds. At a refusal every other field is 0. A tally's answers
- * have no detail.
+ * The checks are made in this order, but that 15 and 16 stand right behind 8, and but for calls that name theirs; a
+ * not-a-number is within no bounds. At a refusal every other field is 0. A tally's answers have no detail.
  *
  * A slice that stays as it was, or the part of one, does so bit for bit, but for one thing: what is proved treats all
  * not-a-numbers as one, so of a float slice that held one it says that it holds one still, not with which payload.
@@ -106,12 +104,11 @@ static inline const char *yb_answer_text(uint32_t answer) {
     case YB_LINE: return "a line of the cloud file is malformed";
     case YB_ROOM: return "the file's points don't fit the slices";
     case YB_BAD_STL: return "the bytes are no STL file, or not as many as it says";
-    case YB_OUTPUT_TOO_SHORT: return "the output slice is too short";
+    case YB_OUTPUT_TOO_SHORT: return "an output slice is too short";
     case YB_NO_SUCH_POINT: return "a face or a number names a point that isn't there";
     case YB_NONE_CLOSE: return "no triangle was found: no three points lie close enough together";
     case YB_ALL_TURNED_DOWN: return "no triangle was found: all that were judged were turned down";
     case YB_EQUAL_NUMBERS: return "two of three point numbers are equal";
-    case YB_OUTPUT_TOO_SHORT: return "an output slice is too short";
     case YB_TALLY_FULL: return "the tally has 100,000 patches";
     case YB_SEASON_PATCH: return "the patch's counts can't be entered";
     case YB_TALLY_EMPTY: return "the tally is empty";

@@ -30,7 +30,7 @@ pub enum Error {
     Room,
     /// 12. The bytes are no STL file: fewer than 84, or not 84 + 50 times the count that they name.
     BadStl,
-    /// 13. The output slice is too short.
+    /// 13. An output slice is too short.
     OutputTooShort,
     /// 14. A face or a number names a point that isn't there.
     NoSuchPoint,
@@ -40,7 +40,6 @@ pub enum Error {
     AllTurnedDown,
     /// 17. Two of three point numbers are equal.
     EqualNumbers,
-    /// 13. An output slice is too short.
     /// 19. The tally has 100,000 patches.
     TallyFull,
     /// 20. A season's patch has no points, more than 4,096, more covered than scanned or more than 10,000 faces.
@@ -76,12 +75,11 @@ pub fn answer_text(answer: u32) -> &'static str {
         10 => "a line of the cloud file is malformed",
         11 => "the file's points don't fit the slices",
         12 => "the bytes are no STL file, or not as many as it says",
-        13 => "the output slice is too short",
+        13 => "an output slice is too short",
         14 => "a face or a number names a point that isn't there",
         15 => "no triangle was found: no three points lie close enough together",
         16 => "no triangle was found: all that were judged were turned down",
         17 => "two of three point numbers are equal",
-        13 => "an output slice is too short",
         19 => "the tally has 100,000 patches",
         20 => "the patch's counts can't be entered",
         21 => "the tally is empty",
