@@ -105,7 +105,7 @@ fn wall([around, rings]: [usize; 2]) -> Cloud {
 }
 
 /// 512 points on whole coordinates, at even steps.
-fn straight(along: [f64; 3]) -> Vec<f32> {
+pub fn straight(along: [f64; 3]) -> Vec<f32> {
     (0..512).flat_map(|i| along.map(|x| (x * f64::from(i)) as f32)).collect()
 }
 

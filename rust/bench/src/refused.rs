@@ -1,7 +1,7 @@
 //! The port alone on clouds over which no triangle is found: what a refusal takes, answer by answer.
 
 use crate::clock;
-use crate::clouds::lend;
+use crate::clouds::{lend, straight};
 use generate::Random;
 use oracle::Settings;
 
@@ -23,7 +23,10 @@ fn rows() -> Vec<(&'static str, Vec<f32>, Settings)> {
     let mut alone = plain;
     alone.set_additional(&[]);
     alone.set_percentiles(&[]);
+    let wide = Settings::at_radius(1_000.0);
     vec![
+        ("line on an axis", straight([1.0, 0.0, 0.0]), wide),
+        ("skew line", straight([1.0, 2.0, 3.0]), wide),
         ("301 near points, none by threshold", near.clone(), Settings { quality_threshold: 100.0, ..plain }),
         ("301 near points, none by least area", near.clone(), Settings { min_triangle_area: 1_000.0, ..plain }),
         ("301 near points, edge factor 0", near, Settings { max_edge_factor: 0.0, ..plain }),
