@@ -205,7 +205,7 @@ typedef struct {
     uint32_t answer;
     uint32_t detail;
     uint32_t kind;  /* a YbKind */
-    float measured; /* good, poor: the score; no area, small: the area; long: the edge ratio times the root of the area */
+    float measured; /* of good and poor the score, of no area and small the area, of long see yb_judge_triangle */
 } YbVerdict;
 
 /* The kinds of a verdict, in the order of the tests but for the first. */

@@ -20,7 +20,6 @@ use Rattle.domain.proofs.Refusals.{check-accepted}
 use Rattle.domain.proofs.Accepted.{accepted-reconstruct}
 use Rattle.verdict.specs.Judged.{numberChecks, judgeRefusal, verdictAt, judged}
 use Rattle.verdict.specs.declared.Verdict.{Verdict}
-use Rattle.verdict.specs.declared.Judgement.{Judgement}
 use Rattle.verdict.specs.declared.Judgement.the-variants.{Refused, Told}
 
 -- ---- the three numbers

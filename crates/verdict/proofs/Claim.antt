@@ -1,5 +1,5 @@
 -- The claim of specs/Claims.antt: `judging`. Assumes nothing.
-use mathlib.Core.Path.{_≡_, refl, sym, ap, _∙_}
+use mathlib.Core.Path.{_≡_, refl, ap, _∙_}
 use mathlib.Core.Bool.{Bool, true, false, cond}
 use mathlib.Core.List.{List}
 use Prim.Native.Nat.{ℕ}
@@ -12,9 +12,8 @@ use Rattle.points.specs.Points.{pointAt}
 use Rattle.triangle.specs.Quality.{quality}
 use Rattle.verdict.specs.Verdict.{isGood}
 use Rattle.verdict.specs.Judged.{judgeRefusal, verdictAt, judged}
-use Rattle.verdict.specs.Claims.{Judges, Judging}
+use Rattle.verdict.specs.Claims.{Judging}
 use Rattle.verdict.specs.declared.Verdict.{Verdict}
-use Rattle.verdict.specs.declared.Judgement.{Judgement}
 use Rattle.verdict.specs.declared.Judgement.the-variants.{Refused, Told}
 use Rattle.verdict.proofs.Laws.{good-exactly}
 

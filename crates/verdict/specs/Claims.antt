@@ -16,8 +16,11 @@ pub record Judges (points : List Float) (s : BallPivotingConfig) (i j k : ℕ) (
   -- it is that of the definition
   pub verdict : v ≡ verdictAt points s i j k
   -- it is good exactly where the acceptance test accepts at the main radius
-  pub good : isGood v ≡ acceptable (quality (pointAt points i) (pointAt points j) (pointAt points k)) (s .radius) (s .«min_triangle_area») (s .«quality_threshold») (s .«max_edge_factor»)
+  pub good : isGood v ≡ acceptable (quality (pointAt points i) (pointAt points j) (pointAt points k))
+      (s .radius) (s .«min_triangle_area») (s .«quality_threshold») (s .«max_edge_factor»)
 
 -- whatever was asked
 abbrev pub Judging : Type 0
-Judging = (points normals : List Float) (s : BallPivotingConfig) (i j k : ℕ) (v : Verdict) → judged points normals s i j k ≡ Told v → Judges points s i j k v
+Judging =
+    (points normals : List Float) (s : BallPivotingConfig) (i j k : ℕ) (v : Verdict)
+    → judged points normals s i j k ≡ Told v → Judges points s i j k v

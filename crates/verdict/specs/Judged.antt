@@ -39,7 +39,8 @@ judgeRefusal points normals settings i j k =
 unfoldable pub verdictAt : List Float → BallPivotingConfig → ℕ → ℕ → ℕ → Verdict
 unfolding verdictOf
 verdictAt points s i j k =
-    verdictOf (quality (pointAt points i) (pointAt points j) (pointAt points k)) (s .radius) (s .«min_triangle_area») (s .«quality_threshold») (s .«max_edge_factor»)
+    verdictOf (quality (pointAt points i) (pointAt points j) (pointAt points k))
+    (s .radius) (s .«min_triangle_area») (s .«quality_threshold») (s .«max_edge_factor»)
 
 unfoldable pub judged : List Float → List Float → BallPivotingConfig → ℕ → ℕ → ℕ → Judgement
 unfolding judgeRefusal verdictAt

@@ -13,7 +13,7 @@ use Rattle.verdict.specs.declared.Verdict.the-variants.{Good, NoArea, Sm
 abbrev pub stretch : Float → Float → Float
 stretch ratio area = ratio ⊗ root area
 
--- the acceptance test's order, no area first; of measures, the radius, the least area, the least score and the edge factor
+-- the acceptance test's order, no area first; of measures, radius, least area, least score and edge factor
 unfoldable pub verdictOf : TriangleQuality → Float → Float → Float → Float → Verdict
 verdictOf q radius leastArea threshold factor =
     let long = stretch (q .«edge_ratio») (q .area) in

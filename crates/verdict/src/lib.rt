@@ -1,6 +1,7 @@
 // Why a triangle of three scanned points was turned down, or that it was not, with the number that was measured.
 //
-// What is answered is the definition `judged` of specs/Judged.antt; that the verdict is good exactly where the acceptance test accepts is `good-exactly`.
+// What is answered is the definition `judged` of specs/Judged.antt; that the verdict is good exactly where the
+// acceptance test accepts is the claim of specs/Claims.antt.
 pub mod numbered;
 mod refusing;
 

@@ -4,7 +4,8 @@ ghost use Rattle.verdict.specs.Numbered.{told};
 ghost use Rattle.verdict.specs.declared.Judgement.the-variants.{Told};
 use crate::Judgement;
 
-// The answer's number and detail, both 0 where there is a verdict; then its kind, 1 to 5, and what was measured, both 0 at a refusal.
+// The answer's number and detail, both 0 where there is a verdict; then its kind, 1 to 5, and what was measured, both 0
+// at a refusal.
 #[repr(C)]
 pub struct Verdict {
     pub answer: u32,

@@ -1,0 +1,2 @@
+-- What is claimed.
+pub mod Measured
