@@ -15,10 +15,10 @@ pub fn read(path: &str) -> Result<Vec<u8>, Failure> {
 }
 
 /// Writes a file whole: beside its place first, so that nothing stands there half-written.
-pub fn write(path: &str, text: &str) -> Result<(), Failure> {
+pub fn write(path: &str, bytes: impl AsRef<[u8]>) -> Result<(), Failure> {
     let mut beside = Path::new(path).as_os_str().to_owned();
     beside.push(format!(".{}.part", std::process::id()));
-    let written = std::fs::write(&beside, text).and_then(|()| std::fs::rename(&beside, path));
+    let written = std::fs::write(&beside, bytes).and_then(|()| std::fs::rename(&beside, path));
     written.map_err(|error| {
         let _ = std::fs::remove_file(&beside);
         Failure::new(format!("{path}: {error}"))

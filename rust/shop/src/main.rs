@@ -7,6 +7,7 @@ mod options;
 mod page;
 mod ply;
 mod settings;
+mod stl;
 mod xyz;
 
 use std::fmt;
@@ -23,6 +24,8 @@ yarrowbleat: lays a surface of triangles over a scanned bell wall
                   names of BallPivotingConfig, a list's values parted by commas, `#` before a remark
   yarrowbleat page FILE -o PAGE.html [--radius R] [--settings FILE]
       One page that shows the points, those reached and those not, and the faces; it needs no network.
+  yarrowbleat stl FILE -o PATCH.stl [--radius R] [--settings FILE]
+      The faces as a binary STL file.
   yarrowbleat convert FILE [-o CLOUD.csv] [--radius R] [--exact]
       A cloud file from a PLY file (ASCII or binary) or from lines x y z nx ny nz. Without --radius it gets an
       estimate. What six places can't keep exactly is told; with --exact it is refused.
@@ -54,6 +57,7 @@ fn run(words: &[String]) -> Result<(), Failure> {
     match words.first().map(String::as_str) {
         Some("lay") => lay::run(&words[1..]),
         Some("page") => page::run(&words[1..]),
+        Some("stl") => stl::run(&words[1..]),
         Some("convert") => convert::run(&words[1..]),
         Some("--help" | "-h" | "help") => files::print(HELP),
         Some("--version" | "-V") => files::print(concat!("yarrowbleat ", env!("CARGO_PKG_VERSION"), "\n")),
