@@ -1,24 +1,23 @@
 -- A part split in place: its box, its order along the longest axis, and then its two parts one after the other. Assumes nothing.
-use mathlib.Core.Path.{_≡_, refl, sym, ap, _∙_, subst, subst⁻¹}
+use mathlib.Core.Path.{_≡_, sym, ap, _∙_, subst, subst⁻¹}
 use mathlib.Core.List.{List, _++_, append-assoc}
 use Prim.Native.Nat.{ℕ, _+_, _-_, _*_, _/_, _≤_, _<_}
 use native.Mathlib.Nat.{le-of-eq}
 use native.Mathlib.Omega.{arith}
-use borrow.Rule.Slice.PartMut.{putMid, take-put, same-len-mid}
+use borrow.Rule.Slice.PartMut.{putMid, take-put}
 use lib.Ieee.{Float}
 use lib.ListN.{length, take, drop, length-append, length-drop}
-use lib.Seq.{length-take-le, take-take}
+use lib.Seq.{length-take-le}
 use Rattle.bounds.specs.declared.Bounds.{Bounds}
 use Rattle.axis_sort.specs.Axis.{precedes}
 use Rattle.axis_sort.specs.Sorted.{sorted}
 use Rattle.axis_sort.specs.Small.{Small}
-use Rattle.axis_sort.proofs.Floats.{small-take}
 use Rattle.axis_sort.proofs.Parts.{part-2, part-2-size, whole-2}
 use Rattle.axis_sort.proofs.Halving.{small-sorted, small-part-2}
 use Rattle.kd_tree.specs.Boxes.{boxOf, corners, longest}
 use Rattle.kd_tree.specs.Tree.{along, split, boxesOf, boxCount}
 use Rattle.kd_tree.specs.Written.{Written, Splits}
-use Rattle.kd_tree.proofs.Tree.{count-small, count-large, count-least, along-length, split-small, split-large, boxes-small, boxes-large, boxes-length}
+use Rattle.kd_tree.proofs.Tree.{count-large, count-least, along-length, split-small, split-large, boxes-small, boxes-large, boxes-length}
 
 -- one list after the other
 written-both : (b c d : List Float) (at : ℕ) (xs ys : List Float) → Written b c at xs → Written c d (at + length xs) ys → Written b d at (xs ++ ys)

@@ -1,26 +1,19 @@
 -- The order and the boxes by those of the parts, and how much room they take. Assumes nothing.
-use mathlib.Core.Path.{_≡_, refl, sym, ap, _∙_, subst, subst⁻¹}
+use mathlib.Core.Path.{_≡_, refl, sym, ap, _∙_}
 use mathlib.Core.Logic.{dite}
-use mathlib.Core.List.{List, [], _∷_, _++_, append-assoc}
+use mathlib.Core.List.{List, _++_}
 use Prim.Native.Nat.{ℕ, zero, suc, _+_, _-_, _*_, _/_, _≤_, _<_}
 use native.Mathlib.Decide.{decLt}
 use native.Mathlib.Omega.{arith}
 use borrow.Author.Tests.{le-leb, lt-leb}
-use borrow.Rule.Slice.PartMut.{putMid, take-put}
-use lib.Dec.{leb, lit≤}
+use lib.Dec.{lit≤}
 use lib.Ieee.{Float}
 use lib.ListN.{length, take, drop, length-drop, length-append}
 use lib.Seq.{length-take-le}
-use Rattle.bounds.specs.declared.Bounds.{Bounds}
 use Rattle.axis_sort.specs.Axis.{precedes}
-use Rattle.axis_sort.specs.Sorted.{sorted}
-use Rattle.axis_sort.specs.Small.{Small}
-use Rattle.axis_sort.proofs.Floats.{small-take, small-drop}
-use Rattle.axis_sort.proofs.Parts.{part-2, whole-2}
-use Rattle.axis_sort.proofs.Halving.{halving-small, halving-large, halving-all, sorted-length, small-sorted}
+use Rattle.axis_sort.proofs.Halving.{halving-small, halving-large, halving-all, sorted-length}
 use Rattle.kd_tree.specs.Boxes.{boxOf, corners, longest}
 use Rattle.kd_tree.specs.Tree.{along, split, boxesOf, boxCountTo, boxCount}
-use Rattle.kd_tree.specs.Written.{Written, Splits}
 
 -- ---- how many boxes
 count-small-to : (n m : ℕ) → m ≤ 8 → boxCountTo n m ≡ 1

@@ -1,8 +1,8 @@
-// The tree of a cloud: the numbers of its points are split part by part, and each part's bounding box is written before its parts'.
+// The tree of a cloud: the numbers of its points are split part by part, and each part's bounding box is written before
+// its parts'.
 use bounds::Bounds;
 ghost use mathlib.Core.Path.{_≡_};
 ghost use Prim.Native.Nat.{_+_, _*_, _≤_, _<_};
-ghost use lib.Ieee.{Float};
 ghost use lib.ListN.{length};
 ghost use Rattle.axis_sort.specs.Axis.{coordinateOf};
 ghost use Rattle.axis_sort.specs.Small.{Small};
@@ -134,8 +134,8 @@ fn put_box(boxes: &mut [f32], at: usize, b: Bounds)
     boxes[at + 5] = b.hi.z;
 }
 
-// Splits a list of point numbers until eight or fewer are left in each part, and writes the boxes from `at` on; answers where they end. What lies
-// behind the boxes is work.
+// Splits a list of point numbers until eight or fewer are left in each part, and writes the boxes from `at` on; answers
+// where they end. What lies behind the boxes is work.
 pub fn split(points: &[f32], order: &mut [u32], boxes: &mut [f32], at: usize) -> usize
     requires { ⌜ (0 < length (now order)) × (at + 6 * boxCount (length (now order)) + length (now order) ≤ length (now boxes)) × Small (now order) ⌝ }
     ensures { λ r. ⌜ Splits (now (points .entry)) (now (order .entry)) (now (order .exit)) (now (boxes .entry)) (now (boxes .exit)) at r ⌝ }

@@ -1,17 +1,16 @@
 -- The index put together: the order, the bits of the boxes, zeros. Assumes nothing.
-use mathlib.Core.Path.{_≡_, refl, sym, ap, _∙_, subst, subst⁻¹}
+use mathlib.Core.Path.{_≡_, sym, ap, _∙_, subst, subst⁻¹}
 use mathlib.Core.Bool.{Bool}
-use mathlib.Core.List.{List, [], _++_, map}
+use mathlib.Core.List.{List, _++_, map}
 use Prim.Native.Nat.{ℕ, _+_, _-_, _*_, _/_, _≤_, _<_}
 use native.Mathlib.Omega.{arith}
 use lib.Ieee.{Float, binary32, toBits}
 use lib.ListN.{length, take, drop, replicate, length-append, length-map, length-replicate}
 use lib.Seq.{length-take-le, take-at}
 use Rattle.lists.specs.Lists.{upFrom}
-use Rattle.domain.specs.Accepted.{Cloud}
 use Rattle.axis_sort.specs.Small.{Small}
 use Rattle.kd_tree.specs.Tree.{split, boxesOf, boxCount, indexSize, padded, built, same, belongs}
-use Rattle.kd_tree.specs.Written.{Written, Splits}
+use Rattle.kd_tree.specs.Written.{Splits}
 use Rattle.kd_tree.proofs.Tree.{split-length, boxes-length, index-room, work-room}
 use Rattle.point_index.specs.Put.{Put}
 use Rattle.point_index.specs.Index.{Fits}

@@ -1,8 +1,8 @@
 -- What the checks decide of a call's result and of its slices. Assumes nothing.
 use mathlib.Core.Path.{_≡_, refl, sym, ap, _∙_}
-use mathlib.Core.Bool.{Bool, true, false, cond, _&&_}
+use mathlib.Core.Bool.{Bool, true, false, _&&_}
 use mathlib.Core.List.{List, [], _∷_, _++_}
-use Prim.Native.Nat.{ℕ, _+_, _*_, _/_, _%_, _≤_, _<_}
+use Prim.Native.Nat.{ℕ, _+_, _/_, _%_, _≤_, _<_}
 use native.Mathlib.Omega.{arith}
 use borrow.Author.Tests.{eq-eqb, ne-eqb, le-leb, lt-leb, leb-true}
 use lib.Dec.{leb, ltb, eqb}
@@ -11,13 +11,11 @@ use lib.Ieee.{Float, le, ofBits}
 use Rattle.numbers.specs.Rounded.{f32}
 use Rattle.ranges.specs.Range.{inside, firstOutside, farthest, percentileInside}
 use Rattle.domain.specs.declared.Refusal.{Refusal}
-use Rattle.domain.specs.Refusals.{Check, check, refusal, firstRefusal, roomy, estimateRefusal}
+use Rattle.domain.specs.Refusals.{check, refusal, firstRefusal, roomy, estimateRefusal}
 use Rattle.domain.specs.Accepted.{AcceptedEstimate}
 use Rattle.domain.proofs.Accepted.{accepted-estimate}
 use Rattle.clearing.specs.Swept.{swept}
 use Rattle.kd_tree.specs.Tree.{indexSize, built, belongs}
-use Rattle.point_index.specs.declared.Indexed.{Indexed}
-use Rattle.point_index.specs.declared.Belongs.{Belongs}
 use Rattle.point_index.specs.Index.{indexRefusal, accepted, Fits, Builds, Tells}
 
 -- ---- five checks, and the last with one more condition
@@ -94,9 +92,6 @@ module _ (points : List Float) (index words floats : ℕ) where
         ∙ more-passed (ltb 0 (length points)) (eqb (length points % 3) 0 && eqb (length points) (length points)) (leb n 4096) (leb n (firstOutside farthest points)) (roomy n words floats) (firstOutside farthest points) (answer-is ∙ h)
         ∙ ap (λ (t : Bool). then points (roomy n words floats && t)) (sym (le-leb (indexSize n) index l))
         ∙ sym index-is
-
-    pub few-points : r .answer ≡ 0 → n ≤ 4096
-    few-points h = accepted-estimate points (f32 0x3f000000) words floats (ap (λ (q : Refusal). q .answer) (sym e) ∙ h) .cloud .few
 
 -- ---- what holds where nothing is refused
 more-accepted : (a b c d e k : Bool) (bad : ℕ) → five a b c bad d (e && k) .answer ≡ 0 → (five a b c bad d e ≡ refusal 0 0) × (k ≡ true) × (five a b c bad d (e && k) ≡ refusal 0 0)

@@ -1,4 +1,5 @@
-// An index beside a cloud's points, by which the nearest point is found at once: the k-d tree of the cloud, as numbers in a lent slice.
+// An index beside a cloud's points, by which the nearest point is found at once: the k-d tree of the cloud, as numbers in a
+// lent slice.
 mod fill;
 
 use domain::Refusal;
@@ -43,7 +44,8 @@ pub fn refusal_of_index(points: &[f32], index: usize, words: usize, floats: usiz
     refusal
 }
 
-// The numbers of all points as the splits leave them, and the boxes at the front of the floats; answers where these end.
+// The numbers of all points as the splits leave them, and the boxes at the front of the floats; answers where these
+// end.
 fn order_points(points: &[f32], order: &mut [u32], floats: &mut [f32]) -> usize
     requires { ⌜ (0 < length (now order)) × (length (now order) ≤ 4096) × (4 * length (now order) + 64 ≤ length (now floats)) ⌝ }
     ensures { λ r. ⌜ Splits (now (points .entry)) (upFrom 0 (length (now (order .entry)))) (now (order .exit)) (now (floats .entry)) (now (floats .exit)) 0 r ⌝ }

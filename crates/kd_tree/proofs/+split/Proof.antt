@@ -4,10 +4,9 @@ use Rattle.kd_tree.proofs.Splitting.{leaf-room, leaf-end, sort-room, so
 use Rattle.axis_sort.proofs.Parts.{size-1, size-2}
 use Rattle.axis_sort.proofs.Floats.{small-take}
 use borrow.Rule.Slice.PartMut.{same-len-mid}
-use lib.Seq.{length-take-le}
-use lib.ListN.{length, take}
+use lib.ListN.{length}
 use Prim.Native.Nat.{_+_, _-_, _/_, _≤_}
-use mathlib.Core.Path.{_≡_, sym, ap, _∙_, subst⁻¹}
+use mathlib.Core.Path.{sym, _∙_, subst⁻¹}
 use Prim.Native.Nat.{ℕ, _<_}
 use borrow.Fn.Kinds.{In}
 use borrow.Fn.PlainCycle.{Measures, is, falls, and}

@@ -2,8 +2,8 @@ use native.Mathlib.Omega.{arith}
 use Rattle.point_index.proofs.Building.{end-fits, index-fits, boxes-count, ordered-size, built-end}
 use lib.Seq.{length-take-le}
 use lib.ListN.{length, take}
-use Prim.Native.Nat.{ℕ, _+_, _/_, _≤_}
-use mathlib.Core.Path.{_≡_, sym, _∙_, subst⁻¹}
+use Prim.Native.Nat.{_/_}
+use mathlib.Core.Path.{_≡_, sym, _∙_}
 use borrow.Author.Needs.{needs}
 use Rattle.point_index.proofs.build.Statement.{statement}
 use Rattle.point_index.proofs.build.Tie as tie

@@ -1,8 +1,5 @@
 use native.Mathlib.Omega.{arith}
 use Rattle.point_index.proofs.Building.{matches-end}
-use Rattle.point_index.specs.Index.{Fits}
-use lib.ListN.{length}
-use Prim.Native.Nat.{_+_, _*_}
 use borrow.Author.Needs.{needs}
 use Rattle.point_index.proofs.matches.Statement.{statement}
 use Rattle.point_index.proofs.matches.Tie as tie

@@ -1,4 +1,4 @@
-use Rattle.point_index.proofs.Outcome.{refused-before, refused-index, refused-none, few-points}
+use Rattle.point_index.proofs.Outcome.{refused-before, refused-index, refused-none}
 use borrow.Author.Needs.{needs}
 use Rattle.point_index.proofs.refusal_of_index.Statement.{statement}
 use Rattle.point_index.proofs.refusal_of_index.Tie as tie
