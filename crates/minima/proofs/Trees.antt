@@ -121,6 +121,31 @@ module _ (base count : ℕ) (w : List ℕ) where
   root-leaf h l = some-leaf h (2 * count) 1 (omega arith) (omega arith) (omega arith)
 
 -- ---- the loops
+pub flat : (base count e : ℕ) (w : List ℕ) → getD w (base + count + e) 0 ≡ getD w (base + (count + e)) 0
+flat base count e w = let q : base + count + e ≡ base + (count + e) = omega arith in ap (λ (x : ℕ). getD w x 0) q
+
+-- a node and the one beside it are the two below the node over them
+pub beside : (base k : ℕ) (w : List ℕ) (v : ℕ) → v ≡ getD w (base + k) 0 → min v (getD w (base + (4 * (k / 2) + 1 - k)) 0) ≡ min (getD w (base + 2 * (k / 2)) 0) (getD w (base + 2 * (k / 2) + 1) 0)
+beside base k w v e = ⊎-elim
+    (λ (t : eqb k (2 * (k / 2)) ≡ true).
+    let q = eqb-true k (2 * (k / 2)) t in
+    let i : base + k ≡ base + 2 * (k / 2) = omega arith in
+    let j : base + (4 * (k / 2) + 1 - k) ≡ base + 2 * (k / 2) + 1 = omega arith in
+    let a = ap (λ (x : ℕ). getD w x 0) i in
+    let b = ap (λ (x : ℕ). getD w x 0) j in
+    ap₂ min (e ∙ a) b)
+    (λ (t : eqb k (2 * (k / 2)) ≡ false).
+    let q : k ≢ 2 * (k / 2) = eqb-false k (2 * (k / 2)) t in
+    let i : base + k ≡ base + 2 * (k / 2) + 1 = omega arith in
+    let j : base + (4 * (k / 2) + 1 - k) ≡ base + 2 * (k / 2) = omega arith in
+    let a = ap (λ (x : ℕ). getD w x 0) i in
+    let b = ap (λ (x : ℕ). getD w x 0) j in
+    ap₂ min (e ∙ a) b ∙ swap (getD w (base + 2 * (k / 2) + 1) 0) (getD w (base + 2 * (k / 2)) 0))
+    (either (eqb k (2 * (k / 2))))
+  where
+    swap : (x y : ℕ) → min x y ≡ min y x
+    swap x y = omega arith
+
 -- no word but those of the nodes over others has changed
 abbrev pub InnerOnly : ℕ → ℕ → List ℕ → List ℕ → Type 0
 InnerOnly base count v w = (j : ℕ) → (j < base) ⊎ (base + count ≤ j) → getD w j 0 ≡ getD v j 0

@@ -11,16 +11,19 @@ fn least(a: u32, b: u32) -> u32
     if a < b { a } else { b }
 }
 
-// Gives the element the value, and every node over it its least one.
+// Gives the element the value, and every node over it the least of that and of the node beside.
 pub fn renew(base: usize, count: usize, words: &mut [u32], element: usize, value: u32)
     requires { ⌜ (element < count) × (base + 2 * count ≤ length (now words)) ⌝ }
     ensures { λ _. ⌜ Renewed base count element value (now (words .entry)) (now (words .exit)) ⌝ }
 {
     words[base + count + element] = value;
-    let mut k: usize = (count + element) / 2;
-    while 0 < k {
-        words[base + k] = least(words[base + 2 * k], words[base + 2 * k + 1]);
-        k = k / 2;
+    let mut k: usize = count + element;
+    let mut v: u32 = value;
+    while 1 < k {
+        let up = k / 2;
+        v = least(v, words[base + (4 * up + 1 - k)]);
+        words[base + up] = v;
+        k = up;
     }
 }
 
