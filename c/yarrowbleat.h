@@ -23,7 +23,7 @@
  *    7  a work slice, or the index, is too short
  *    8  no triangle was found: there are fewer than three points
  *    9  the faces found don't fit the face slice
- *   10  a line of the cloud file is malformed; detail: the first such line, from 1
+ *   10  a line of the file is malformed; detail: the first such line, from 1
  *   11  all lines are well formed, but the points don't fit the slices
  *   12  the bytes are no STL file: fewer than 84, or not 84 + 50 times the count that they name
  *   13  an output slice is too short
@@ -35,6 +35,7 @@
  *   20  a season's patch has no points, more than 4,096, more covered than scanned or more than 10,000 faces
  *   21  figures are asked of an empty tally
  *   22  the index isn't this cloud's
+ *   23  no order of the faces could be a patch's
  *   24  no season can have left the tally, see YbTally
  *
  * The checks are made in this order, but that 15 and 16 stand right behind 8, and but for calls that name theirs; a
@@ -85,6 +86,7 @@ typedef enum {
     YB_SEASON_PATCH = 20,
     YB_TALLY_EMPTY = 21,
     YB_FOREIGN_INDEX = 22,
+    YB_NO_ORDER = 23,
     YB_TALLY = 24
 } YbAnswer;
 
@@ -101,7 +103,7 @@ static inline const char *yb_answer_text(uint32_t answer) {
     case YB_WORK: return "a work slice is too short";
     case YB_TOO_FEW_POINTS: return "no triangle was found: there are fewer than three points";
     case YB_FACES: return "the faces found don't fit the face slice";
-    case YB_LINE: return "a line of the cloud file is malformed";
+    case YB_LINE: return "a line of the file is malformed";
     case YB_ROOM: return "the file's points don't fit the slices";
     case YB_BAD_STL: return "the bytes are no STL file, or not as many as it says";
     case YB_OUTPUT_TOO_SHORT: return "an output slice is too short";
@@ -113,6 +115,7 @@ static inline const char *yb_answer_text(uint32_t answer) {
     case YB_SEASON_PATCH: return "the patch's counts can't be entered";
     case YB_TALLY_EMPTY: return "the tally is empty";
     case YB_FOREIGN_INDEX: return "the index isn't this cloud's";
+    case YB_NO_ORDER: return "no order of the faces could be a patch's";
     case YB_TALLY: return "no season can have left this tally";
     default: return "an answer that this version has no words for";
     }
@@ -210,6 +213,14 @@ typedef struct {
 
 /* The kinds of a verdict, in the order of the tests but for the first. */
 typedef enum { YB_GOOD = 1, YB_NO_AREA = 2, YB_SMALL = 3, YB_POOR = 4, YB_LONG = 5 } YbKind;
+
+/* The answer about faces of another program. */
+typedef struct {
+    uint32_t answer;
+    size_t detail;
+    size_t faces;   /* faces: the first so many numbers of the order slice */
+    uint32_t seeds; /* of these, the ones that share no edge with an earlier one */
+} YbOrdered;
 
 /* What is entered of a patch: a number of the caller's own, the cloud's points, those that a face touches, faces. */
 typedef struct {
@@ -438,6 +449,27 @@ YbStlRead yb_read_stl(const uint8_t *bytes, size_t bytes_len, float *corners, si
 YbVerdict yb_judge_triangle(const float *points, size_t points_len, const float *normals, size_t normals_len,
                             YbBallPivotingConfig settings, size_t i, size_t j, size_t k);
 
+/*
+ * Says whether faces of another ball pivoter could be a patch of ours in shape, and in what order. The faces are lines
+ * a,b,c of point numbers from 0, one to five digits each, each line ended by LF. Some order of them has to exist in
+ * which each seed has three points that no earlier face has, and every other face shares an edge with an earlier one
+ * and brings in exactly one new point; no edge may lie in more than two faces.
+ *
+ * point_count: at most 4,096; it may be 0, and points in no face are fine.
+ * order: gets a number a face, from 0 in the file's order: at each place the lowest face left that shares an edge with
+ * one placed, or where none does the lowest left. As many entries as there are LFs in the file are always enough.
+ * words, floats: work slices of at least YB_WORDS(n) = 24n + 64 and YB_FLOATS(n) = 4n + 64 entries for n points.
+ *
+ * Answers 0, 10, 3, 14, 17, 7, 13 or 23, each tried for the whole file before the next one. What it leaves:
+ *   0                    the order at the front of its slice, the rest of that as it was; both work slices zeros
+ *   13, 23               the order slice as it was; both work slices zeros
+ *   10, 3, 14, 17 and 7  all three slices as they were
+ * Details but 10's are 0. An empty file has no faces and is accepted. No patch of yb_reconstruct_with_normals with
+ * radii gets 23, in whatever order its lines stand and whichever way its faces are turned.
+ */
+YbOrdered yb_order_patch(const uint8_t *bytes, size_t bytes_len, size_t point_count, uint32_t *order, size_t order_len,
+                         uint32_t *words, size_t words_len, float *floats, size_t floats_len);
+
 /* ---- Seasons ---- */
 
 /*
@@ -556,6 +588,11 @@ YB_SIZE(YbStlRead, 24);
 YB_AT(YbStlRead, answer, 0);
 YB_AT(YbStlRead, detail, 8);
 YB_AT(YbStlRead, faces, 16);
+YB_SIZE(YbOrdered, 32);
+YB_AT(YbOrdered, answer, 0);
+YB_AT(YbOrdered, detail, 8);
+YB_AT(YbOrdered, faces, 16);
+YB_AT(YbOrdered, seeds, 24);
 
 YB_SIZE(YbSeasonPatch, 16);
 YB_AT(YbSeasonPatch, number, 0);

@@ -95,7 +95,7 @@ answers =
     ∷ says shortWork "a work slice is too short"
     ∷ says tooFewPoints "no triangle was found: there are fewer than three points"
     ∷ says shortFaces "the faces found don't fit the face slice"
-    ∷ says badLine "a line of the cloud file is malformed"
+    ∷ says badLine "a line of the file is malformed"
     ∷ says noRoom "the file's points don't fit the slices"
     ∷ says badStl "the bytes are no STL file, or not as many as it says"
     ∷ says shortOutput "an output slice is too short"
@@ -107,6 +107,6 @@ answers =
     ∷ says badSeasonPatch "the patch's counts can't be entered"
     ∷ says tallyEmpty "the tally is empty"
     ∷ says foreignIndex "the index isn't this cloud's"
-    ∷ says noOrder "no order makes the faces a patch in shape"
+    ∷ says noOrder "no order of the faces could be a patch's"
     ∷ says badTally "no season can have left this tally"
     ∷ []

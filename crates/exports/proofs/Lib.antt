@@ -1,2 +1,3 @@
--- The law that ties two calls.
+-- The laws that tie two calls.
 pub mod Reach
+pub mod Faces

@@ -13,6 +13,7 @@ ghost use Rattle.cloud.specs.Answers.{Answered, outcome};
 ghost use Rattle.ball_pivoting.specs.Outcome.{Reconstructs};
 ghost use Rattle.coverage.specs.Coverage.{Marked};
 ghost use Rattle.stl_file.specs.Answers.{Wrote, Got};
+ghost use Rattle.patch_order.specs.Ordering.{OrdersPatch};
 ghost use Rattle.release.specs.Release.{version, layout};
 ghost use Rattle.tally.specs.Tallies.{addedTo};
 ghost use Rattle.tally.specs.Working.{figuresOf};
@@ -27,6 +28,7 @@ use nearest_points::Nearest;
 use nearest_points::Searched;
 use point_index::Belongs;
 use point_index::Indexed;
+use patch_order::Ordered;
 use quality::TriangleQuality;
 use settings::BallPivotingConfig;
 use stl_file::StlRead;
@@ -240,6 +242,19 @@ pub extern "C" fn yb_judge_triangle(
     ensures { λ r. ⌜ r ≡ told (judged (now (points .entry)) (now (normals .entry)) settings i j k) ⌝ }
 {
     verdict::numbered::numbered(verdict::judge_triangle(points, normals, settings, i, j, k))
+}
+
+#[no_mangle]
+pub extern "C" fn yb_order_patch(
+    bytes: &[u8],
+    point_count: usize,
+    order: &mut [u32],
+    words: &mut [u32],
+    floats: &mut [f32],
+) -> Ordered
+    ensures { λ r. ⌜ OrdersPatch (now (bytes .entry)) «point_count» (now (order .entry)) (now (words .entry)) (now (floats .entry)) r (now (order .exit)) (now (words .exit)) (now (floats .exit)) ⌝ }
+{
+    patch_order::order_patch(bytes, point_count, order, words, floats)
 }
 
 // Adds a patch to a lent tally, where it is.

@@ -2,7 +2,7 @@
 
 pub use yarrowbleat::sys::{
     acos, ceil_cut, clamp, compute_circumradius as circumradius, compute_triangle_quality as quality, cut, distance,
-    max, min, read_cloud, read_stl, sqrt, write_stl, TriangleQuality as Quality,
+    max, min, order_patch, read_cloud, read_stl, sqrt, write_stl, TriangleQuality as Quality,
 };
 
 use expect::verdicts::Verdict;

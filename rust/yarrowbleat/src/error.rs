@@ -24,7 +24,7 @@ pub enum Error {
     TooFewPoints,
     /// 9. The faces found don't fit the face slice.
     Faces,
-    /// 10. This line of the cloud file, from 1, is malformed.
+    /// 10. This line of the file, from 1, is malformed.
     Line(usize),
     /// 11. The file's points don't fit the point slices.
     Room,
@@ -48,6 +48,8 @@ pub enum Error {
     TallyEmpty,
     /// 22. The index isn't this cloud's.
     ForeignIndex,
+    /// 23. No order of the faces could be a patch's.
+    NoOrder,
     /// 24. No season can have left this tally.
     Tally,
     /// An answer that this version of the crate has no name for.
@@ -72,7 +74,7 @@ pub fn answer_text(answer: u32) -> &'static str {
         7 => "a work slice is too short",
         8 => "no triangle was found: there are fewer than three points",
         9 => "the faces found don't fit the face slice",
-        10 => "a line of the cloud file is malformed",
+        10 => "a line of the file is malformed",
         11 => "the file's points don't fit the slices",
         12 => "the bytes are no STL file, or not as many as it says",
         13 => "an output slice is too short",
@@ -84,6 +86,7 @@ pub fn answer_text(answer: u32) -> &'static str {
         20 => "the patch's counts can't be entered",
         21 => "the tally is empty",
         22 => "the index isn't this cloud's",
+        23 => "no order of the faces could be a patch's",
         24 => "no season can have left this tally",
         _ => "an answer that this version has no words for",
     }
@@ -126,6 +129,7 @@ impl Error {
             20 => Error::SeasonPatch,
             21 => Error::TallyEmpty,
             22 => Error::ForeignIndex,
+            23 => Error::NoOrder,
             24 => Error::Tally,
             answer => Error::Unknown { answer, detail },
         })
@@ -155,6 +159,7 @@ impl Error {
             Error::SeasonPatch => 20,
             Error::TallyEmpty => 21,
             Error::ForeignIndex => 22,
+            Error::NoOrder => 23,
             Error::Tally => 24,
             Error::Unknown { answer, .. } => *answer,
         }

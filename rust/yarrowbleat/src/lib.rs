@@ -150,3 +150,27 @@ pub fn read_cloud(bytes: &[u8]) -> Result<Cloud, Error> {
     normals.truncate(r.count);
     Ok(Cloud { radius: r.radius, points, normals })
 }
+
+/// An order in which faces could have been laid.
+#[derive(Clone, Debug, PartialEq, Eq)]
+#[non_exhaustive]
+pub struct FaceOrder {
+    /// The faces' numbers, from 0 in the file's order.
+    pub order: Vec<u32>,
+    /// How many of them share no edge with an earlier one.
+    pub seeds: u32,
+}
+
+/// Reads faces of another program, lines `a,b,c` of point numbers from 0, one to five digits each and each line ended by
+/// LF, and says in what order they could be a patch in shape: each seed has three points that no earlier face has, every
+/// other face shares an edge with an earlier one and brings in exactly one new point, and no edge lies in more than two
+/// faces. At each place stands the lowest face left that shares an edge with one placed, or where none does the lowest
+/// left. [`Error::NoOrder`] where there is no such order.
+pub fn order_patch(bytes: &[u8], points: usize) -> Result<FaceOrder, Error> {
+    let (mut words, mut floats) = work(points);
+    let mut order = vec![0; bytes.iter().filter(|b| **b == b'\n').count()];
+    let r = sys::order_patch(bytes, points, &mut order, &mut words, &mut floats);
+    Error::check(r.answer, r.detail)?;
+    order.truncate(r.faces);
+    Ok(FaceOrder { order, seeds: r.seeds })
+}

@@ -103,6 +103,10 @@ pub struct CloudRead {
 #[repr(C)]
 #[derive(Clone, Copy, Debug, Default, PartialEq, Eq)]
 pub struct StlWritten {
+/// The answer about faces of another program.
+#[repr(C)]
+#[derive(Clone, Copy, Debug, PartialEq, Eq)]
+pub struct Ordered {
     /// The answer's number, 0 where the call accepts.
     pub answer: u32,
     /// The answer's detail, 0 where none is named.
@@ -135,6 +139,12 @@ pub struct Verdict {
     pub kind: u32,
     /// What was measured; 0 at a refusal.
     pub measured: f32,
+}
+
+    /// The faces.
+    pub faces: usize,
+    /// Of these, the ones that share no edge with an earlier one in the order.
+    pub seeds: u32,
 }
 
 /// What is entered of a patch: the number that its caller gave, and its counts.
@@ -276,6 +286,7 @@ layouts! {
     CloudRead 32: answer 0, detail 8, radius 16, count 24;
     StlWritten 24: answer 0, detail 8, length 16;
     StlRead 24: answer 0, detail 8, faces 16;
+    Ordered 32: answer 0, detail 8, faces 16, seeds 24;
     SeasonPatch 16: number 0, scanned 4, covered 8, faces 12;
     Tally 72: patches 0, faces 8, face_squares 16, scanned 24, covered 32, best 40, worst 56;
     Fraction 16: numerator 0, denominator 8;
@@ -425,6 +436,17 @@ mod linked {
             j: usize,
             k: usize,
         ) -> Verdict;
+        pub fn yb_order_patch(
+            bytes: *const u8,
+            bytes_len: usize,
+            point_count: usize,
+            order: *mut u32,
+            order_len: usize,
+            words: *mut u32,
+            words_len: usize,
+            floats: *mut f32,
+            floats_len: usize,
+        ) -> Ordered;
         pub fn yb_tally_add(tally: *mut Tally, patch: SeasonPatch) -> u32;
         pub fn yb_tally_figures(tally: *const Tally) -> Figures;
         pub fn yb_build_index(
@@ -627,6 +649,26 @@ pub fn write_stl(points: &[f32], faces: &[u32], bytes: &mut [u8]) -> StlWritten 
             faces.len(),
             bytes.as_mut_ptr(),
             bytes.len(),
+/// Whether the faces of a file of lines could be a patch's, and in what order, over a lent slice for the order and lent
+/// work slices.
+pub fn order_patch(
+    bytes: &[u8],
+    point_count: usize,
+    order: &mut [u32],
+    words: &mut [u32],
+    floats: &mut [f32],
+) -> Ordered {
+    unsafe {
+        linked::yb_order_patch(
+            bytes.as_ptr(),
+            bytes.len(),
+            point_count,
+            order.as_mut_ptr(),
+            order.len(),
+            words.as_mut_ptr(),
+            words.len(),
+            floats.as_mut_ptr(),
+            floats.len(),
         )
     }
 }

@@ -138,3 +138,24 @@ fn most_faces() {
     assert_eq!(covered(&patch), (last + 1, 100));
     assert_eq!(patch.unreached(), (last as u32 + 1..100).collect::<Vec<_>>());
 }
+
+/// Faces of another program: orders and every refusal.
+#[test]
+fn orders() {
+    let order = |text: &str, points| order_patch(text.as_bytes(), points);
+    let found = order("0,1,2\n2,3,4\n00002,1,3\n", 5).unwrap();
+    assert_eq!((found.order, found.seeds), (vec![0, 2, 1], 1));
+    let none = order("", 0).unwrap();
+    assert_eq!((none.order, none.seeds), (vec![], 0));
+    assert_eq!(told(order("0,1,2\n0,1\n", 9_999)), (10, 2));
+    assert_eq!(told(order("0,1,2\n", 4_097)), (3, 0));
+    assert_eq!(told(order("0,0,1\n0,1,9\n", 3)), (14, 0));
+    assert_eq!(told(order("0,1,2\n0,1,0\n", 3)), (17, 0));
+    assert_eq!(told(order("0,1,2\n1,2,0\n", 4)), (23, 0));
+    let mut slices = (vec![7; 1], vec![7; 136], vec![7.0; 75]);
+    let short = sys::order_patch(b"", 3, &mut slices.0, &mut slices.1, &mut slices.2);
+    assert_eq!((short.answer, slices.1[0], slices.2[0]), (7, 7, 7.0));
+    slices.2.push(7.0);
+    let two = sys::order_patch(b"0,1,2\n1,0,2\n", 3, &mut slices.0, &mut slices.1, &mut slices.2);
+    assert_eq!((two.answer, slices.0[0], slices.1[0], slices.2[0]), (13, 7, 0, 0.0));
+}

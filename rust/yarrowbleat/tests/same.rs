@@ -7,7 +7,7 @@ const HEADER: &str = include_str!("../../../c/yarrowbleat.h");
 const SYS: &str = include_str!("../src/sys.rs");
 const EXPORTS: &str = include_str!("../../../crates/exports/src/lib.rt");
 const RELEASE: &str = include_str!("../../../crates/release/src/lib.rt");
-const STRUCTS: [(&str, &str); 16] = [
+const STRUCTS: [(&str, &str); 17] = [
     ("TriangleQuality", include_str!("../../../crates/quality/src/lib.rt")),
     ("Estimate", include_str!("../../../crates/estimate/src/lib.rt")),
     ("BallPivotingConfig", include_str!("../../../crates/settings/src/lib.rt")),
@@ -15,6 +15,7 @@ const STRUCTS: [(&str, &str); 16] = [
     ("CloudRead", include_str!("../../../crates/cloud/src/lib.rt")),
     ("StlWritten", include_str!("../../../crates/stl_file/src/lib.rt")),
     ("StlRead", include_str!("../../../crates/stl_file/src/lib.rt")),
+    ("Ordered", include_str!("../../../crates/patch_order/src/lib.rt")),
     ("SeasonPatch", include_str!("../../../crates/tally/src/lib.rt")),
     ("Tally", include_str!("../../../crates/tally/src/lib.rt")),
     ("Fraction", include_str!("../../../crates/fractions/src/lib.rt")),
