@@ -8,6 +8,7 @@ use mathlib.Core.List.{List, [], _∷_, _++_}
 use lib.Dec.{leb, eqb}
 use lib.ListN.{length, drop}
 use lib.Ieee.{Float}
+use Rattle.answers.specs.Answers.{tooManyPoints, shortWork, badLine, shortOutput, missingPoint, equalNumbers, noOrder}
 use Rattle.numbers.specs.Rounded.{f32}
 use Rattle.lists.specs.Lists.{any}
 use Rattle.clearing.specs.Swept.{swept}
@@ -22,17 +23,17 @@ use Rattle.patch_order.specs.declared.Ordered.{Ordered}
 -- lengths of the work slices
 abbrev pub firstChecks : ℕ → Bool → Bool → ℕ → ℕ → List Check
 firstChecks n out same words floats =
-    check (leb n 4096) 3 0
-    ∷ check (not out) 14 0
-    ∷ check (not same) 17 0
-    ∷ check (roomy n words floats) 7 0
+    check (leb n 4096) tooManyPoints 0
+    ∷ check (not out) missingPoint 0
+    ∷ check (not same) equalNumbers 0
+    ∷ check (roomy n words floats) shortWork 0
     ∷ []
 
 -- 13 and 23: for an order slice of this length
 abbrev pub lastChecks : ℕ → List Face → List Check
 lastChecks room fs =
-    check (leb (length fs) room) 13 0
-    ∷ check (accepted fs) 23 0
+    check (leb (length fs) room) shortOutput 0
+    ∷ check (accepted fs) noOrder 0
     ∷ []
 
 abbrev pub checksOf : ℕ → ℕ → ℕ → List Face → List Check
@@ -42,7 +43,7 @@ checksOf n words floats fs = firstChecks n (any (outside n) fs) (any twice fs) w
 unfoldable pub refusalOf : ℕ → ℕ → ℕ → ℕ → Lines → Refusal
 unfolding firstRefusal
 refusalOf n room words floats (good fs) = firstRefusal (checksOf n words floats fs ++ lastChecks room fs)
-refusalOf n room words floats (wrong line) = refusal 10 line
+refusalOf n room words floats (wrong line) = refusal badLine line
 
 -- whether the checks up to 7 have passed
 unfoldable pub passed : ℕ → ℕ → ℕ → Lines → Bool

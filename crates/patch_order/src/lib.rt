@@ -33,19 +33,19 @@ fn first_answer(n: usize, outside: bool, twice: bool, words: usize, floats: usiz
     ensures { λ r. ⌜ r ≡ firstRefusal (firstChecks n outside twice words floats) .answer ⌝ }
 {
     if 4096 < n {
-        return 3;
+        return answers::TOO_MANY_POINTS;
     }
     if outside {
-        return 14;
+        return answers::NO_SUCH_POINT;
     }
     if twice {
-        return 17;
+        return answers::EQUAL_NUMBERS;
     }
     if words < 24 * n + 64 {
-        return 7;
+        return answers::WORK;
     }
     if floats < 4 * n + 64 {
-        return 7;
+        return answers::WORK;
     }
     0
 }
@@ -76,10 +76,10 @@ fn order_lines(
     ensures { λ r. ⌜ Judged (now (bytes .entry)) (now (order .entry)) r (now (order .exit)) ⌝ }
 {
     if order.len() < count {
-        return refused(13, 0);
+        return refused(answers::OUTPUT_TOO_SHORT, 0);
     }
     if is_too_many(n, count) {
-        return refused(23, 0);
+        return refused(answers::NO_ORDER, 0);
     }
     face_lines::store_faces(bytes, words);
     let ordered = ordering::order_faces(n, count, order, words);
@@ -91,7 +91,7 @@ fn order_lines(
             seeds: ordered.seeds,
         }
     } else {
-        refused(23, 0)
+        refused(answers::NO_ORDER, 0)
     }
 }
 
@@ -106,7 +106,7 @@ pub fn order_patch(
 {
     let seen = face_lines::scan_faces(bytes, point_count);
     if seen.malformed != 0 {
-        return refused(10, seen.malformed);
+        return refused(answers::LINE, seen.malformed);
     }
     let first = first_answer(
         point_count,

@@ -6,6 +6,7 @@ use mathlib.Core.List.{List, [], _∷_, _++_}
 use lib.Dec.{leb, eqb}
 use lib.ListN.{length, drop}
 use lib.Ieee.{Float}
+use Rattle.answers.specs.Answers.{shortWork}
 use Rattle.numbers.specs.Rounded.{f32}
 use Rattle.ranges.specs.Range.{firstOutside, farthest}
 use Rattle.domain.specs.declared.Refusal.{Refusal}
@@ -23,7 +24,7 @@ indexRefusal points index words floats =
     firstRefusal
     (sizeChecks (length points) (length points)
     ++ (pointCheck n (firstOutside farthest points)
-    ∷ check (roomy n words floats && leb (indexSize n) index) 7 0
+    ∷ check (roomy n words floats && leb (indexSize n) index) shortWork 0
     ∷ []))
 
 -- whether the checks pass, for slices of these lengths

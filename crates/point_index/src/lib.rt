@@ -37,7 +37,7 @@ pub fn refusal_of_index(points: &[f32], index: usize, words: usize, floats: usiz
     }
     if index < 8 * (points.len() / 3) + 64 {
         return Refusal {
-            answer: 7,
+            answer: answers::WORK,
             detail: 0,
         };
     }
