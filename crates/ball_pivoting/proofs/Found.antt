@@ -31,7 +31,7 @@ use Rattle.decisions.proofs.Within.{within}
 use Rattle.radii.specs.Radii.{adaptiveRadii}
 use Rattle.radii.specs.Steps as radii
 use Rattle.radii.specs.declared.Radii.{Radii}
-use Rattle.laying.specs.Laying.{Ground, rulesOf}
+use Rattle.laying.specs.Laying.{AllSearchable, rulesOf}
 use Rattle.laying.proofs.Claim.{laid-shape, laid-few}
 use Rattle.plain.specs.Reached.{plainReached}
 use Rattle.plain.proofs.Plain.{plain-most}
@@ -58,8 +58,8 @@ touched-inside c pts x t =
 
 -- ---- the points are indexed and hashed
 
-pub grounded : {s : Scene} {hash : Hash} {pts : List Float} {w u v : List ℕ} → s .n ≡ pointCount pts → Sized pts w → Indexed (s .grid) pts (s .n) u → Built hash pts (s .n) u v → Ground s hash pts v
-grounded {s = s} {u = u} {v = v} e z x b = record {
+pub all-searchable : {s : Scene} {hash : Hash} {pts : List Float} {w u v : List ℕ} → s .n ≡ pointCount pts → Sized pts w → Indexed (s .grid) pts (s .n) u → Built hash pts (s .n) u v → AllSearchable s hash pts v
+all-searchable {s = s} {u = u} {v = v} e z x b = record {
   some = omega (arith, z .some);
   held = record { few = x .few; points-long = omega (arith, z .threes); work-long = omega (arith, x .room, b .length-same) };
   indexed = indexed-kept v x (b .length-same) (take-fewer u v (b .before));
@@ -71,7 +71,7 @@ grounded {s = s} {u = u} {v = v} e z x b = record {
 
 -- ---- the radii
 
-ready-at : (c : BallPivotingConfig) (pts : List Float) (w : List ℕ) (w₀ : List ℕ) (f : List Float) {hash : Hash} → Ready c pts w₀ f → Ground (sceneOf c pts) hash pts w → radii.Ready c (sceneOf c pts .grid) hash pts (sceneOf c pts .n) w f
+ready-at : (c : BallPivotingConfig) (pts : List Float) (w : List ℕ) (w₀ : List ℕ) (f : List Float) {hash : Hash} → Ready c pts w₀ f → AllSearchable (sceneOf c pts) hash pts w → radii.Ready c (sceneOf c pts .grid) hash pts (sceneOf c pts .n) w f
 unfolding sceneOf
 ready-at c pts w w₀ f h g = record {
   some = g .some;
@@ -82,8 +82,8 @@ ready-at c pts w w₀ f h g = record {
   additional = h .additional;
 }
 
-pub radii-ready : (c : BallPivotingConfig) (pts : List Float) (s : Scene) (w w₀ : List ℕ) (f : List Float) {hash : Hash} → s ≡ sceneOf c pts → Ready c pts w₀ f → Ground s hash pts w → radii.Ready c (s .grid) hash pts (s .n) w f
-radii-ready c pts s w w₀ f {hash} e h = subst (λ (t : Scene). Ground t hash pts w → radii.Ready c (t .grid) hash pts (t .n) w f) (sym e) (ready-at c pts w w₀ f h)
+pub radii-ready : (c : BallPivotingConfig) (pts : List Float) (s : Scene) (w w₀ : List ℕ) (f : List Float) {hash : Hash} → s ≡ sceneOf c pts → Ready c pts w₀ f → AllSearchable s hash pts w → radii.Ready c (s .grid) hash pts (s .n) w f
+radii-ready c pts s w w₀ f {hash} e h = subst (λ (t : Scene). AllSearchable t hash pts w → radii.Ready c (t .grid) hash pts (t .n) w f) (sym e) (ready-at c pts w w₀ f h)
 
 -- the radii are the definition's
 pub listed-at : (c : BallPivotingConfig) (pts : List Float) (s : Scene) (r : Radii) → s ≡ sceneOf c pts → radii.Listed (adaptiveRadii c (s .grid) pts (s .n)) r → radii.Listed (radiiOf c pts) r

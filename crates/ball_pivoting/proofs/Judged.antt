@@ -30,7 +30,7 @@ use Rattle.decisions.specs.Decisions.{floatsOf}
 use Rattle.decisions.proofs.Within.{within}
 use Rattle.radii.specs.Steps as radii
 use Rattle.radii.specs.declared.Radii.{Radii}
-use Rattle.laying.specs.Laying.{Footing, rulesOf}
+use Rattle.laying.specs.Laying.{Searchable, rulesOf}
 use Rattle.plain.specs.Reached.{plainReached}
 use Rattle.plain.proofs.Reached.{plain-reached}
 use Rattle.reaching.specs.Reaching.{reaches}
@@ -59,7 +59,7 @@ no-faces-unused n t rest e k =
     eq-eqb (getD (t .used) k 0) 0 (rest .inv .flags k ∙ none)
 
 pub fresh-after : {s : Scene} {hash : Hash} {pts : List Float} {lent : List ℕ} {c : Counts} {w slice : List ℕ} (rs : List Float) → Holds (s .n) lent (patch (rulesOf s pts) heapOf (s .n) rs) c w slice
-    → Footing s hash pts w → c .faces ≡ 0 → Fresh s hash pts w
+    → Searchable s hash pts w → c .faces ≡ 0 → Fresh s hash pts w
 unfolding patch
 fresh-after {s} {pts = pts} rs h g z =
     let n = s .n in

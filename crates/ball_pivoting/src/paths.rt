@@ -11,7 +11,7 @@ ghost use lib.ListN.{length, take, getD};
 ghost use lib.Ieee.{nan};
 ghost use Rattle.patch.specs.Lay.{patch};
 ghost use Rattle.patch.specs.Frontier.{heapOf};
-ghost use Rattle.laying.specs.Laying.{Ground, rulesOf};
+ghost use Rattle.laying.specs.Laying.{AllSearchable, rulesOf};
 ghost use Rattle.radii.specs.Steps.{Listed};
 ghost use Rattle.decisions.specs.Decisions.{floatsOf};
 ghost use Rattle.plain.specs.Reached.{plainReached};
@@ -29,7 +29,7 @@ pub struct Site {
 // Indexes and hashes the cloud's points.
 fn index_points(points: &[f32], settings: BallPivotingConfig, words: &mut [u32]) -> Site
     requires { ⌜ Sized (now points) (now words) ⌝ }
-    ensures { λ r. ⌜ (r .scene ≡ sceneOf settings (now (points .entry))) × Ground (r .scene) (r .hash) (now (points .entry)) (now (words .exit)) ⌝ }
+    ensures { λ r. ⌜ (r .scene ≡ sceneOf settings (now (points .entry))) × AllSearchable (r .scene) (r .hash) (now (points .entry)) (now (words .exit)) ⌝ }
 {
     let n = points.len() / 3;
     let indexed = settings.use_spatial_index;
@@ -115,7 +115,7 @@ fn find_pivoting(
     words: &mut [u32],
     hash: Hash,
 ) -> Finding
-    requires { ⌜ Ground scene hash (now points) (now words) × Listed (take (radii .count) (radii .list)) radii × (0 < radii .count) ⌝ }
+    requires { ⌜ AllSearchable scene hash (now points) (now words) × Listed (take (radii .count) (radii .list)) radii × (0 < radii .count) ⌝ }
     ensures { λ r. ⌜ Finds (reasonBy (scene .n) (reaches (floatsOf scene (now (points .entry))) (scene .n) (getD (radii .list) (radii .count - 1) nan)))
         (laid (patch (rulesOf scene (now (points .entry))) heapOf (scene .n) (take (radii .count) (radii .list)))) (take (radii .count) (radii .list)) (now (faces .entry)) r (now (faces .exit)) ⌝ }
 {

@@ -18,7 +18,7 @@ use Rattle.lists.specs.Lists.{upFrom, count}
 use Rattle.sorting.proofs.Insertion.{part-length, part-at}
 use Rattle.lists.specs.Members.{Below}
 use Rattle.spatial_hash.specs.declared.Hash.{Hash}
-use Rattle.spatial_hash.specs.Near.{nobody, Surrounds, Near, HashedAll}
+use Rattle.spatial_hash.specs.Near.{noneOut, Surrounds, Near, HashedAll}
 use Rattle.spatial_hash.proofs.Kept.{hashed-all-behind}
 use Rattle.spatial_hash.proofs.Nearby.{near-all, surrounds-near}
 use Rattle.estimate.specs.Estimate.{nearer, nearestFrom, leastDistance}
@@ -104,7 +104,7 @@ looked h pts n i limit w u p found s inside x same hp g hs = record {
     below = g .surrounds .below
 
     near : (j : ℕ) → j < n → T (le (key pts i j) limit) → 1 ≤ count (eqb j) js
-    near = surrounds-near (subst (λ (q : Point3f). Surrounds pts n nobody q limit js) hp (near-all x g))
+    near = surrounds-near (subst (λ (q : Point3f). Surrounds pts n noneOut q limit js) hp (near-all x g))
 
     square-good : Good (leastOf (key pts i) i (inf false) js)
     square-good = least-is (key pts i) i Good (inf false) js top-good (λ (j : ℕ) (c : 1 ≤ count (eqb j) js) _. good j (below j c))

@@ -33,7 +33,7 @@ use Rattle.frontier.specs.declared.Counts.{Counts}
 use Rattle.regions.specs.Regions.{usedIn}
 use Rattle.frontier.specs.Work.{Holds, Sized, OnlyIn}
 use Rattle.frontier.proofs.Slices.{before-same, after-same, only-wider}
-use Rattle.laying.specs.Laying.{Ground, Footing, Without}
+use Rattle.laying.specs.Laying.{AllSearchable, Searchable, Without}
 
 -- ---- neither the index nor the words that hold a state were changed
 pub record Beside (n : ℕ) (w u : List ℕ) : Type 0 where
@@ -76,19 +76,19 @@ holds-beside {n} {c = c} b few h = record {
 
 -- ---- the ground
 
-pub sized : {s : Scene} {hash : Hash} {pts : List Float} {w : List ℕ} → Footing s hash pts w → Sized (s .n) w
+pub sized : {s : Scene} {hash : Hash} {pts : List Float} {w : List ℕ} → Searchable s hash pts w → Sized (s .n) w
 sized g = record { some = g .some; few = g .held .few; long = g .held .work-long }
 
-module _ {s : Scene} {hash : Hash} {pts : List Float} {w : List ℕ} (u : List ℕ) (g : Footing s hash pts w) where
-  footing-after : Hashed hash pts (s .n) u → take (4 * s .n) u ≡ take (4 * s .n) w → length u ≡ length w → Footing s hash pts u
-  footing-after x e l = record { some = g .some; held = held-kept u (g .held) l; indexed = indexed-kept u (g .indexed) l e; hashed = x }
+module _ {s : Scene} {hash : Hash} {pts : List Float} {w : List ℕ} (u : List ℕ) (g : Searchable s hash pts w) where
+  searchable-after : Hashed hash pts (s .n) u → take (4 * s .n) u ≡ take (4 * s .n) w → length u ≡ length w → Searchable s hash pts u
+  searchable-after x e l = record { some = g .some; held = held-kept u (g .held) l; indexed = indexed-kept u (g .indexed) l e; hashed = x }
 
-  pub footing-searched : Kept s w u → length u ≡ length w → Footing s hash pts u
-  footing-searched k l = footing-after (hashed-search {s = s} u (g .hashed) l k) (k .before) l
+  pub searchable-searched : Kept s w u → length u ≡ length w → Searchable s hash pts u
+  searchable-searched k l = searchable-after (hashed-search {s = s} u (g .hashed) l k) (k .before) l
 
   -- a step that uses no point
-  pub footing-same : OnlyIn (5 * s .n) (9 * s .n) w u → usedIn (s .n) u ≡ usedIn (s .n) w → Footing s hash pts u
-  footing-same o e = footing-after
+  pub searchable-same : OnlyIn (5 * s .n) (9 * s .n) w u → usedIn (s .n) u ≡ usedIn (s .n) w → Searchable s hash pts u
+  searchable-same o e = searchable-after
       (record {
         linked = linked-behind hash pts (s .n) (9 * s .n) w u (omega arith) (o .after) (o .length-same) (g .hashed .linked);
         unused-in = λ j h free. ap (λ (ls : List ℕ). isOut (s .n) ls j) (o .after) ∙ g .hashed .unused-in j h (subst (λ (l : List ℕ). unused l j ≡ true) e free);
@@ -114,11 +114,11 @@ marked-unused (k ∷ ks) used j below free =
     (subst (λ (x : ℕ). eqb x 0 ≡ true) same (r .0), omega (arith, ap bit t, r .1)))
     (either (eqb j k))
 
-pub footing-laid : {s : Scene} {hash : Hash} {pts : List Float} {ks w v : List ℕ} (x : List ℕ) → Footing s hash pts w → Without hash pts (s .n) ks w v → length v ≡ length w → OnlyIn (5 * s .n) (9 * s .n) v x
-    → usedIn (s .n) x ≡ marked (usedIn (s .n) w) ks → ((k : ℕ) → 1 ≤ count (eqb k) ks → k < s .n) → Footing s hash pts x
-footing-laid {s} {hash} {pts} {ks} {w} {v} x g out l o used below =
+pub searchable-laid : {s : Scene} {hash : Hash} {pts : List Float} {ks w v : List ℕ} (x : List ℕ) → Searchable s hash pts w → Without hash pts (s .n) ks w v → length v ≡ length w → OnlyIn (5 * s .n) (9 * s .n) v x
+    → usedIn (s .n) x ≡ marked (usedIn (s .n) w) ks → ((k : ℕ) → 1 ≤ count (eqb k) ks → k < s .n) → Searchable s hash pts x
+searchable-laid {s} {hash} {pts} {ks} {w} {v} x g out l o used below =
     let size : length (usedIn (s .n) w) ≡ s .n = length-take-le (s .n) (drop (5 * s .n) w) (simp length-drop (omega (arith, g .held .work-long))) in
-    footing-after x g
+    searchable-after x g
     (record {
       linked = linked-behind hash pts (s .n) (9 * s .n) v x (omega arith) (o .after) (o .length-same) (out .linked);
       unused-in = λ j h free.
@@ -131,21 +131,21 @@ footing-laid {s} {hash} {pts} {ks} {w} {v} x g out l o used below =
 -- ---- before any point is laid
 module _ {s : Scene} {hash : Hash} {pts : List Float} {w : List ℕ} (u : List ℕ) where
   -- only words between the index and a place before the hash were changed
-  ground-only : (a : ℕ) → a ≤ 9 * s .n → OnlyIn (4 * s .n) a w u → Ground s hash pts w → Ground s hash pts u
-  ground-only a h o g = record {
+  all-searchable-only : (a : ℕ) → a ≤ 9 * s .n → OnlyIn (4 * s .n) a w u → AllSearchable s hash pts w → AllSearchable s hash pts u
+  all-searchable-only a h o g = record {
     some = g .some;
     held = held-kept u (g .held) (o .length-same);
     indexed = indexed-kept u (g .indexed) (o .length-same) (o .before);
     hashed = hashed-all-behind hash pts (s .n) a w u h (o .after) (o .length-same) (g .hashed);
   }
 
-  pub footing-begun : Ground s hash pts w → OnlyIn (5 * s .n) (6 * s .n) w u → Footing s hash pts u
-  footing-begun g o =
-      let v = ground-only (6 * s .n) (omega arith) (only-wider (4 * s .n) (6 * s .n) (omega arith) (omega arith) o) g in
+  pub searchable-begun : AllSearchable s hash pts w → OnlyIn (5 * s .n) (6 * s .n) w u → Searchable s hash pts u
+  searchable-begun g o =
+      let v = all-searchable-only (6 * s .n) (omega arith) (only-wider (4 * s .n) (6 * s .n) (omega arith) (omega arith) o) g in
       record { some = v .some; held = v .held; indexed = v .indexed; hashed = all-hashed (v .hashed) }
 
-pub ground-searched : {s : Scene} {w : List ℕ} (u : List ℕ) → Kept s w u → length u ≡ length w → {hash : Hash} {pts : List Float} → Ground s hash pts w → Ground s hash pts u
-ground-searched {s} u k l = ground-only u (5 * s .n) (omega arith) (record { before = k .before; after = k .after; length-same = l })
+pub all-searchable-searched : {s : Scene} {w : List ℕ} (u : List ℕ) → Kept s w u → length u ≡ length w → {hash : Hash} {pts : List Float} → AllSearchable s hash pts w → AllSearchable s hash pts u
+all-searchable-searched {s} u k l = all-searchable-only u (5 * s .n) (omega arith) (record { before = k .before; after = k .after; length-same = l })
 
 -- a list that is not empty
 pub record Waiting (l : List Edge) : Type 0 where

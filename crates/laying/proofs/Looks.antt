@@ -18,13 +18,13 @@ use Rattle.regions.specs.Regions.{usedIn}
 use Rattle.frontier.specs.Work.{entryOf, Holds, Pops, Tells, Ready, OnlyIn}
 use Rattle.frontier.proofs.Flags.{word-decoded}
 use Rattle.frontier.proofs.Work.{ready}
-use Rattle.laying.specs.Laying.{Footing, pivotOver, looked, Lays, Opened, Standing, Pivoting}
-use Rattle.laying.proofs.Kept.{sized, footing-same, Waiting, waiting}
+use Rattle.laying.specs.Laying.{Searchable, pivotOver, looked, Lays, Opened, BetweenLooks, Pivoting}
+use Rattle.laying.proofs.Kept.{sized, searchable-same, Waiting, waiting}
 use Rattle.laying.proofs.Pivots.{entry-below, looked-skip, looked-open}
 
-module _ {s : Scene} {hash : Hash} {pts : List Float} (r : Float) {c : Counts} {w slice : List ℕ} (st : Standing s hash pts c w slice) (some-wait : 0 < c .frontier) where
+module _ {s : Scene} {hash : Hash} {pts : List Float} (r : Float) {c : Counts} {w slice : List ℕ} (st : BetweenLooks s hash pts c w slice) (some-wait : 0 < c .frontier) where
   pub pop-ready : Ready (s .n) c w
-  pop-ready = ready (s .n) (st .lent) (st .state) c w slice (sized (st .ground)) (st .holds) (room (s .n) (st .state) (st .inv))
+  pop-ready = ready (s .n) (st .lent) (st .state) c w slice (sized (st .searchable)) (st .holds) (room (s .n) (st .state) (st .inv))
 
   waits : (lent : List ℕ) (t : State) → Holds (s .n) lent t c w slice → Waiting (t .frontier)
   waits lent t h = waiting (t .frontier) (omega (arith, h .frontier-count))
@@ -42,7 +42,7 @@ module _ {s : Scene} {hash : Hash} {pts : List Float} (r : Float) {c : Counts} {
       word-is = pops lent slice t first others h (waits lent t h .is) .0
 
       small : (first .v1 < 4096) × (first .v2 < 4096)
-      small = let b = entry-below first others t (waits lent t h .is) inv in let f = st .ground .held .few in omega arith
+      small = let b = entry-below first others t (waits lent t h .is) inv in let f = st .searchable .held .few in omega arith
 
       seen-is : any (same first) (t .processed) ≡ seen
       seen-is = sym (tells (t .processed) first (small .0) (small .1) word-is)
@@ -74,21 +74,21 @@ module _ {s : Scene} {hash : Hash} {pts : List Float} (r : Float) {c : Counts} {
         let x = waits (st .lent) t (st .holds) in
         pops (st .lent) slice t (x .first) (x .others) (st .holds) (x .is) .1 .used ∙ sym (st .holds .used)
 
-    popped-ground : Footing s hash pts u
-    popped-ground = footing-same u (st .ground) only popped-used
+    popped-searchable : Searchable s hash pts u
+    popped-searchable = searchable-same u (st .searchable) only popped-used
 
     pub skipped : seen ≡ true → Lays s hash pts (Inv (s .n)) (looked s pts r) c w slice next u slice
     skipped b = record {
       takes = λ lent t inv h. subst (λ (z : State). Holds (s .n) lent z next u slice)
           (sym (looked-skip s pts r (first lent t inv h) (others lent t inv h) t (waits lent t h .is) (seen-is lent t inv h ∙ b)))
           (pops lent slice t (first lent t inv h) (others lent t inv h) h (waits lent t h .is) .1);
-      ground = popped-ground;
+      searchable = popped-searchable;
       length-same = only .length-same;
     }
 
     pub pivoting : seen ≡ false → Pivoting s hash pts next u slice (decode entry)
     pivoting b = record {
-      ground = popped-ground;
+      searchable = popped-searchable;
       lent = st .lent;
       state = open-state (st .lent) (st .state) (st .inv) (st .holds) b;
       opened = opened (st .lent) (st .state) (st .inv) (st .holds) b;
@@ -101,6 +101,6 @@ module _ {s : Scene} {hash : Hash} {pts : List Float} (r : Float) {c : Counts} {
       takes = λ lent t inv h. subst (λ (z : State). Holds (s .n) lent z after v back)
           (sym (looked-open s pts r (decode entry) (others lent t inv h) t (wait-is lent t inv h b) (fresh-is lent t inv h b)))
           (lays .takes lent (open-state lent t inv h b) (opened lent t inv h b) (open-holds lent t inv h b));
-      ground = lays .ground;
+      searchable = lays .searchable;
       length-same = lays .length-same ∙ only .length-same;
     }

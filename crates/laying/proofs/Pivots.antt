@@ -32,8 +32,8 @@ use Rattle.pivot.specs.Found.{pivotFound}
 use Rattle.frontier.specs.declared.Counts.{Counts}
 use Rattle.frontier.specs.Work.{Holds, Takes, Alone, Open, Misses, Ready, Room, OnlyIn}
 use Rattle.frontier.proofs.Work.{ready}
-use Rattle.laying.specs.Laying.{Footing, Without, rulesOf, pivotOver, looked, Lays, Opened, Pivoting}
-use Rattle.laying.proofs.Kept.{Beside, beside-both, beside-search, beside-without, holds-beside, sized, footing-searched, footing-laid, pointOf, pointOf-found}
+use Rattle.laying.specs.Laying.{Searchable, Without, rulesOf, pivotOver, looked, Lays, Opened, Pivoting}
+use Rattle.laying.proofs.Kept.{Beside, beside-both, beside-search, beside-without, holds-beside, sized, searchable-searched, searchable-laid, pointOf, pointOf-found}
 
 -- seeds and pivots are free points
 pub fair : (s : Scene) (pts : List Float) → Fair (s .n) (rulesOf s pts)
@@ -134,7 +134,7 @@ module _ {s : Scene} {hash : Hash} {pts : List Float} (r : Float) {c : Counts} {
   edge-below = entry-below (edge a b) (p .opened .others) (p .opened .before) (p .opened .wait) (p .opened .inv)
 
   pivot-ready : Ready (s .n) c w
-  pivot-ready = ready (s .n) (p .lent) (p .state) c w slice (sized (p .ground)) (p .holds) (opened-fits (p .opened))
+  pivot-ready = ready (s .n) (p .lent) (p .state) c w slice (sized (p .searchable)) (p .holds) (opened-fits (p .opened))
 
   pub few-pivots : c .pivots ≤ 8192
   few-pivots = omega (arith, pivot-ready .pivots, pivot-ready .sized .few)
@@ -151,15 +151,15 @@ module _ {s : Scene} {hash : Hash} {pts : List Float} (r : Float) {c : Counts} {
     pub free-point : {k : ℕ} → found ≡ To k → Free (s .n) (p .state .used) k
     free-point f = free-met (p .lent) (p .state) (p .holds) f
 
-    pub searched : Footing s hash pts u
-    searched = footing-searched u (p .ground) kept long
+    pub searched : Searchable s hash pts u
+    searched = searchable-searched u (p .searchable) kept long
 
     pub pivot-missed : {next : Counts} → found ≡ Nowhere → Misses c next → Lays s hash pts (Opened (s .n) (edge a b)) (pivotOver s pts r (edge a b)) c w slice next u slice
     unfolding met
     pivot-missed {next} f misses = record {
       takes = λ lent t o h. subst (λ (z : Option ℕ). Holds (s .n) lent (pivoted (edge a b) (met (edge a b) z t)) next u slice) (sym (point-met lent t none h f))
           (misses (s .n) u slice lent (edge a b) t (opened-alone o) (holds-beside (beside-search u kept long) (pivot-ready .frontier) h));
-      ground = searched;
+      searchable = searched;
       length-same = long;
     }
 
@@ -171,7 +171,7 @@ module _ {s : Scene} {hash : Hash} {pts : List Float} (r : Float) {c : Counts} {
       pub pivot-room : Room (s .n) c v a b k
       pivot-room = record {
         ready = ready (s .n) (p .lent) (p .state) c v slice
-            (record { some = p .ground .some; few = p .ground .held .few; long = omega (arith, p .ground .held .work-long) })
+            (record { some = p .searchable .some; few = p .searchable .held .few; long = omega (arith, p .searchable .held .work-long) })
             (holds-beside aside (pivot-ready .frontier) (p .holds)) (opened-fits (p .opened));
         entries = omega (arith, p .holds .frontier-count, opened-room (p .opened) k (free-point f));
         first = edge-below .0;
@@ -183,7 +183,7 @@ module _ {s : Scene} {hash : Hash} {pts : List Float} (r : Float) {c : Counts} {
           → Lays s hash pts (Opened (s .n) (edge a b)) (pivotOver s pts r (edge a b)) c w slice next x back
       pivot-laid {next} {x} {back} takes only = record {
         takes = λ lent t o h. subst (λ (z : Option ℕ). Holds (s .n) lent (pivoted (edge a b) (met (edge a b) z t)) next x back) (sym (point-met lent t (some k) h f)) (laid lent t o h);
-        ground = footing-laid x searched (without-one removed) same only (used-one ∙ ap (λ (used : List ℕ). marked used (k ∷ [])) (sym (p .holds .used) ∙ sym used-kept)) (λ j q. one-below j q);
+        searchable = searchable-laid x searched (without-one removed) same only (used-one ∙ ap (λ (used : List ℕ). marked used (k ∷ [])) (sym (p .holds .used) ∙ sym used-kept)) (λ j q. one-below j q);
         length-same = only .length-same ∙ same ∙ long;
       }
         where

@@ -27,12 +27,12 @@ use Rattle.seed.specs.Found.{seedFound}
 use Rattle.frontier.specs.declared.Counts.{Counts}
 use Rattle.frontier.specs.Work.{Holds, Takes, Begins, Clears, NoneProcessed, Room, OnlyIn}
 use Rattle.frontier.proofs.Work.{ready}
-use Rattle.laying.specs.Laying.{Ground, Footing, Without, rulesOf, Lays, Standing, Resting}
-use Rattle.laying.proofs.Kept.{Beside, beside-both, beside-search, beside-without, holds-beside, footing-searched, footing-laid, footing-begun, seedIn, seedIn-found}
+use Rattle.laying.specs.Laying.{AllSearchable, Searchable, Without, rulesOf, Lays, BetweenLooks, BetweenRadii}
+use Rattle.laying.proofs.Kept.{Beside, beside-both, beside-search, beside-without, holds-beside, searchable-searched, searchable-laid, searchable-begun, seedIn, seedIn-found}
 use Rattle.laying.proofs.Pivots.{fair}
 
 -- ---- one radius
-module _ {s : Scene} {hash : Hash} {pts : List Float} (r : Float) {c : Counts} {w slice : List ℕ} (st : Resting s hash pts c w slice) {blank-counts : Counts} (clears : Clears c blank-counts)
+module _ {s : Scene} {hash : Hash} {pts : List Float} (r : Float) {c : Counts} {w slice : List ℕ} (st : BetweenRadii s hash pts c w slice) {blank-counts : Counts} (clears : Clears c blank-counts)
     {found : Seed} {u : List ℕ} (is : found ≡ seedFound (rulesOf s pts .seedOf r (usedIn s w))) (kept : Kept s w u) (long : length u ≡ length w) where
   abbrev state : State
   state = st .state
@@ -51,14 +51,14 @@ module _ {s : Scene} {hash : Hash} {pts : List Float} (r : Float) {c : Counts} {
   begun-holds : {v : List ℕ} → Beside (s .n) w v → (lent : List ℕ) (t : State) → Holds (s .n) lent t c w slice → Holds (s .n) lent (cleared t) blank-counts v slice
   begun-holds b lent t h = holds-beside b no-entries (clears (s .n) w slice lent t h)
 
-  pub searched : Footing s hash pts u
-  searched = footing-searched u (st .ground) kept long
+  pub searched : Searchable s hash pts u
+  searched = searchable-searched u (st .searchable) kept long
 
   pub no-seed : found ≡ Nothing → Lays s hash pts (Rest (s .n)) (layOne (rulesOf s pts) heapOf (s .n) r) c w slice blank-counts u slice
   unfolding layOne begun
   no-seed f = record {
     takes = λ lent t rest h. subst (λ (o : Option (ℕ × ℕ × ℕ)). Holds (s .n) lent (begun (rulesOf s pts) heapOf r (s .n) o (cleared t)) blank-counts u slice) (sym (seed-is lent t none h f)) (begun-holds (beside-search u kept long) lent t h);
-    ground = searched;
+    searchable = searched;
     length-same = long;
   }
 
@@ -96,9 +96,9 @@ module _ {s : Scene} {hash : Hash} {pts : List Float} (r : Float) {c : Counts} {
           let h = begun-holds aside (st .lent) state (st .holds) in
           record {
             ready = ready (s .n) (st .lent) (cleared state) blank-counts v slice
-                (record { some = st .ground .some; few = st .ground .held .few; long = omega (arith, st .ground .held .work-long) })
+                (record { some = st .searchable .some; few = st .searchable .held .few; long = omega (arith, st .searchable .held .work-long) })
                 h (room (s .n) (cleared state) (clear-inv (s .n) state (st .rest .inv) (st .rest .idle)));
-            entries = omega (arith, h .frontier-count, no-entry, st .ground .some);
+            entries = omega (arith, h .frontier-count, no-entry, st .searchable .some);
             first = free-seed .first .below;
             second = free-seed .second .below;
             third = free-seed .third .below;
@@ -115,9 +115,9 @@ module _ {s : Scene} {hash : Hash} {pts : List Float} (r : Float) {c : Counts} {
             seed-holds (st .lent) state (st .holds) .used
             ∙ ap (λ (used : List ℕ). marked used (i ∷ j ∷ k ∷ [])) (sym (st .holds .used) ∙ sym (ap (take (s .n)) (kept .after)))
 
-        pub seed-standing : Standing s hash pts after x back
-        seed-standing = record {
-          ground = footing-laid x searched out same only seed-used points-below;
+        pub seed-between-looks : BetweenLooks s hash pts after x back
+        seed-between-looks = record {
+          searchable = searchable-laid x searched out same only seed-used points-below;
           lent = st .lent;
           state = seeded (i, j, k) (cleared state);
           inv = seed-inv (s .n) state (st .rest .inv) (st .rest .idle) (i, j, k) free-seed;
@@ -130,7 +130,7 @@ module _ {s : Scene} {hash : Hash} {pts : List Float} (r : Float) {c : Counts} {
           takes = λ lent t rest h.
               subst (λ (o : Option (ℕ × ℕ × ℕ)). Holds (s .n) lent (begun (rulesOf s pts) heapOf r (s .n) o (cleared t)) end z front) (sym (seed-is lent t (some (i, j, k)) h f))
               (lays .takes lent (seeded (i, j, k) (cleared t)) (seed-inv (s .n) t (rest .inv) (rest .idle) (i, j, k) (free-found lent t h)) (seed-holds lent t h));
-          ground = lays .ground;
+          searchable = lays .searchable;
           length-same = lays .length-same ∙ only .length-same ∙ same ∙ long;
         }
 
@@ -150,17 +150,17 @@ layAll-more rules order n (x ∷ rs) r t = layAll-more rules order n rs r (layOn
 -- the first i radii have been laid
 pub record Covering (s : Scene) (hash : Hash) (pts radii : List Float) (count : ℕ) (lent w₀ : List ℕ) (i : ℕ) (c : Counts) (w slice : List ℕ) : Type 0 where
   pub inside : i ≤ count
-  pub ground : Footing s hash pts w
+  pub searchable : Searchable s hash pts w
   pub holds : Holds (s .n) lent (layAll (rulesOf s pts) heapOf (s .n) (take i radii) (blank (s .n))) c w slice
   pub words : length w ≡ length w₀
   pub face-words : length slice ≡ length lent
 
 module _ {s : Scene} {hash : Hash} {pts radii : List Float} {count : ℕ} {lent w₀ : List ℕ} where
-  pub cover-start : {w : List ℕ} {c : Counts} → Ground s hash pts w → Begins (s .n) c w₀ → OnlyIn (5 * s .n) (6 * s .n) w w₀ → Covering s hash pts radii count lent w₀ 0 c w₀ lent
+  pub cover-start : {w : List ℕ} {c : Counts} → AllSearchable s hash pts w → Begins (s .n) c w₀ → OnlyIn (5 * s .n) (6 * s .n) w w₀ → Covering s hash pts radii count lent w₀ 0 c w₀ lent
   unfolding layAll
   cover-start {w} {c} g begins only = record {
     inside = omega arith;
-    ground = footing-begun w₀ g only;
+    searchable = searchable-begun w₀ g only;
     holds = begins lent;
     words = refl;
     face-words = refl;
@@ -170,9 +170,9 @@ module _ {s : Scene} {hash : Hash} {pts radii : List Float} {count : ℕ} {lent 
     at-rest : Rest (s .n) (layAll (rulesOf s pts) heapOf (s .n) (take i radii) (blank (s .n)))
     at-rest = layAll-rest (s .n) (rulesOf s pts) heapOf (fair s pts) heapOf-keeps (take i radii) (blank (s .n)) (blank-rest (s .n))
 
-    pub resting : Resting s hash pts c w slice
-    resting = record {
-      ground = so-far .ground;
+    pub between-radii : BetweenRadii s hash pts c w slice
+    between-radii = record {
+      searchable = so-far .searchable;
       lent = lent;
       state = layAll (rulesOf s pts) heapOf (s .n) (take i radii) (blank (s .n));
       rest = at-rest;
@@ -186,7 +186,7 @@ module _ {s : Scene} {hash : Hash} {pts radii : List Float} {count : ℕ} {lent 
     pub cover-kept : (v : List ℕ) → Kept s w v → length v ≡ length w → Covering s hash pts radii count lent w₀ i c v slice
     cover-kept v k l = record {
       inside = so-far .inside;
-      ground = footing-searched v (so-far .ground) k l;
+      searchable = searchable-searched v (so-far .searchable) k l;
       holds = holds-beside (beside-search v k l) no-more (so-far .holds);
       words = l ∙ so-far .words;
       face-words = so-far .face-words;
@@ -201,7 +201,7 @@ module _ {s : Scene} {hash : Hash} {pts radii : List Float} {count : ℕ} {lent 
         ap (λ (rs : List Float). layAll (rulesOf s pts) heapOf (s .n) rs (blank (s .n))) one-more ∙ layAll-more (rulesOf s pts) heapOf (s .n) (take i radii) (getD radii i d) (blank (s .n)) in
         record {
           inside = omega arith;
-          ground = lays .ground;
+          searchable = lays .searchable;
           holds = subst (λ (t : State). Holds (s .n) lent t after v back) (sym step) (lays .takes lent (layAll (rulesOf s pts) heapOf (s .n) (take i radii) (blank (s .n))) at-rest (so-far .holds));
           words = lays .length-same ∙ so-far .words;
           face-words = face-long ∙ so-far .face-words;

@@ -14,7 +14,7 @@ use Rattle.spatial_hash.specs.declared.Hash.{Hash}
 use Rattle.decisions.specs.declared.Scene.{Scene}
 use Rattle.frontier.specs.declared.Counts.{Counts}
 use Rattle.frontier.specs.Work.{Holds}
-use Rattle.laying.specs.Laying.{rulesOf, looked, Lays, Standing}
+use Rattle.laying.specs.Laying.{rulesOf, looked, Lays, BetweenLooks}
 use Rattle.laying.proofs.Kept.{waiting, none-waits}
 use Rattle.laying.proofs.Pivots.{fair, looked-looked}
 
@@ -54,11 +54,11 @@ module _ (s : Scene) (pts : List Float) (r : Float) where
 
 -- ---- a look leads from one state between two looks to the next
 pub record Stepped (s : Scene) (hash : Hash) (pts : List Float) (c : Counts) (r : Counts) (u back : List ℕ) : Type 0 where
-  pub standing : Standing s hash pts r u back
+  pub between-looks : BetweenLooks s hash pts r u back
   pub one-look : r .looks ≡ c .looks + 1
   pub few : c .looks < 3 * s .n
 
-module _ {s : Scene} {hash : Hash} {pts : List Float} (r : Float) {c : Counts} {w slice : List ℕ} (st : Standing s hash pts c w slice) (some-wait : 0 < c .frontier) where
+module _ {s : Scene} {hash : Hash} {pts : List Float} (r : Float) {c : Counts} {w slice : List ℕ} (st : BetweenLooks s hash pts c w slice) (some-wait : 0 < c .frontier) where
   pub stepped : {after : Counts} {u back : List ℕ} → Lays s hash pts (Inv (s .n)) (looked s pts r) c w slice after u back → Stepped s hash pts c after u back
   stepped {after} {u} {back} lays =
       let t = st .state in
@@ -67,60 +67,60 @@ module _ {s : Scene} {hash : Hash} {pts : List Float} (r : Float) {c : Counts} {
       let m = looked-looked s pts r (x .first) (x .others) t (x .is) (st .inv) in
       let g = lays .takes (st .lent) t (st .inv) h in
       record {
-        standing = record { ground = lays .ground; lent = st .lent; state = looked s pts r t; inv = m .inv; holds = g };
+        between-looks = record { searchable = lays .searchable; lent = st .lent; state = looked s pts r t; inv = m .inv; holds = g };
         one-look = omega (arith, h .looks, g .looks, m .falls, m .inv .looked, st .inv .looked);
         few = omega (arith, h .looks, h .frontier-count, st .inv .looked, room (s .n) t (st .inv) .faces);
       }
 
 -- ---- the loop: the looks so far were those of the definition
 pub record Running (s : Scene) (hash : Hash) (pts : List Float) (r : Float) (c₀ : Counts) (w₀ slice₀ : List ℕ) (c : Counts) (w slice : List ℕ) : Type 0 where
-  pub standing : Standing s hash pts c w slice
+  pub between-looks : BetweenLooks s hash pts c w slice
   pub later : c₀ .looks ≤ c .looks
   pub lays : Lays s hash pts (Inv (s .n)) (run (rulesOf s pts) heapOf r (c .looks - c₀ .looks)) c₀ w₀ slice₀ c w slice
   pub face-words : length slice ≡ length slice₀
 
 module _ {s : Scene} {hash : Hash} {pts : List Float} {r : Float} {c₀ : Counts} {w₀ slice₀ : List ℕ} where
-  pub run-start : Standing s hash pts c₀ w₀ slice₀ → Running s hash pts r c₀ w₀ slice₀ c₀ w₀ slice₀
+  pub run-start : BetweenLooks s hash pts c₀ w₀ slice₀ → Running s hash pts r c₀ w₀ slice₀ c₀ w₀ slice₀
   unfolding run
   run-start st =
       let e : 0 ≡ c₀ .looks - c₀ .looks = omega arith in
       record {
-        standing = st;
+        between-looks = st;
         later = omega arith;
-        lays = record { takes = λ lent t inv h. subst (λ (k : ℕ). Holds (s .n) lent (ran s pts r k t) c₀ w₀ slice₀) e h; ground = st .ground; length-same = refl };
+        lays = record { takes = λ lent t inv h. subst (λ (k : ℕ). Holds (s .n) lent (ran s pts r k t) c₀ w₀ slice₀) e h; searchable = st .searchable; length-same = refl };
         face-words = refl;
       }
 
   module _ {c : Counts} {w slice : List ℕ} (run : Running s hash pts r c₀ w₀ slice₀ c w slice) where
     pub run-step : {after : Counts} {u back : List ℕ} → 0 < c .frontier → Lays s hash pts (Inv (s .n)) (looked s pts r) c w slice after u back → length back ≡ length slice → Running s hash pts r c₀ w₀ slice₀ after u back
     run-step {after} {u} {back} some-wait lays face-long =
-        let t = stepped r (run .standing) some-wait lays in
+        let t = stepped r (run .between-looks) some-wait lays in
         let k : ℕ = c .looks - c₀ .looks in
         let e : suc k ≡ after .looks - c₀ .looks = omega (arith, t .one-look, run .later) in
         record {
-          standing = t .standing;
+          between-looks = t .between-looks;
           later = omega (arith, t .one-look, run .later);
           lays = record {
             takes = λ lent z inv h. subst (λ (j : ℕ). Holds (s .n) lent (ran s pts r j z) after u back) e
                 (subst (λ (y : State). Holds (s .n) lent y after u back) (sym (run-more s pts r k z)) (lays .takes lent (ran s pts r k z) (run-inv s pts r k z inv) (run .lays .takes lent z inv h)));
-            ground = lays .ground;
+            searchable = lays .searchable;
             length-same = lays .length-same ∙ run .lays .length-same;
           };
           face-words = face-long ∙ run .face-words;
         }
 
     pub run-less : {after : Counts} {u back : List ℕ} → 0 < c .frontier → Lays s hash pts (Inv (s .n)) (looked s pts r) c w slice after u back → 3 * s .n - after .looks < 3 * s .n - c .looks
-    run-less {after} {u} {back} some-wait lays = let t = stepped r (run .standing) some-wait lays in omega (arith, t .one-look, t .few)
+    run-less {after} {u} {back} some-wait lays = let t = stepped r (run .between-looks) some-wait lays in omega (arith, t .one-look, t .few)
 
     pub run-end : c .frontier ≤ 0 → Lays s hash pts (Inv (s .n)) (ran s pts r (3 * s .n)) c₀ w₀ slice₀ c w slice
     run-end none =
-        let st = run .standing in
+        let st = run .between-looks in
         let k : ℕ = c .looks - c₀ .looks in
         let few : k ≤ 3 * s .n = omega (arith, st .holds .looks, room (s .n) (st .state) (st .inv) .looks) in
         record {
           takes = λ lent t inv h.
               let g = run .lays .takes lent t inv h in
               subst (λ (y : State). Holds (s .n) lent y c w slice) (sym (run-stop s pts r k (3 * s .n) t few (none-waits (ran s pts r k t .frontier) (omega (arith, g .frontier-count))))) g;
-          ground = run .lays .ground;
+          searchable = run .lays .searchable;
           length-same = run .lays .length-same;
         }

@@ -23,14 +23,14 @@ use Rattle.frontier.specs.declared.Counts.{Counts}
 use Rattle.frontier.specs.Work.{Holds, Takes}
 
 -- there are points, the slices are long enough for them, and they are indexed and hashed
-pub record Ground (s : Scene) (hash : Hash) (pts : List Float) (w : List ℕ) : Type 0 where
+pub record AllSearchable (s : Scene) (hash : Hash) (pts : List Float) (w : List ℕ) : Type 0 where
   pub some : 0 < s .n
   pub held : Held s pts w
   pub indexed : Indexed (s .grid) pts (s .n) w
   pub hashed : HashedAll hash pts (s .n) w
 
 -- the same once points are laid: whoever was taken out of the hash is used
-pub record Footing (s : Scene) (hash : Hash) (pts : List Float) (w : List ℕ) : Type 0 where
+pub record Searchable (s : Scene) (hash : Hash) (pts : List Float) (w : List ℕ) : Type 0 where
   pub some : 0 < s .n
   pub held : Held s pts w
   pub indexed : Indexed (s .grid) pts (s .n) w
@@ -59,7 +59,7 @@ looked s pts r t = next (rulesOf s pts) heapOf r (t .frontier) t
 -- a function that turns c, w and slice into r, u and back takes the step, from each held state of which `asked` holds, and leaves the index and the hash right
 pub record Lays (s : Scene) (hash : Hash) (pts : List Float) (asked : State → Type 0) (step : State → State) (c : Counts) (w slice : List ℕ) (r : Counts) (u back : List ℕ) : Type 0 where
   pub takes : Takes (s .n) asked step c w slice r u back
-  pub ground : Footing s hash pts u
+  pub searchable : Searchable s hash pts u
   pub length-same : length u ≡ length w
 
 -- within a look: e was popped, and is not processed
@@ -74,16 +74,16 @@ pub record Opened (n : ℕ) (e : Edge) (t : State) : Type 0 where
 -- ---- what is asked: the counts and the slices hold some state of a laying
 
 -- between two looks
-pub record Standing (s : Scene) (hash : Hash) (pts : List Float) (c : Counts) (w slice : List ℕ) : Type 0 where
-  pub ground : Footing s hash pts w
+pub record BetweenLooks (s : Scene) (hash : Hash) (pts : List Float) (c : Counts) (w slice : List ℕ) : Type 0 where
+  pub searchable : Searchable s hash pts w
   pub lent : List ℕ
   pub state : State
   pub inv : Inv (s .n) state
   pub holds : Holds (s .n) lent state c w slice
 
 -- between two radii
-pub record Resting (s : Scene) (hash : Hash) (pts : List Float) (c : Counts) (w slice : List ℕ) : Type 0 where
-  pub ground : Footing s hash pts w
+pub record BetweenRadii (s : Scene) (hash : Hash) (pts : List Float) (c : Counts) (w slice : List ℕ) : Type 0 where
+  pub searchable : Searchable s hash pts w
   pub lent : List ℕ
   pub state : State
   pub rest : Rest (s .n) state
@@ -91,7 +91,7 @@ pub record Resting (s : Scene) (hash : Hash) (pts : List Float) (c : Counts) (w 
 
 -- within a look, before the pivot over e
 pub record Pivoting (s : Scene) (hash : Hash) (pts : List Float) (c : Counts) (w slice : List ℕ) (e : Edge) : Type 0 where
-  pub ground : Footing s hash pts w
+  pub searchable : Searchable s hash pts w
   pub lent : List ℕ
   pub state : State
   pub opened : Opened (s .n) e state

@@ -14,7 +14,7 @@ ghost use Rattle.patch.specs.Invariant.{Inv, Rest};
 ghost use mathlib.Core.Option.{none};
 ghost use Rattle.nearby.specs.Ready.{usedIn};
 ghost use Rattle.frontier.specs.Work.{Holds};
-ghost use Rattle.laying.specs.Laying.{Ground, Footing, rulesOf, pivotOver, looked, Lays, Opened, Pivoting, Standing, Resting, Without};
+ghost use Rattle.laying.specs.Laying.{AllSearchable, Searchable, rulesOf, pivotOver, looked, Lays, Opened, Pivoting, BetweenLooks, BetweenRadii, Without};
 ghost use Rattle.spatial_hash.specs.Near.{Linked};
 ghost use mathlib.Core.List.{[], _∷_};
 
@@ -53,7 +53,7 @@ fn look(
     c: Counts,
     hash: Hash,
 ) -> Counts
-    requires { ⌜ Standing s hash (now points) c (now w) (now faces) × (0 < c .frontier) ⌝ }
+    requires { ⌜ BetweenLooks s hash (now points) c (now w) (now faces) × (0 < c .frontier) ⌝ }
     ensures { λ r. ⌜ Lays s hash (now (points .entry)) (Inv (s .n)) (looked s (now (points .entry)) radius) c (now (w .entry)) (now (faces .entry)) r (now (w .exit)) (now (faces .exit)) ⌝ }
 {
     let top = frontier::pop(w, s.n, c);
@@ -76,7 +76,7 @@ fn run(
     start: Counts,
     hash: Hash,
 ) -> Counts
-    requires { ⌜ Standing s hash (now points) start (now w) (now faces) ⌝ }
+    requires { ⌜ BetweenLooks s hash (now points) start (now w) (now faces) ⌝ }
     ensures { λ r. ⌜ Lays s hash (now (points .entry)) (Inv (s .n)) (run (rulesOf s (now (points .entry))) heapOf radius (3 * s .n)) start (now (w .entry)) (now (faces .entry)) r (now (w .exit)) (now (faces .exit)) ⌝ }
 {
     let mut c = start;
@@ -113,7 +113,7 @@ fn lay_one(
     hash: Hash,
     known: bool,
 ) -> Laid
-    requires { ⌜ Resting s hash (now points) before (now w) (now faces) × (known ≡ true → rulesOf s (now points) .seedOf radius (usedIn s (now w)) ≡ none) ⌝ }
+    requires { ⌜ BetweenRadii s hash (now points) before (now w) (now faces) × (known ≡ true → rulesOf s (now points) .seedOf radius (usedIn s (now w)) ≡ none) ⌝ }
     ensures { λ r. ⌜ Lays s hash (now (points .entry)) (Rest (s .n)) (layOne (rulesOf s (now (points .entry))) heapOf (s .n) radius) before (now (w .entry)) (now (faces .entry)) (r .counts) (now (w .exit)) (now (faces .exit))
         × (known ≡ true → usedIn s (now (w .exit)) ≡ usedIn s (now (w .entry))) ⌝ }
 {
@@ -157,9 +157,9 @@ pub fn advanced_ball_pivoting(
     w: &mut [u32],
     hash: Hash,
 ) -> Counts
-    requires { ⌜ Ground s hash (now points) (now w) × (count ≤ 17) ⌝ }
+    requires { ⌜ AllSearchable s hash (now points) (now w) × (count ≤ 17) ⌝ }
     ensures { λ r. ⌜ Holds (s .n) (now (faces .entry)) (patch (rulesOf s (now (points .entry))) heapOf (s .n) (take count radii)) r (now (w .exit)) (now (faces .exit))
-        × Footing s hash (now (points .entry)) (now (w .exit)) ⌝ }
+        × Searchable s hash (now (points .entry)) (now (w .exit)) ⌝ }
 {
     let flat = seed::flat::is_flat(s, points);
     let largest = last_of(radii, count);

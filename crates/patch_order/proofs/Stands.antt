@@ -63,8 +63,8 @@ module _ (bytes : List ℕ) (n count : ℕ) (words : List ℕ) (p : Checked byte
         subst (λ (f : Face). (f .a < n) × (f .b < n) × (f .c < n)) at (t .a-below, t .b-below, t .c-below)
 
     module _ (order : List ℕ) (fits : count ≤ length order) where
-      pub standing : (n ≤ 4096) × (count ≤ n) × (count ≤ length order) × (orderEnd n ≤ length words') × ((s : ℕ) → s < 3 * count → getD words' s 0 < n)
-      standing = (
+      pub between-looks : (n ≤ 4096) × (count ≤ n) × (count ≤ length order) × (orderEnd n ≤ length words') × ((s : ℕ) → s < 3 * count → getD words' s 0 < n)
+      between-looks = (
         p .points,
         few-most n count few,
         fits,

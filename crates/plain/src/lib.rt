@@ -1,6 +1,6 @@
 // The plain path: faces among near points, where there are no radii to pivot at.
+mod acceptance;
 mod near;
-mod soundness;
 
 ghost use mathlib.Core.Path.{_≡_};
 ghost use mathlib.Core.Bool.{cond, _||_};
@@ -76,7 +76,7 @@ fn try_face(
     let p1 = points::point_at(points, i);
     let p2 = points::point_at(points, a);
     let p3 = points::point_at(points, b);
-    if !soundness::is_sound(p1, p2, p3, la, lb, radius, limits) {
+    if !acceptance::is_sound(p1, p2, p3, la, lb, radius, limits) {
         return count;
     }
     frontier::put_face(faces, count, i as u32, a as u32, b as u32);

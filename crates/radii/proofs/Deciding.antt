@@ -30,7 +30,7 @@ use Rattle.lists.proofs.Bools.{not-true, and-both}
 use Rattle.lists.proofs.Counts.{count-mono, count-zero, count-all}
 use Rattle.sorting.proofs.Counting.{insert-count}
 use Rattle.spatial_hash.specs.declared.Hash.{Hash}
-use Rattle.spatial_hash.specs.Near.{nobody, Surrounds, Near}
+use Rattle.spatial_hash.specs.Near.{noneOut, Surrounds, Near}
 use Rattle.spatial_hash.proofs.Kept.{hashed-all-behind}
 use Rattle.spatial_hash.proofs.Squares.{Good, squared-good, distance-back}
 use Rattle.spatial_hash.proofs.Nearby.{count-same, near-all, surrounds-count, up-whole}
@@ -103,7 +103,7 @@ whole-same near pts n i inside numbers xs ys a b =
 
 -- ---- those found decide
 module _ (near : ℕ → Bool) (pts : List Float) (n i : ℕ) (js all : List ℕ) (limit : Float) (inside : i < n) (numbers : (j : ℕ) → j < n → Finite (pointAt pts j))
-    (g : Surrounds pts n nobody (pointAt pts i) limit js) (whole : Whole n all) where
+    (g : Surrounds pts n noneOut (pointAt pts i) limit js) (whole : Whole n all) where
   abbrev passing : Float → List ℕ → ℕ
   passing v xs = count (close near pts i v) xs
 
@@ -185,7 +185,7 @@ pub looked : (a : Around) (pts : List Float) (n i : ℕ) (limit : Float) (w u : 
 looked a pts n i limit w u f g h p found r x size hp found-near squares few front = record {
   few = few;
   full = λ (e : r ≡ 10).
-      squares ∙ decided-full near pts n i js (upFrom 0 n) limit (x .inside) (x .hashed .linked .ready .numbers) (subst (λ (q : Point3f). Surrounds pts n nobody q limit js) hp (near-all (x .hashed) found-near)) (up-whole n) g (omega (arith, x .room)) (ap (λ (k : ℕ). take k (drop n g)) (sym e) ∙ squares);
+      squares ∙ decided-full near pts n i js (upFrom 0 n) limit (x .inside) (x .hashed .linked .ready .numbers) (subst (λ (q : Point3f). Surrounds pts n noneOut q limit js) hp (near-all (x .hashed) found-near)) (up-whole n) g (omega (arith, x .room)) (ap (λ (k : ℕ). take k (drop n g)) (sym e) ∙ squares);
   kept = record { front = front; before = found-near .before; after = found-near .after };
 }
   where

@@ -25,8 +25,8 @@ use Rattle.area_bounds.proofs.AreaBound.{Bounds, Unsigned}
 use Rattle.points.specs.Points.{pointAt}
 use Rattle.decisions.specs.declared.Scene.{Scene}
 use Rattle.decisions.specs.Decisions.{accepts, qualityAt}
-use Rattle.refusals.specs.Refused.{Least}
-use Rattle.refusals.proofs.Refusals.{least-own, least-flat, bounded-accepts}
+use Rattle.filters.specs.Refused.{Least}
+use Rattle.filters.proofs.Refusals.{least-own, least-flat, bounded-accepts}
 use Rattle.seed.specs.Flat.{tooSmall, Flat, onAxis, Numbers, Extent}
 use Rattle.seed.proofs.Points.{below-next}
 

@@ -18,12 +18,12 @@ use Rattle.triangle.specs.Quality.{isZero, sourceAcceptable, acceptable}
 use Rattle.patch.specs.Search.{searching}
 use Rattle.decisions.specs.declared.Scene.{Scene}
 use Rattle.decisions.specs.Decisions.{reach, apart, isClose, accepts, qualityAt, completes, floatsOf}
-use Rattle.seed.specs.Judged.{Fruitless}
+use Rattle.seed.specs.Judged.{NoSeed}
 use Rattle.seed.specs.Flat.{Flat}
-use Rattle.seed.specs.Barren.{Barren, BarrenBetween}
+use Rattle.seed.specs.Seedless.{Seedless, SeedlessBetween}
 use Rattle.seed.specs.Known.{Growing, NothingTo, Known, flat-cloud, up-to}
 use Rattle.seed.proofs.Nothing.{first-nothing, flat-nothing}
-use Rattle.seed.proofs.Threes.{barren-nothing}
+use Rattle.seed.proofs.Threes.{seedless-nothing}
 use Rattle.lists.proofs.Bools.{not-true, true-not-false, and-both}
 
 -- ---- twice the radius
@@ -74,17 +74,17 @@ module _ (s : Scene) (pts : List Float) (r t : Float) (h : T (le r t)) where
         let b = and-both {p = isClose pts r j k} (a .1) in
         rw (close-more i k (a .0), close-more j k (b .0)) (accepts-more (qualityAt pts i j k) (b .1))
 
-    fruitless-less : {i j k : ℕ} → Fruitless s pts t i j k → Fruitless s pts r i j k
-    fruitless-less {i} {j} {k} f = record {
+    no-seed-less : {i j k : ℕ} → NoSeed s pts t i j k → NoSeed s pts r i j k
+    no-seed-less {i} {j} {k} f = record {
       forward = λ d. not-true (λ c. true-not-false (completes-more i j k c) (f .forward (close-more i j d)));
       backward = λ d. not-true (λ c. true-not-false (completes-more i k j c) (f .backward (close-more i k d)));
     }
 
-    barren-less : {i j k : ℕ} → Barren s pts t i j k → Barren s pts r i j k
-    barren-less b = record { first = fruitless-less (b .first); second = fruitless-less (b .second); third = fruitless-less (b .third) }
+    seedless-less : {i j k : ℕ} → Seedless s pts t i j k → Seedless s pts r i j k
+    seedless-less b = record { first = no-seed-less (b .first); second = no-seed-less (b .second); third = no-seed-less (b .third) }
 
-    between-less : (used : List ℕ) (n : ℕ) → BarrenBetween s pts t used 0 n → BarrenBetween s pts r used 0 n
-    between-less used n b a ha la ua j k hj hk oj ok ne uj uk = barren-less (b a ha la ua j k hj hk oj ok ne uj uk)
+    between-less : (used : List ℕ) (n : ℕ) → SeedlessBetween s pts t used 0 n → SeedlessBetween s pts r used 0 n
+    between-less used n b a ha la ua j k hj hk oj ok ne uj uk = seedless-less (b a ha la ua j k hj hk oj ok ne uj uk)
 
 -- ---- nothing is found
 
@@ -98,11 +98,11 @@ finite-below (inf false) (inf false) z h f = absurd f
 finite-below (inf false) (fin s m e) z h f = absurd h
 finite-below (fin s m e) y z h f = tt
 
-pub larger-nothing : (s : Scene) (pts : List Float) (used : List ℕ) (t : Float) → Growing s t → BarrenBetween s pts t used 0 (s .n) → NothingTo s pts used t
+pub larger-nothing : (s : Scene) (pts : List Float) (used : List ℕ) (t : Float) → Growing s t → SeedlessBetween s pts t used 0 (s .n) → NothingTo s pts used t
 unfolding searching
-larger-nothing s pts used t g b r z h = first-nothing (floatsOf s pts) r used (s .n) (λ i hi u. barren-nothing {lo = 0} used u hi (omega arith) (λ a ha la ua. less a (omega arith) la ua)) (s .n) 0 1000 (omega arith)
+larger-nothing s pts used t g b r z h = first-nothing (floatsOf s pts) r used (s .n) (λ i hi u. seedless-nothing {lo = 0} used u hi (omega arith) (λ a ha la ua. less a (omega arith) la ua)) (s .n) 0 1000 (omega arith)
   where
-    less : BarrenBetween s pts r used 0 (s .n)
+    less : SeedlessBetween s pts r used 0 (s .n)
     less = between-less s pts r t h (finite-below r t z h (g .radius .number)) (g .radius .number) (g .factor .number) (g .factor .above) used (s .n) b
 
 -- no radius is at most what is no number

@@ -18,7 +18,7 @@ use Rattle.area_bounds.proofs.AreaBound.{cross-squared-turned}
 use Rattle.points.specs.Points.{pointAt}
 use Rattle.decisions.specs.declared.Scene.{Scene}
 use Rattle.decisions.specs.Decisions.{isClose, accepts, qualityAt, completes}
-use Rattle.seed.specs.Judged.{Fruitless, RefusedBoth}
+use Rattle.seed.specs.Judged.{NoSeed, RefusedBoth}
 use Rattle.lists.proofs.Bools.{and-false}
 
 -- the area does not depend on the order of the points after the first
@@ -51,8 +51,8 @@ module _ (p q t : Point3f) {a b c x : Float} (ea : a ≡ distance q p) (eb : b �
     unfolding qualityAt
     at-backward = cc
 
-    pub measured-fruitless : RefusedBoth s r a b c x → Fruitless s pts r i j k
-    measured-fruitless h = record {
+    pub measured-no-seed : RefusedBoth s r a b c x → NoSeed s pts r i j k
+    measured-no-seed h = record {
       forward = λ d. off s pts r i j k (ap (accepts s r) (sym (forward-is ∙ at-forward)) ∙ h .forward);
       backward = λ d. off s pts r i k j (ap (accepts s r) (sym (backward-is ∙ at-backward)) ∙ h .backward);
     }

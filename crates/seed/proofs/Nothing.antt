@@ -1,4 +1,4 @@
--- Where nothing is found: at a radius that is hopeless (`hopeless-nothing`), in a cloud that is flat (`flat-nothing`), and with three points that limits refuse. Assumes nothing.
+-- Where nothing is found: at a radius that is refuses-all (`refuses-all-nothing`), in a cloud that is flat (`flat-nothing`), and with three points that limits refuse. Assumes nothing.
 use Prim.Native.Nat.{ℕ, zero, suc, _+_, _≤_, _<_}
 use mathlib.Core.Path.{_≡_, refl, sym, ap, _∙_}
 use mathlib.Core.Logic.{⊎-elim}
@@ -23,14 +23,14 @@ use Rattle.lists.proofs.Bools.{either, not-true, true-not-false, and-both, and-
 use Rattle.decisions.specs.declared.Scene.{Scene}
 use Rattle.decisions.specs.Decisions.{isClose, accepts, qualityAt, completes, floatsOf}
 use Rattle.decisions.proofs.Within.{within}
-use Rattle.refusals.specs.declared.Limits.{Limits}
-use Rattle.refusals.specs.Refused.{Refused, Hopeless}
-use Rattle.refusals.proofs.Refusals.{refused-turned, refused-accepts, hopeless-accepts}
+use Rattle.filters.specs.declared.Limits.{Limits}
+use Rattle.filters.specs.Refused.{Refused, RefusesAll}
+use Rattle.filters.proofs.Refusals.{refused-turned, refused-accepts, refuses-all-accepts}
 use Rattle.nearby.specs.Ready.{listed}
 use Rattle.nearby.proofs.Laws.{chosen, passed}
 use Rattle.seed.specs.Found.{withSecond, withFirst}
 use Rattle.seed.specs.Flat.{Flat}
-use Rattle.seed.specs.Judged.{Fruitless, Judged}
+use Rattle.seed.specs.Judged.{NoSeed, Judged}
 use Rattle.seed.proofs.Laws.{orElse, third-miss, third-end, second-step, second-end, first-tried, first-used, first-spent, first-end}
 use Rattle.seed.proofs.Points.{in-either}
 
@@ -85,7 +85,7 @@ module _ (s : Scene) (pts : List Float) (r : Float) (used : List ℕ) where
       near : Below (s .n) (floatsOf s pts .near r i)
       near = within s pts .near-below r i
 
--- ---- a radius that is hopeless
+-- ---- a radius that is refuses-all
 
 pub close-second : (s : Scene) (pts : List Float) (r : Float) (used : List ℕ) (i j : ℕ) → isSecond (floatsOf s pts) r used i j ≡ true → isClose pts r i j ≡ true
 unfolding isSecond floatsOf
@@ -99,13 +99,13 @@ third-parts s pts r used i j k h =
     let c = and-both {p = isClose pts r j k} (b .1) in
     (b .0, (c .0, c .1))
 
-pub hopeless-nothing : (s : Scene) (pts : List Float) (r : Float) (used : List ℕ) (tries : ℕ) → ((k : ℕ) → k < s .n → Finite (pointAt pts k)) → Hopeless s r → firstOf (floatsOf s pts) r used (upFrom 0 (s .n)) tries ≡ none
-hopeless-nothing s pts r used tries numbers h = first-nothing (floatsOf s pts) r used (s .n) (λ i hi _. first-around s pts r used i (none-of i hi)) (s .n) 0 tries (omega arith)
+pub refuses-all-nothing : (s : Scene) (pts : List Float) (r : Float) (used : List ℕ) (tries : ℕ) → ((k : ℕ) → k < s .n → Finite (pointAt pts k)) → RefusesAll s r → firstOf (floatsOf s pts) r used (upFrom 0 (s .n)) tries ≡ none
+refuses-all-nothing s pts r used tries numbers h = first-nothing (floatsOf s pts) r used (s .n) (λ i hi _. first-around s pts r used i (none-of i hi)) (s .n) 0 tries (omega arith)
   where
     none-of : (i : ℕ) → i < s .n → (j : ℕ) → j < s .n → isSecond (floatsOf s pts) r used i j ≡ true → (k : ℕ) → k < s .n → isThird (floatsOf s pts) r used i j k ≡ false
     none-of i hi j hj second k hk = not-true (λ third.
         let p = third-parts s pts r used i j k third in
-        true-not-false (p .1 .1) (hopeless-accepts s pts r i j k (numbers i hi) (numbers j hj) (numbers k hk) (close-second s pts r used i j second) (p .0) (p .1 .0) h))
+        true-not-false (p .1 .1) (refuses-all-accepts s pts r i j k (numbers i hi) (numbers j hj) (numbers k hk) (close-second s pts r used i j second) (p .0) (p .1 .0) h))
 
 -- ---- a cloud that is flat
 
@@ -133,8 +133,8 @@ pub limits-third : {s : Scene} {pts : List Float} {r : Float} {l : Limits} {i j 
     → isThird (floatsOf s pts) r used i j k ≡ false
 limits-third {s} {pts} {r} {i = i} {j = j} {k = k} used g hi hj hk close h = completes-third s pts r used i j k (refused-completes g hi hj hk h close)
 
-pub refused-fruitless : {s : Scene} {pts : List Float} {r : Float} {l : Limits} {i j k : ℕ} → Judged s pts r l → i < s .n → j < s .n → k < s .n → Refused l (pointAt pts i) (pointAt pts j) (pointAt pts k) → Fruitless s pts r i j k
-refused-fruitless g hi hj hk h = record { forward = refused-completes g hi hj hk h; backward = refused-completes g hi hk hj (refused-turned h) }
+pub refused-no-seed : {s : Scene} {pts : List Float} {r : Float} {l : Limits} {i j k : ℕ} → Judged s pts r l → i < s .n → j < s .n → k < s .n → Refused l (pointAt pts i) (pointAt pts j) (pointAt pts k) → NoSeed s pts r i j k
+refused-no-seed g hi hj hk h = record { forward = refused-completes g hi hj hk h; backward = refused-completes g hi hk hj (refused-turned h) }
 
 -- what is in a list stands somewhere
 place-of : (k : ℕ) (xs : List ℕ) → 1 ≤ count (eqb k) xs → (m : ℕ) × ((m < length xs) × (getD xs m 0 ≡ k))

@@ -9,8 +9,8 @@ use borrow.Author.Tests.{ltb-true, ltb-false, eqb-true, eqb-false}
 use Rattle.vector.specs.declared.Point3f.{Point3f}
 use Rattle.lists.specs.Lists.{bit}
 use Rattle.lists.proofs.Bools.{either}
-use Rattle.refusals.specs.declared.Limits.{Limits}
-use Rattle.refusals.specs.Refused.{Refused, RefusedThroughout}
+use Rattle.filters.specs.declared.Limits.{Limits}
+use Rattle.filters.specs.Refused.{Refused, RefusedThroughout}
 
 -- what is in a list is its head or in the rest
 pub in-either : {P : Type 0} {c : ℕ} (b : Bool) → (b ≡ true → P) → (1 ≤ c → P) → 1 ≤ bit b + c → P

@@ -20,9 +20,9 @@ use Rattle.patch.specs.Search.{isSecond, isThird}
 use Rattle.lists.proofs.Bools.{either, not-true, true-not-false, and-both, and-false}
 use Rattle.decisions.specs.declared.Scene.{Scene}
 use Rattle.decisions.specs.Decisions.{reach, apart, isClose, completes, floatsOf}
-use Rattle.refusals.specs.declared.Limits.{Limits}
-use Rattle.refusals.specs.Refused.{RefusedThroughout, distant, each}
-use Rattle.refusals.proofs.Refusals.{far-apart}
+use Rattle.filters.specs.declared.Limits.{Limits}
+use Rattle.filters.specs.Refused.{RefusedThroughout, distant, each}
+use Rattle.filters.proofs.Refusals.{far-apart}
 use Rattle.spatial_hash.specs.Near.{Hashed}
 use Rattle.nearby.specs.Ready.{Held, Listed, Kept, usedIn, listed}
 use Rattle.nearby.specs.Narrow.{inReach}
@@ -31,12 +31,12 @@ use Rattle.sifting.proofs.Parts.{drop-more, word-same}
 use Rattle.nearby.proofs.Keeping.{kept-self, kept-on, held-kept, hashed-search}
 use Rattle.nearby.proofs.Narrowing.{out-of-reach, in-reach}
 use Rattle.seed.specs.Found.{withFirst}
-use Rattle.seed.specs.Judged.{Fruitless, Judged}
-use Rattle.seed.specs.Barren.{Barren, AllBarren, isOther, isLeft, BarrenFrom, BarrenBetween, Stands, Left, AllLeftBarren, KnownFrom}
+use Rattle.seed.specs.Judged.{NoSeed, Judged}
+use Rattle.seed.specs.Seedless.{Seedless, AllSeedless, isOther, isLeft, SeedlessFrom, SeedlessBetween, Stands, Left, AllLeftSeedless, KnownFrom}
 use Rattle.seed.proofs.LeftOut.{close-far}
 use Rattle.seed.proofs.State.{Seeking}
 use Rattle.seed.proofs.Points.{below-next}
-use Rattle.seed.proofs.Nothing.{first-around, completes-third, refused-fruitless, listed-place, close-second}
+use Rattle.seed.proofs.Nothing.{first-around, completes-third, refused-no-seed, listed-place, close-second}
 
 -- ---- the loop of `keep_left` at the m-th point
 
@@ -116,14 +116,14 @@ apart-order a b d = ⊎-elim
     (λ (t : ltb a b ≡ false). ⊎-elim (λ (u : ltb b a ≡ true). inr (ltb-true b a u)) (λ (u : ltb b a ≡ false). absurd (d (omega (arith, ltb-false a b t, ltb-false b a u)))) (either (ltb b a)))
     (either (ltb a b))
 
-pub fruitless-turned : {s : Scene} {pts : List Float} {r : Float} {i j k : ℕ} → Fruitless s pts r i j k → Fruitless s pts r i k j
-fruitless-turned f = record { forward = f .backward; backward = f .forward }
+pub no-seed-turned : {s : Scene} {pts : List Float} {r : Float} {i j k : ℕ} → NoSeed s pts r i j k → NoSeed s pts r i k j
+no-seed-turned f = record { forward = f .backward; backward = f .forward }
 
-pub barren-turned : {s : Scene} {pts : List Float} {r : Float} {i j k : ℕ} → Barren s pts r i j k → Barren s pts r i k j
-barren-turned b = record { first = fruitless-turned (b .first); second = b .third; third = b .second }
+pub seedless-turned : {s : Scene} {pts : List Float} {r : Float} {i j k : ℕ} → Seedless s pts r i j k → Seedless s pts r i k j
+seedless-turned b = record { first = no-seed-turned (b .first); second = b .third; third = b .second }
 
-pub barren-round : {s : Scene} {pts : List Float} {r : Float} {i j k : ℕ} → Barren s pts r j k i → Barren s pts r i j k
-barren-round b = record { first = b .third; second = fruitless-turned (b .first); third = fruitless-turned (b .second) }
+pub seedless-round : {s : Scene} {pts : List Float} {r : Float} {i j k : ℕ} → Seedless s pts r j k i → Seedless s pts r i j k
+seedless-round b = record { first = b .third; second = no-seed-turned (b .first); third = no-seed-turned (b .second) }
 
 module _ (s : Scene) (pts : List Float) (r : Float) where
   first-far : (i j k : ℕ) → isClose pts r i k ≡ false → completes s pts r i j k ≡ false
@@ -135,58 +135,58 @@ module _ (s : Scene) (pts : List Float) (r : Float) where
   second-far i j k h = rw h (and-false (isClose pts r i k))
 
   -- two of the points are too far apart
-  far-barren : (i j k : ℕ) → isClose pts r i j ≡ false → isClose pts r j i ≡ false → Barren s pts r i j k
-  far-barren i j k h g = record {
+  far-seedless : (i j k : ℕ) → isClose pts r i j ≡ false → isClose pts r j i ≡ false → Seedless s pts r i j k
+  far-seedless i j k h g = record {
     first = record { forward = λ d. absurd (true-not-false d h); backward = λ d. first-far i k j h };
     second = record { forward = λ d. absurd (true-not-false d g); backward = λ d. first-far j k i g };
     third = record { forward = λ d. second-far k i j h; backward = λ d. second-far k j i g };
   }
 
-  apart-barren : (i j k : ℕ) → lt (reach r) (apart pts j i) ≡ true → Barren s pts r i j k
-  apart-barren i j k h = far-barren i j k (close-far s pts r [] i j h) (back h)
+  apart-seedless : (i j k : ℕ) → lt (reach r) (apart pts j i) ≡ true → Seedless s pts r i j k
+  apart-seedless i j k h = far-seedless i j k (close-far s pts r [] i j h) (back h)
     where
       back : lt (reach r) (apart pts j i) ≡ true → isClose pts r j i ≡ false
       back h = unfold isClose in ap not h
 
 -- what limits refuse whichever point comes first
-pub refused-barren : {s : Scene} {pts : List Float} {r : Float} {l : Limits} {i j k : ℕ} → Judged s pts r l → i < s .n → j < s .n → k < s .n → RefusedThroughout l (pointAt pts i) (pointAt pts j) (pointAt pts k) → Barren s pts r i j k
-refused-barren {s} {pts} {r} {i = i} {j = j} {k = k} g hi hj hk (distant h) = barren-round (far-barren s pts r j k i (far-apart pts j k (g .limits) h) (far-apart pts k j (g .limits) (rw (squared-turned (pointAt pts k) (pointAt pts j)) h)))
-refused-barren g hi hj hk (each a b c) = record { first = refused-fruitless g hi hj hk a; second = refused-fruitless g hj hi hk b; third = refused-fruitless g hk hi hj c }
+pub refused-seedless : {s : Scene} {pts : List Float} {r : Float} {l : Limits} {i j k : ℕ} → Judged s pts r l → i < s .n → j < s .n → k < s .n → RefusedThroughout l (pointAt pts i) (pointAt pts j) (pointAt pts k) → Seedless s pts r i j k
+refused-seedless {s} {pts} {r} {i = i} {j = j} {k = k} g hi hj hk (distant h) = seedless-round (far-seedless s pts r j k i (far-apart pts j k (g .limits) h) (far-apart pts k j (g .limits) (rw (squared-turned (pointAt pts k) (pointAt pts j)) h)))
+refused-seedless g hi hj hk (each a b c) = record { first = refused-no-seed g hi hj hk a; second = refused-no-seed g hj hi hk b; third = refused-no-seed g hk hi hj c }
 
 -- ---- the points that were gathered are enough
 
 -- each two of those that are left were looked at
-pub left-barren : {s : Scene} {pts : List Float} {r : Float} {lo i : ℕ} {w v : List ℕ} {found c : ℕ} → Left s lo i w v found c → AllBarren s pts r v (neighborsAt (s .n)) c i → AllLeftBarren s pts r lo i w found
-left-barren {s} {pts} {r} {lo} {i} {w} {v} {found} {c} x all j k pj pk hj hk ne = two (x .complete j pj hj) (x .complete k pk hk)
+pub left-seedless : {s : Scene} {pts : List Float} {r : Float} {lo i : ℕ} {w v : List ℕ} {found c : ℕ} → Left s lo i w v found c → AllSeedless s pts r v (neighborsAt (s .n)) c i → AllLeftSeedless s pts r lo i w found
+left-seedless {s} {pts} {r} {lo} {i} {w} {v} {found} {c} x all j k pj pk hj hk ne = two (x .complete j pj hj) (x .complete k pk hk)
   where
     word : ℕ → ℕ
     word m = getD v (neighborsAt (s .n) + m) 0
 
-    at : (a b : ℕ) → a < c → b < c → word a ≢ word b → Barren s pts r i (word a) (word b)
-    at a b ha hb d = ⊎-elim (λ (t : a < b). all a ha b (omega arith) hb) (λ (t : b < a). barren-turned (all b hb a (omega arith) ha)) (apart-order a b (λ e. d (ap word e)))
+    at : (a b : ℕ) → a < c → b < c → word a ≢ word b → Seedless s pts r i (word a) (word b)
+    at a b ha hb d = ⊎-elim (λ (t : a < b). all a ha b (omega arith) hb) (λ (t : b < a). seedless-turned (all b hb a (omega arith) ha)) (apart-order a b (λ e. d (ap word e)))
 
-    two : Stands s v c j → Stands s v c k → Barren s pts r i j k
+    two : Stands s v c j → Stands s v c k → Seedless s pts r i j k
     two p q =
-        subst (λ (z : ℕ). Barren s pts r i z k) (p .1 .1)
-        (subst (Barren s pts r i (word (p .0))) (q .1 .1)
+        subst (λ (z : ℕ). Seedless s pts r i z k) (p .1 .1)
+        (subst (Seedless s pts r i (word (p .0))) (q .1 .1)
         (at (p .0) (q .0) (p .1 .0) (q .1 .0) (λ e. ne (sym (p .1 .1) ∙ e ∙ q .1 .1))))
 
 -- and whoever was not gathered is too far away
-pub barren-from : {s : Scene} {pts : List Float} {r : Float} {l : Limits} (lo i : ℕ) {w u : List ℕ} (found : ℕ) → Judged s pts r l → Kept s w u
+pub seedless-from : {s : Scene} {pts : List Float} {r : Float} {l : Limits} (lo i : ℕ) {w u : List ℕ} (found : ℕ) → Judged s pts r l → Kept s w u
     → ((k : ℕ) → k < s .n → unused (usedIn s w) k ≡ true → isWithin pts (pointAt pts i) (l .far) k ≡ true → 1 ≤ count (eqb k) (listed s u found))
-    → AllLeftBarren s pts r lo i u found → BarrenFrom s pts r (usedIn s w) lo i
-barren-from {s} {pts} {r} {l} lo i {w} {u} found g kept near all j k hj hk oj ok ne uj uk = ⊎-elim
+    → AllLeftSeedless s pts r lo i u found → SeedlessFrom s pts r (usedIn s w) lo i
+seedless-from {s} {pts} {r} {l} lo i {w} {u} found g kept near all j k hj hk oj ok ne uj uk = ⊎-elim
     (λ (tj : inReach pts (usedIn s w) (pointAt pts i) (l .far) j ≡ true). ⊎-elim
     (λ (tk : inReach pts (usedIn s w) (pointAt pts i) (l .far) k ≡ true). all j k (stands j hj uj tj) (stands k hk uk tk) (is-left j oj uj) (is-left k ok uk) ne)
-    (λ (tk : inReach pts (usedIn s w) (pointAt pts i) (l .far) k ≡ false). barren-turned (beyond k j uk tk))
+    (λ (tk : inReach pts (usedIn s w) (pointAt pts i) (l .far) k ≡ false). seedless-turned (beyond k j uk tk))
     (either (inReach pts (usedIn s w) (pointAt pts i) (l .far) k)))
     (λ (tj : inReach pts (usedIn s w) (pointAt pts i) (l .far) j ≡ false). beyond j k uj tj)
     (either (inReach pts (usedIn s w) (pointAt pts i) (l .far) j))
   where
-    beyond : (a b : ℕ) → unused (usedIn s w) a ≡ true → inReach pts (usedIn s w) (pointAt pts i) (l .far) a ≡ false → Barren s pts r i a b
+    beyond : (a b : ℕ) → unused (usedIn s w) a ≡ true → inReach pts (usedIn s w) (pointAt pts i) (l .far) a ≡ false → Seedless s pts r i a b
     beyond a b ua t = ⊎-elim
         (λ (f : unused (usedIn s w) a ≡ false). absurd (true-not-false ua f))
-        (λ (f : lt (reach r) (apart pts a i) ≡ true). apart-barren s pts r i a b f)
+        (λ (f : lt (reach r) (apart pts a i) ≡ true). apart-seedless s pts r i a b f)
         (out-of-reach pts (usedIn s w) (reach r) i a (l .far) (g .limits .fars) t)
 
     is-left : (a : ℕ) → isOther lo i a ≡ true → unused (usedIn s w) a ≡ true → isLeft s lo i u a ≡ true
@@ -252,29 +252,29 @@ other-or lo i k d = ⊎-elim
 -- ---- what is known while no three points that were met make a seed
 
 module _ {s : Scene} {pts : List Float} {r : Float} {lo i : ℕ} where
-  pub barren-used : (used : List ℕ) → BarrenBetween s pts r used lo i → unused used i ≡ false → BarrenBetween s pts r used lo (i + 1)
-  barren-used used b h = below-next b (λ _ u. absurd (true-not-false u h))
+  pub seedless-used : (used : List ℕ) → SeedlessBetween s pts r used lo i → unused used i ≡ false → SeedlessBetween s pts r used lo (i + 1)
+  seedless-used used b h = below-next b (λ _ u. absurd (true-not-false u h))
 
-  pub barren-next : {w₀ w : List ℕ} → BarrenBetween s pts r (usedIn s w₀) lo i → Kept s w₀ w → BarrenFrom s pts r (usedIn s w) lo i → BarrenBetween s pts r (usedIn s w₀) lo (i + 1)
-  barren-next b k f = below-next b (λ _ u. subst (λ (l : List ℕ). BarrenFrom s pts r (take (s .n) l) lo i) (k .after) f)
+  pub seedless-next : {w₀ w : List ℕ} → SeedlessBetween s pts r (usedIn s w₀) lo i → Kept s w₀ w → SeedlessFrom s pts r (usedIn s w) lo i → SeedlessBetween s pts r (usedIn s w₀) lo (i + 1)
+  seedless-next b k f = below-next b (λ _ u. subst (λ (l : List ℕ). SeedlessFrom s pts r (take (s .n) l) lo i) (k .after) f)
 
   -- either way
-  pub barren-on : {w₀ w : List ℕ} {barren : Bool} {m : ℕ} → BarrenBetween s pts r (usedIn s w₀) lo i → Kept s w₀ w → (barren ≡ true → BarrenFrom s pts r (usedIn s w) lo i) → KnownFrom lo i barren m → BarrenBetween s pts r (usedIn s w₀) m (i + 1)
-  barren-on {w₀} {barren = barren} {m = m} b k f n = ⊎-elim
-      (λ (t : barren ≡ true). subst (λ (x : ℕ). BarrenBetween s pts r (usedIn s w₀) x (i + 1)) (sym (n .same t)) (barren-next {w₀ = w₀} b k (f t)))
-      (λ (t : barren ≡ false). λ a ha la. absurd (omega (arith, n .next t)))
-      (either barren)
+  pub seedless-on : {w₀ w : List ℕ} {seedless : Bool} {m : ℕ} → SeedlessBetween s pts r (usedIn s w₀) lo i → Kept s w₀ w → (seedless ≡ true → SeedlessFrom s pts r (usedIn s w) lo i) → KnownFrom lo i seedless m → SeedlessBetween s pts r (usedIn s w₀) m (i + 1)
+  seedless-on {w₀} {seedless = seedless} {m = m} b k f n = ⊎-elim
+      (λ (t : seedless ≡ true). subst (λ (x : ℕ). SeedlessBetween s pts r (usedIn s w₀) x (i + 1)) (sym (n .same t)) (seedless-next {w₀ = w₀} b k (f t)))
+      (λ (t : seedless ≡ false). λ a ha la. absurd (omega (arith, n .next t)))
+      (either seedless)
 
   -- of point i and two others the least from lo on has been met
-  pub barren-nothing : (used : List ℕ) → unused used i ≡ true → i < s .n → lo ≤ i → BarrenBetween s pts r used lo (i + 1) → withFirst (floatsOf s pts) r used i ≡ none
-  barren-nothing used ui hi hl b = first-around s pts r used i (λ j hj second k hk. not-true (λ third.
+  pub seedless-nothing : (used : List ℕ) → unused used i ≡ true → i < s .n → lo ≤ i → SeedlessBetween s pts r used lo (i + 1) → withFirst (floatsOf s pts) r used i ≡ none
+  seedless-nothing used ui hi hl b = first-around s pts r used i (λ j hj second k hk. not-true (λ third.
       let p = second-free s pts r used i j second in
       let q = third-free s pts r used i j k third in
       let close = close-second s pts r used i j second in
       true-not-false third (completes-third s pts r used i j k (least j k hj hk (p .0) (q .0) (q .1 .0) (p .1) (q .1 .1) close))))
     where
       -- point a is the least from lo on, the other two are others than it
-      by-second : (a c d : ℕ) → a < s .n → c < s .n → d < s .n → lo ≤ a → a < i + 1 → unused used a ≡ true → unused used c ≡ true → unused used d ≡ true → isOther lo a c ≡ true → isOther lo a d ≡ true → (c ≡ d → ⊥) → Barren s pts r a c d
+      by-second : (a c d : ℕ) → a < s .n → c < s .n → d < s .n → lo ≤ a → a < i + 1 → unused used a ≡ true → unused used c ≡ true → unused used d ≡ true → isOther lo a c ≡ true → isOther lo a d ≡ true → (c ≡ d → ⊥) → Seedless s pts r a c d
       by-second a c d ha hc hd la ia ua uc ud oc od ne = b a ia la ua c d hc hd oc od ne uc ud
 
       least : (j k : ℕ) → j < s .n → k < s .n → (i ≡ j → ⊥) → (i ≡ k → ⊥) → (j ≡ k → ⊥) → unused used j ≡ true → unused used k ≡ true → isClose pts r i j ≡ true → completes s pts r i j k ≡ false
@@ -297,10 +297,10 @@ unused-kept {s} i k h = ap (λ (l : List ℕ). unused (take (s .n) l) i) (k .aft
 pub unused-back : {s : Scene} {w v : List ℕ} {t : Bool} (i : ℕ) → Kept s w v → unused (usedIn s v) i ≡ t → unused (usedIn s w) i ≡ t
 unused-back {s} i k h = ap (λ (l : List ℕ). unused (take (s .n) l) i) (sym (k .after)) ∙ h
 
-pub seek-barren : {s : Scene} {pts : List Float} {r : Float} {hash : Hash} {w₀ v : List ℕ} {left lo i : ℕ} → Seeking s pts r hash w₀ v left i → i < s .n → lo ≤ i → unused (usedIn s v) i ≡ true → BarrenBetween s pts r (usedIn s w₀) lo (i + 1)
+pub seek-seedless : {s : Scene} {pts : List Float} {r : Float} {hash : Hash} {w₀ v : List ℕ} {left lo i : ℕ} → Seeking s pts r hash w₀ v left i → i < s .n → lo ≤ i → unused (usedIn s v) i ≡ true → SeedlessBetween s pts r (usedIn s w₀) lo (i + 1)
     → withFirst (floatsOf s pts) r (usedIn s v) i ≡ none
-seek-barren {s} {pts} {r} {w₀ = w₀} {i = i} k hi hl u b =
-    ap (λ (l : List ℕ). withFirst (floatsOf s pts) r (take (s .n) l) i) (k .kept .after) ∙ barren-nothing (usedIn s w₀) (unused-back {s = s} i (k .kept) u) hi hl b
+seek-seedless {s} {pts} {r} {w₀ = w₀} {i = i} k hi hl u b =
+    ap (λ (l : List ℕ). withFirst (floatsOf s pts) r (take (s .n) l) i) (k .kept .after) ∙ seedless-nothing (usedIn s w₀) (unused-back {s = s} i (k .kept) u) hi hl b
 
 -- ---- the loop of `is_exhausted`: the points below i make no seed with any others
 
@@ -310,13 +310,13 @@ pub record Exhausting (s : Scene) (pts : List Float) (r : Float) (hash : Hash) (
   pub kept : Kept s w₀ w
   pub same : length w ≡ length w₀
   pub inside : i ≤ s .n
-  pub known : BarrenBetween s pts r (usedIn s w₀) 0 i
+  pub known : SeedlessBetween s pts r (usedIn s w₀) 0 i
 
 module _ {s : Scene} {pts : List Float} {r : Float} {hash : Hash} {w₀ : List ℕ} where
   pub exhaust-start : Held s pts w₀ → Hashed hash pts (s .n) w₀ → Exhausting s pts r hash w₀ w₀ 0
   exhaust-start h d = record { held = h; hashed = d; kept = kept-self s w₀; same = refl; inside = omega arith; known = λ x l. absurd (omega arith) }
 
-  pub exhaust-step : {w : List ℕ} {i : ℕ} (v : List ℕ) → Exhausting s pts r hash w₀ w i → i < s .n → Kept s w v → length v ≡ length w → (unused (usedIn s w) i ≡ true → BarrenFrom s pts r (usedIn s w) 0 i)
+  pub exhaust-step : {w : List ℕ} {i : ℕ} (v : List ℕ) → Exhausting s pts r hash w₀ w i → i < s .n → Kept s w v → length v ≡ length w → (unused (usedIn s w) i ≡ true → SeedlessFrom s pts r (usedIn s w) 0 i)
       → Exhausting s pts r hash w₀ v (i + 1)
   exhaust-step {w} {i} v k h kv l f = record {
     held = held-kept v (k .held) l;
@@ -324,5 +324,5 @@ module _ {s : Scene} {pts : List Float} {r : Float} {hash : Hash} {w₀ : List �
     kept = kept-on (k .kept) kv;
     same = l ∙ k .same;
     inside = omega arith;
-    known = below-next (k .known) (λ _ u. subst (λ (z : List ℕ). BarrenFrom s pts r (take (s .n) z) 0 i) (k .kept .after) (f (unused-kept {s = s} i (k .kept) u)));
+    known = below-next (k .known) (λ _ u. subst (λ (z : List ℕ). SeedlessFrom s pts r (take (s .n) z) 0 i) (k .kept .after) (f (unused-kept {s = s} i (k .kept) u)));
   }

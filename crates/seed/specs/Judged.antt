@@ -9,11 +9,11 @@ use Rattle.points.specs.Points.{pointAt}
 use Rattle.decisions.specs.declared.Scene.{Scene}
 use Rattle.quality.specs.Shape.{qualityOf}
 use Rattle.decisions.specs.Decisions.{isClose, accepts, completes}
-use Rattle.refusals.specs.declared.Limits.{Limits}
-use Rattle.refusals.specs.Refused.{Limiting}
+use Rattle.filters.specs.declared.Limits.{Limits}
+use Rattle.filters.specs.Refused.{Limiting}
 
 -- points j and k make no seed with point i, in either order
-pub record Fruitless (s : Scene) (pts : List Float) (r : Float) (i j k : ℕ) : Type 0 where
+pub record NoSeed (s : Scene) (pts : List Float) (r : Float) (i j k : ℕ) : Type 0 where
   pub forward : isClose pts r i j ≡ true → completes s pts r i j k ≡ false
   pub backward : isClose pts r i k ≡ true → completes s pts r i k j ≡ false
 

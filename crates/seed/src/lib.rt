@@ -1,6 +1,6 @@
 // The search for a seed triangle.
-mod barren;
 pub mod flat;
+mod seedless;
 mod three;
 mod triples;
 
@@ -46,10 +46,10 @@ pub fn find_seed_triangle(
     if known {
         return nothing_found(0);
     }
-    if refusals::is_hopeless(s, radius) {
+    if filters::refuses_all(s, radius) {
         return nothing_found(0);
     }
-    let limits = refusals::limits_of(s, radius);
+    let limits = filters::limits_of(s, radius);
     triples::find_from(s, points, w, radius, hash, limits)
 }
 
@@ -96,8 +96,8 @@ fn ask_at(s: Scene, points: &[f32], w: &mut [u32], radius: f32, hash: Hash, purs
     if !is_growing(s, radius) {
         return 0.0 / 0.0;
     }
-    let limits = refusals::limits_of(s, radius);
-    if barren::is_exhausted(s, points, w, radius, hash, limits, purse) {
+    let limits = filters::limits_of(s, radius);
+    if seedless::is_exhausted(s, points, w, radius, hash, limits, purse) {
         return radius;
     }
     0.0 / 0.0

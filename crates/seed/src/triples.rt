@@ -2,7 +2,7 @@
 use crate::Search;
 use crate::Seed;
 use decisions::Scene;
-use refusals::Limits;
+use filters::Limits;
 use spatial_hash::Hash;
 ghost use mathlib.Core.Path.{_≡_};
 ghost use mathlib.Core.Bool.{true};
@@ -13,11 +13,11 @@ ghost use Rattle.spatial_hash.specs.Near.{Hashed};
 ghost use Rattle.patch.specs.Search.{isSecond, isThird, thirdOf, secondOf, firstOf};
 ghost use Rattle.lists.specs.Lists.{upFrom};
 ghost use Rattle.decisions.specs.Decisions.{isClose, floatsOf};
-ghost use Rattle.refusals.specs.Refused.{Limiting};
+ghost use Rattle.filters.specs.Refused.{Limiting};
 ghost use Rattle.nearby.specs.Ready.{Held, Listed, usedIn, listed, Kept};
 ghost use Rattle.seed.specs.Found.{seedFound, withSecond, withFirst};
 ghost use Rattle.seed.specs.Judged.{Judged};
-ghost use Rattle.seed.specs.Barren.{KnownFrom};
+ghost use Rattle.seed.specs.Seedless.{KnownFrom};
 
 // Whether j may be the second point after i.
 fn is_second(s: Scene, points: &[f32], w: &[u32], radius: f32, i: usize, j: usize) -> bool
@@ -58,7 +58,7 @@ fn is_third(
     }
     let third = points::point_at(points, k);
     let first = points::point_at(points, i);
-    if refusals::is_refused(limits, first, points::point_at(points, j), third) {
+    if filters::is_refused(limits, first, points::point_at(points, j), third) {
         return false;
     }
     decisions::is_completed(s, points, radius, i, j, k)
@@ -157,7 +157,7 @@ fn try_first(
 }
 
 // The same, where it may be known that it gives nothing.
-fn try_unless_barren(
+fn try_unless_seedless(
     s: Scene,
     points: &[f32],
     w: &mut [u32],
@@ -165,24 +165,24 @@ fn try_unless_barren(
     i: usize,
     hash: Hash,
     limits: Limits,
-    barren: bool,
+    seedless: bool,
 ) -> Seed
     requires { ⌜ Held s (now points) (now w) × Indexed (s .grid) (now points) (s .n) (now w) × Hashed hash (now points) (s .n) (now w) × (i < s .n) × Limiting s radius limits
-        × (barren ≡ true → withFirst (floatsOf s (now points)) radius (usedIn s (now w)) i ≡ none) ⌝ }
+        × (seedless ≡ true → withFirst (floatsOf s (now points)) radius (usedIn s (now w)) i ≡ none) ⌝ }
     ensures { λ r. ⌜ (r ≡ seedFound (withFirst (floatsOf s (now (points .entry))) radius (usedIn s (now (w .entry))) i)) × Kept s (now (w .entry)) (now (w .exit)) ⌝ }
 {
-    if barren {
+    if seedless {
         return Seed::Nothing;
     }
     try_first(s, points, w, radius, i, hash, limits)
 }
 
 // Where the points begin that are known with point i, which is the last of them if it is known.
-fn known_from(lo: usize, i: usize, barren: bool) -> usize
+fn known_from(lo: usize, i: usize, seedless: bool) -> usize
     requires { ⌜ (lo ≤ i) × (i < 4096) ⌝ }
-    ensures { λ r. ⌜ KnownFrom lo i barren r ⌝ }
+    ensures { λ r. ⌜ KnownFrom lo i seedless r ⌝ }
 {
-    if barren {
+    if seedless {
         return lo;
     }
     i + 1
@@ -213,8 +213,8 @@ pub fn find_from(
             i += 1;
             continue;
         }
-        let check = crate::barren::check_first(s, points, w, radius, lo, i, hash, limits, purse);
-        let found = try_unless_barren(s, points, w, radius, i, hash, limits, check.barren);
+        let check = crate::seedless::check_first(s, points, w, radius, lo, i, hash, limits, purse);
+        let found = try_unless_seedless(s, points, w, radius, i, hash, limits, check.seedless);
         if let Seed::Triangle(a, b, c) = found {
             return Search {
                 seed: Seed::Triangle(a, b, c),
@@ -222,7 +222,7 @@ pub fn find_from(
             };
         }
         purse = check.purse;
-        lo = known_from(lo, i, check.barren);
+        lo = known_from(lo, i, check.seedless);
         left -= 1;
         i += 1;
     }

@@ -22,7 +22,7 @@ use Rattle.bounds.specs.Within.{within, Covers}
 use Rattle.sifting.specs.Sift.{isWithin, Sifted}
 use Rattle.lists.proofs.Members.{only-count, only-fewer, only-at-most}
 use Rattle.spatial_hash.specs.Buckets.{linksOf, isOut}
-use Rattle.spatial_hash.specs.Near.{nobody, Gathered, Surrounds, Near, HashedAll}
+use Rattle.spatial_hash.specs.Near.{noneOut, Gathered, Surrounds, Near, HashedAll}
 use Rattle.spatial_hash.specs.declared.Hash.{Hash}
 use Rattle.spatial_hash.proofs.Chains.{without}
 
@@ -100,10 +100,10 @@ module _ {pts : List Float} {n : ℕ} where
           (λ (o : within b (pointAt pts j) ≡ false). absurd (true-not-false i (ap not (is-true (lt t (squared (pointAt pts j) p)) (covers (pointAt pts j) (numbers j h) o)))))
           (either (within b (pointAt pts j)))
 
-  pub near-all : {h : Hash} {p : Point3f} {t : Float} {w u : List ℕ} {r : ℕ} → HashedAll h pts n w → Near pts n p t w u r → Surrounds pts n nobody p t (take r (drop (4 * n) u))
+  pub near-all : {h : Hash} {p : Point3f} {t : Float} {w u : List ℕ} {r : ℕ} → HashedAll h pts n w → Near pts n p t w u r → Surrounds pts n noneOut p t (take r (drop (4 * n) u))
   near-all s g = record { below = g .surrounds .below; once = g .surrounds .once; complete = λ j h _ i. g .surrounds .complete j h (s .all-in j h) i }
 
-  pub surrounds-near : {p : Point3f} {t : Float} {js : List ℕ} → Surrounds pts n nobody p t js → (j : ℕ) → j < n → T (le (squared (pointAt pts j) p) t) → 1 ≤ count (eqb j) js
+  pub surrounds-near : {p : Point3f} {t : Float} {js : List ℕ} → Surrounds pts n noneOut p t js → (j : ℕ) → j < n → T (le (squared (pointAt pts j) p) t) → 1 ≤ count (eqb j) js
   surrounds-near {p} {t} g j h l = g .complete j h refl (ap not (not-true (λ (e : lt t (squared (pointAt pts j) p) ≡ true). le-not-lt (squared (pointAt pts j) p) t l (subst T (sym e) tt))))
 
 -- ---- the numbers from i on, m of them
@@ -155,7 +155,7 @@ up-whole n j = go (ltb j n) refl
     go false e = let l = ltb-false j n e in no-count (λ h. let k = up-in j 0 n h in omega arith)
 
 -- a test that only points pass whose squared distance is not above the limit is passed as often by those found as by all
-pub surrounds-count : {pts : List Float} {n : ℕ} {p : Point3f} {t : Float} (js all : List ℕ) → Surrounds pts n nobody p t js → ((j : ℕ) → count (eqb j) all ≡ bit (ltb j n))
+pub surrounds-count : {pts : List Float} {n : ℕ} {p : Point3f} {t : Float} (js all : List ℕ) → Surrounds pts n noneOut p t js → ((j : ℕ) → count (eqb j) all ≡ bit (ltb j n))
     → (test : ℕ → Bool) → ((j : ℕ) → j < n → test j ≡ true → T (le (squared (pointAt pts j) p) t)) → count test js ≡ count test all
 surrounds-count {n = n} js all g whole test near = count-same test js all (λ (j : ℕ) (h : test j ≡ true). go j h (ltb j n) refl)
   where

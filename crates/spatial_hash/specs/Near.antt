@@ -35,8 +35,8 @@ pub record Surrounds (pts : List Float) (n : ℕ) (out : ℕ → Bool) (p : Poin
   pub complete : (j : ℕ) → j < n → out j ≡ false → isWithin pts p t j ≡ true → 1 ≤ count (eqb j) js
 
 -- out is nobody
-abbrev pub nobody : ℕ → Bool
-nobody j = false
+abbrev pub noneOut : ℕ → Bool
+noneOut j = false
 
 -- n points whose coordinates are numbers, and room for what is kept of them
 pub record Ready (pts : List Float) (n : ℕ) (w : List ℕ) : Type 0 where

@@ -114,9 +114,9 @@ module _ (points : List Float) (faces : List ℕ) where
       let head : length (replicate 80 0 ++ word n) ≡ 84 = refl in
       omega arith
 
-  standing : (i : ℕ) → i < n → stl points faces ≡ front i ++ (facetOf corner i ++ chunks (facetOf corner) (i + 1) (n - (i + 1)))
+  between-looks : (i : ℕ) → i < n → stl points faces ≡ front i ++ (facetOf corner i ++ chunks (facetOf corner) (i + 1) (n - (i + 1)))
   unfolding stl front
-  standing i h =
+  between-looks i h =
       ap (λ (l : List ℕ). replicate 80 0 ++ word n ++ l) (chunks-at (facetOf corner) i n h)
       ∙ sym (append-assoc (replicate 80 0 ++ word n) (chunks (facetOf corner) 0 i) (facetOf corner i ++ chunks (facetOf corner) (i + 1) (n - (i + 1))))
 
@@ -127,7 +127,7 @@ module _ (points : List Float) (faces : List ℕ) where
 
     one-back : (i : ℕ) → i < n → cornersOf (stl points faces) i ≡ three (corner (3 * i)) ++ three (corner (3 * i + 1)) ++ three (corner (3 * i + 2))
     one-back i h =
-        ap (λ (l : List ℕ). cornersOf l i) (standing i h)
+        ap (λ (l : List ℕ). cornersOf l i) (between-looks i h)
         ∙ facet-back (front i) (corner (3 * i)) (corner (3 * i + 1)) (corner (3 * i + 2)) (chunks (facetOf corner) (i + 1) (n - (i + 1))) (point-held (3 * i)) (point-held (3 * i + 1)) (point-held (3 * i + 2)) i (front-length i)
 
     -- READING WHAT WAS WRITTEN GIVES THE CORNERS

@@ -7,7 +7,7 @@ use lib.ListN.{take}
 use Rattle.nearby.specs.Ready.{usedIn}
 use Rattle.seed.specs.Known.{NothingTo}
 use Rattle.seed.proofs.Larger.{nothing-yet, known-nothing}
-use Rattle.laying.proofs.Radii.{Covering, cover-start, resting, cover-step, cover-kept, cover-end}
+use Rattle.laying.proofs.Radii.{Covering, cover-start, between-radii, cover-step, cover-kept, cover-end}
 use borrow.Author.Needs.{needs}
 use Rattle.laying.proofs.advanced_ball_pivoting.Statement.{statement}
 use Rattle.laying.proofs.advanced_ball_pivoting.Tie as tie
@@ -43,14 +43,14 @@ lay-one-requires : tie.Need-lay-one-requires Inv-loop μ-loop
 lay-one-requires c κs =
     let a = c .before .before .before .before .before .before .before .before .before .before .before .before .before .before .args in
     let l = c .before .before .before .before .loop in
-    (resting (l .inv .0), λ h. known-nothing (a .s) (a .points .now) (usedIn (a .s) (l .w)) (c .before .before .is-known .ensures h) (c .before .before .before .before .before .before .before .before .before .before .is-flat .ensures) (l .inv .1))
+    (between-radii (l .inv .0), λ h. known-nothing (a .s) (a .points .now) (usedIn (a .s) (l .w)) (c .before .before .is-known .ensures h) (c .before .before .before .before .before .before .before .before .before .before .is-flat .ensures) (l .inv .1))
 
 known-to-requires : tie.Need-known-to-requires Inv-loop μ-loop
 known-to-requires c κs =
     let a = c .before .before .before .before .before .before .before .before .before .before .before .before .before .before .before .before .before .before .before .before .before .args in
     let l = c .before .before .before .before .before .before .before .before .before .before .before .loop in
     let o = c .before .before .before .before .before .before .lay-one in
-    (o .ensures .0 .ground .held, o .ensures .0 .ground .hashed, λ h. subst (λ (u : List ℕ). NothingTo (a .s) (a .points .now) u (l .upto)) (sym (o .ensures .1 h)) (l .inv .1))
+    (o .ensures .0 .searchable .held, o .ensures .0 .searchable .hashed, λ h. subst (λ (u : List ℕ). NothingTo (a .s) (a .points .now) u (l .upto)) (sym (o .ensures .1 h)) (l .inv .1))
 
 add-i : tie.Need-add-i Inv-loop μ-loop
 add-i c = omega (arith, c .before .before .before .before .before .before .before .before .before .before .before .before .before .loop-test .taken, c .before .before .before .before .before .before .before .before .before .before .before .before .before .before .before .before .before .before .before .before .before .before .before .before .pre .1)
@@ -76,7 +76,7 @@ same-length-2 : tie.Need-same-length-2 Inv-loop μ-loop
 same-length-2 c = c .before .loop .inv .0 .words ∙ c .before .before .before .before .begin .kept .0
 
 returns : tie.Need-returns Inv-loop μ-loop
-returns c = (cover-end (c .before .loop .inv .0) (c .loop-test .left), c .before .loop .inv .0 .ground)
+returns c = (cover-end (c .before .loop .inv .0) (c .loop-test .left), c .before .loop .inv .0 .searchable)
 
 pub advanced-ball-pivoting-spec : {M : Type 1} → statement M
 advanced-ball-pivoting-spec = tie.close (tie.spec Inv-loop μ-loop is-flat-requires last-of-requires begin-requires loop-holds mul-radius array-read-radius is-known-requires lay-one-requires known-to-requires add-i loop-less loop-again same-length same-length-2 returns)

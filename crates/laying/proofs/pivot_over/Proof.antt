@@ -18,7 +18,7 @@ try-ball-pivot-requires : tie.Need-try-ball-pivot-requires
 try-ball-pivot-requires c κs =
     let s = c .before .before .before .before in
     let e = edge-below (s .args .radius) (s .pre) in
-    (s .pre .ground .held, s .pre .ground .indexed, s .pre .ground .hashed, e .0, e .1)
+    (s .pre .searchable .held, s .pre .searchable .indexed, s .pre .searchable .hashed, e .0, e .1)
 
 enum-known-found : tie.Need-enum-known-found
 enum-known-found c = search needs
@@ -36,7 +36,7 @@ cast-lay-pivot c =
     let t = search-of f in
     let s = start-of t in
     let h = free-point (s .args .radius) (s .pre) (t .try-ball-pivot .ensures .0) (t .try-ball-pivot .ensures .1) (t .try-ball-pivot .kept .1 .1 .0) (f .found .given .1) in
-    omega (arith, h .below, s .pre .ground .held .few)
+    omega (arith, h .below, s .pre .searchable .held .few)
 
 lay-pivot-requires : tie.Need-lay-pivot-requires
 lay-pivot-requires c κs =

@@ -16,7 +16,7 @@ loop-holds c =
     run-start (s .pre)
 
 look-requires : tie.Need-look-requires Inv-loop μ-loop
-look-requires c κs = (c .before .before .before .before .loop .inv .standing, c .before .before .if1 .taken)
+look-requires c κs = (c .before .before .before .before .loop .inv .between-looks, c .before .before .if1 .taken)
 
 loop-less : tie.Need-loop-less Inv-loop μ-loop
 loop-less c =

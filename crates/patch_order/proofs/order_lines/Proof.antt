@@ -7,7 +7,7 @@ use lib.ListN.{length}
 use Rattle.patch_order.specs.Ready.{tooMany}
 use Rattle.patch_order.proofs.Each.{too-many}
 use Rattle.patch_order.proofs.Last.{last-short, last-none, judged-refused}
-use Rattle.patch_order.proofs.Stands.{readable, standing, found-order, found-none}
+use Rattle.patch_order.proofs.Stands.{readable, between-looks, found-order, found-none}
 use Rattle.patch_order.proofs.order_lines.Statement.{statement}
 use Rattle.patch_order.proofs.order_lines.Tie as tie
 
@@ -37,7 +37,7 @@ store-faces-requires : tie.Need-store-faces-requires
 store-faces-requires c κs = readable _ _ _ (c .before .before .before .before .before .before .before .args .words .now) (c .before .before .before .before .before .before .before .pre) (few (c .before))
 
 order-faces-requires : tie.Need-order-faces-requires
-order-faces-requires c κs = standing _ _ _ (c .before .before .before .before .before .before .before .before .before .before .before .before .args .words .now) (c .before .before .before .before .before .before .before .before .before .before .before .before .pre) (few (c .before .before .before .before .before .before)) _ (c .before .before .before .before .store-faces .ensures) (c .before .before .before .before .before .before .before .before .before .before .before .before .args .order .now) (c .before .before .before .before .before .before .before .before .if1 .left)
+order-faces-requires c κs = between-looks _ _ _ (c .before .before .before .before .before .before .before .before .before .before .before .before .args .words .now) (c .before .before .before .before .before .before .before .before .before .before .before .before .pre) (few (c .before .before .before .before .before .before)) _ (c .before .before .before .before .store-faces .ensures) (c .before .before .before .before .before .before .before .before .before .before .before .before .args .order .now) (c .before .before .before .before .before .before .before .before .if1 .left)
 
 refused-requires-3 : tie.Need-refused-requires-3
 refused-requires-3 c κs = search needs

@@ -1,10 +1,10 @@
--- `find_seed_triangle` meets its contract: it is the search from point 0, and nothing where that is hopeless or known. Assumes nothing.
+-- `find_seed_triangle` meets its contract: it is the search from point 0, and nothing where that is refuses-all or known. Assumes nothing.
 use mathlib.Core.Path.{sym, ap, _∙_}
 use Rattle.patch.specs.Search.{searching}
 use Rattle.nearby.specs.Ready.{usedIn}
 use Rattle.nearby.proofs.Keeping.{kept-self}
 use Rattle.seed.specs.Found.{seedFound}
-use Rattle.seed.proofs.Nothing.{hopeless-nothing}
+use Rattle.seed.proofs.Nothing.{refuses-all-nothing}
 use Rattle.seed.proofs.WithArea.{seed-area}
 use borrow.Author.Needs.{needs}
 use Rattle.seed.proofs.find_seed_triangle.Statement.{statement}
@@ -19,8 +19,8 @@ returns c =
     let e = c .nothing-found .ensures ∙ sym (ap seedFound (c .before .before .before .before .pre .3 (c .before .if1 .taken))) in
     (e, kept-self (x .s) (x .w .now), seed-area (x .s) (x .points .now) (x .radius) (usedIn (x .s) (x .w .now)) e)
 
-is-hopeless-requires : tie.Need-is-hopeless-requires
-is-hopeless-requires c κs = search needs
+refuses-all-requires : tie.Need-refuses-all-requires
+refuses-all-requires c κs = search needs
 
 nothing-found-requires-2 : tie.Need-nothing-found-requires-2
 nothing-found-requires-2 c κs = search needs
@@ -31,7 +31,7 @@ returns-2 c =
     let b = c .before .before .before .before .before .before in
     let x = b .args in
     let used = usedIn (x .s) (x .w .now) in
-    let h = hopeless-nothing (x .s) (x .points .now) (x .radius) used 1000 (b .pre .2 .linked .ready .numbers) (c .before .before .is-hopeless .ensures (c .before .if2 .taken)) in
+    let h = refuses-all-nothing (x .s) (x .points .now) (x .radius) used 1000 (b .pre .2 .linked .ready .numbers) (c .before .before .refuses-all .ensures (c .before .if2 .taken)) in
     let e = c .nothing-found2 .ensures ∙ sym (ap seedFound h) in
     (e, kept-self (x .s) (x .w .now), seed-area (x .s) (x .points .now) (x .radius) used e)
 
@@ -52,4 +52,4 @@ returns-3 c =
     (f .0, f .1, seed-area (x .s) (x .points .now) (x .radius) (usedIn (x .s) (x .w .now)) (f .0))
 
 pub find-seed-triangle-spec : {M : Type 1} → statement M
-find-seed-triangle-spec = tie.close (tie.spec nothing-found-requires returns is-hopeless-requires nothing-found-requires-2 returns-2 limits-of-requires find-from-requires same-length returns-3)
+find-seed-triangle-spec = tie.close (tie.spec nothing-found-requires returns refuses-all-requires nothing-found-requires-2 returns-2 limits-of-requires find-from-requires same-length returns-3)

@@ -1,6 +1,6 @@
 -- By the radii one path or the other. Assumes nothing.
 use native.Mathlib.Omega.{arith}
-use Rattle.laying.proofs.Kept.{ground-searched}
+use Rattle.laying.proofs.Kept.{all-searchable-searched}
 use Rattle.ball_pivoting.proofs.Found.{radii-ready, listed-at, listed-none, listed-self, finds-plain, finds-laid}
 use borrow.Author.Needs.{needs}
 use Rattle.ball_pivoting.proofs.paths.find.Statement.{statement}
@@ -39,7 +39,7 @@ find-pivoting-requires c κs =
     let i = c .before .before .before .before .before .before .before .before .before .before .before .before .before .before .before .index-points .ensures in
     let r = c .before .before .before .before .before .before .before .before .compute-adaptive-radii in
     let some = c .before .before .if1 .left in
-    (ground-searched _ (record { before = r .ensures .1; after = r .ensures .2 }) (r .kept .1 .1 .1 .1 .1 .0) (i .1), listed-self _ _ (r .ensures .0), omega arith)
+    (all-searchable-searched _ (record { before = r .ensures .1; after = r .ensures .2 }) (r .kept .1 .1 .1 .1 .1 .0) (i .1), listed-self _ _ (r .ensures .0), omega arith)
 
 same-length-4 : tie.Need-same-length-4
 same-length-4 c = search needs

@@ -2,7 +2,7 @@
 use mathlib.Core.Path.{refl}
 use native.Mathlib.Omega.{arith}
 use Rattle.ball_pivoting.specs.Reconstruct.{indexOf, sceneOf}
-use Rattle.ball_pivoting.proofs.Found.{grounded}
+use Rattle.ball_pivoting.proofs.Found.{all-searchable}
 use borrow.Author.Needs.{needs}
 use Rattle.ball_pivoting.proofs.paths.index_points.Statement.{statement}
 use Rattle.ball_pivoting.proofs.paths.index_points.Tie as tie
@@ -20,7 +20,7 @@ same-length c = search needs
 
 returns : tie.Need-returns
 unfolding indexOf sceneOf
-returns c = (cc, grounded refl (c .before .before .before .before .before .before .before .before .before .before .before .before .pre) (c .before .before .before .before .before .before .before .build-spatial-grid .ensures .1) (c .before .before .build .ensures))
+returns c = (cc, all-searchable refl (c .before .before .before .before .before .before .before .before .before .before .before .before .pre) (c .before .before .before .before .before .before .before .build-spatial-grid .ensures .1) (c .before .before .build .ensures))
 
 pub index-points-spec : {M : Type 1} → statement M
 index-points-spec = tie.close (tie.spec build-spatial-grid-requires build-requires same-length returns)

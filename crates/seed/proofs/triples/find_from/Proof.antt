@@ -7,14 +7,14 @@ use Rattle.nearby.specs.Ready.{usedIn}
 use Rattle.nearby.proofs.Keeping.{kept-on}
 use Rattle.seed.specs.Found.{seedFound}
 use Rattle.seed.proofs.State.{Seeking, seek-start, seek-end, seek-spent, seek-used, seek-kept, seek-hit, seek-miss}
-use Rattle.seed.specs.Barren.{BarrenBetween}
-use Rattle.seed.proofs.Threes.{barren-used, barren-next, barren-on, unused-kept, unused-back, seek-barren}
+use Rattle.seed.specs.Seedless.{SeedlessBetween}
+use Rattle.seed.proofs.Threes.{seedless-used, seedless-next, seedless-on, unused-kept, unused-back, seek-seedless}
 use borrow.Author.Needs.{needs}
 use Rattle.seed.proofs.triples.find_from.Statement.{statement}
 use Rattle.seed.proofs.triples.find_from.Tie as tie
 
 abbrev Inv-loop : tie.InvT-loop
-Inv-loop s points w₀ radius hash limits n left₀ purse₀ lo₀ i₀ w left purse lo i = Seeking s points radius hash w₀ w left i × (lo ≤ i) × BarrenBetween s points radius (usedIn s w₀) lo i
+Inv-loop s points w₀ radius hash limits n left₀ purse₀ lo₀ i₀ w left purse lo i = Seeking s points radius hash w₀ w left i × (lo ≤ i) × SeedlessBetween s points radius (usedIn s w₀) lo i
 
 abbrev μ-loop : tie.MeasureT-loop
 μ-loop s points w₀ radius hash limits n left₀ purse₀ lo₀ i₀ w left purse lo i = s .n - i
@@ -50,34 +50,34 @@ loop-again c =
     let used = sym (u .ensures) ∙ not-true (u .result) (c .if2 .taken) in (
       seek-used (l .inv .0) (c .before .before .before .before .loop-test .taken) (c .before .before .before .if1 .left) used,
       omega (arith, l .inv .1),
-      barren-used (usedIn (a .s) (a .w .now)) (l .inv .2) (unused-back {s = a .s} (l .i) (l .inv .0 .kept) used),
+      seedless-used (usedIn (a .s) (a .w .now)) (l .inv .2) (unused-back {s = a .s} (l .i) (l .inv .0 .kept) used),
     )
 
 check-first-requires : tie.Need-check-first-requires Inv-loop μ-loop
 check-first-requires c κs = let l = c .before .before .before .before .before .before .loop in (l .inv .0 .held, l .inv .0 .hashed, c .before .before .before .before .before .loop-test .taken, c .before .before .before .before .before .before .before .before .before .pre .3)
 
-try-unless-barren-requires : tie.Need-try-unless-barren-requires Inv-loop μ-loop
-try-unless-barren-requires c κs =
+try-unless-seedless-requires : tie.Need-try-unless-seedless-requires Inv-loop μ-loop
+try-unless-seedless-requires c κs =
     let u = c .before .before .before .before .before .before .is-unused in
     let l = c .before .before .before .before .before .before .before .before .before .before .loop in
     let t = c .before .before .before .check-first in
     let k = seek-kept (l .inv .0) (t .last .1 .1 .0) (t .ensures .1) (t .kept .1 .1 .0) in
     let inside = c .before .before .before .before .before .before .before .before .before .loop-test .taken in
     let free = unused-kept {s = c .before .before .before .before .before .before .before .before .before .before .before .before .before .args .s} (l .i) (t .ensures .1) (sym (u .ensures) ∙ not-false (u .result) (c .before .before .before .before .before .if2 .left)) in
-    (k .held, k .indexed, k .hashed, inside, c .before .before .before .before .before .before .before .before .before .before .before .before .before .pre .3, λ h. seek-barren k inside (l .inv .1) free (barren-next {w₀ = c .before .before .before .before .before .before .before .before .before .before .before .before .before .args .w .now} (l .inv .2) (l .inv .0 .kept) (t .ensures .0 h)))
+    (k .held, k .indexed, k .hashed, inside, c .before .before .before .before .before .before .before .before .before .before .before .before .before .pre .3, λ h. seek-seedless k inside (l .inv .1) free (seedless-next {w₀ = c .before .before .before .before .before .before .before .before .before .before .before .before .before .args .w .now} (l .inv .2) (l .inv .0 .kept) (t .ensures .0 h)))
 
 enum-known-found : tie.Need-enum-known-found Inv-loop μ-loop
 enum-known-found c = search needs
 
 same-length-2 : tie.Need-same-length-2 Inv-loop μ-loop
-same-length-2 c = c .before .before .before .before .before .try-unless-barren .kept .1 .1 .0 ∙ c .before .before .before .before .before .before .before .before .before .check-first .kept .1 .1 .0 ∙ c .before .before .before .before .before .before .before .before .before .before .before .before .before .before .before .before .loop .inv .0 .same
+same-length-2 c = c .before .before .before .before .before .try-unless-seedless .kept .1 .1 .0 ∙ c .before .before .before .before .before .before .before .before .before .check-first .kept .1 .1 .0 ∙ c .before .before .before .before .before .before .before .before .before .before .before .before .before .before .before .before .loop .inv .0 .same
 
 returns-2 : tie.Need-returns-2 Inv-loop μ-loop
 returns-2 c =
     let u = c .before .before .before .before .before .before .before .before .before .before .before .before .is-unused in
     let l = c .before .before .before .before .before .before .before .before .before .before .before .before .before .before .before .before .loop in
     let t = c .before .before .before .before .before .before .before .before .before .check-first in
-    let f = c .before .before .before .before .before .try-unless-barren in
+    let f = c .before .before .before .before .before .try-unless-seedless in
     let k = seek-kept (l .inv .0) (t .last .1 .1 .0) (t .ensures .1) (t .kept .1 .1 .0) in
     let free = unused-kept {s = c .before .before .before .before .before .before .before .before .before .before .before .before .before .before .before .before .before .before .before .args .s} (l .i) (t .ensures .1) (sym (u .ensures) ∙ not-false (u .result) (c .before .before .before .before .before .before .before .before .before .before .before .if2 .left)) in (
       seek-hit k (c .before .before .before .before .before .before .before .before .before .before .before .before .before .before .before .loop-test .taken) (c .before .before .before .before .before .before .before .before .before .before .before .before .before .before .if1 .left) free (f .ensures .0) (c .before .found .given .1),
@@ -104,13 +104,13 @@ loop-again-2 c =
     let u = c .before .before .before .before .before .before .before .before .before .before .before .before .is-unused in
     let l = c .before .before .before .before .before .before .before .before .before .before .before .before .before .before .before .before .loop in
     let t = c .before .before .before .before .before .before .before .before .before .check-first in
-    let f = c .before .before .before .before .before .try-unless-barren in
+    let f = c .before .before .before .before .before .try-unless-seedless in
     let m = c .known-from in
     let k = seek-kept (l .inv .0) (t .last .1 .1 .0) (t .ensures .1) (t .kept .1 .1 .0) in
     let free = unused-kept {s = c .before .before .before .before .before .before .before .before .before .before .before .before .before .before .before .before .before .before .before .args .s} (l .i) (t .ensures .1) (sym (u .ensures) ∙ not-false (u .result) (c .before .before .before .before .before .before .before .before .before .before .before .if2 .left)) in (
       seek-miss k (f .last .1 .1 .0) (c .before .before .before .before .before .before .before .before .before .before .before .before .before .before .before .loop-test .taken) (c .before .before .before .before .before .before .before .before .before .before .before .before .before .before .if1 .left) free (f .ensures .0) (c .before .enum-told .given .1) (f .ensures .1) (f .kept .1 .1 .0),
       m .ensures .inside,
-      barren-on {w₀ = c .before .before .before .before .before .before .before .before .before .before .before .before .before .before .before .before .before .before .before .args .w .now} (l .inv .2) (l .inv .0 .kept) (t .ensures .0) (m .ensures),
+      seedless-on {w₀ = c .before .before .before .before .before .before .before .before .before .before .before .before .before .before .before .before .before .before .before .args .w .now} (l .inv .2) (l .inv .0 .kept) (t .ensures .0) (m .ensures),
     )
 
 nothing-found-requires-2 : tie.Need-nothing-found-requires-2 Inv-loop μ-loop
@@ -123,4 +123,4 @@ returns-3 : tie.Need-returns-3 Inv-loop μ-loop
 returns-3 c = let l = c .before .before .loop in (c .nothing-found2 .ensures ∙ sym (ap seedFound (seek-end (l .inv .0) (c .before .loop-test .left))), l .inv .0 .kept)
 
 pub find-from-spec : {M : Type 1} → statement M
-find-from-spec = tie.close (tie.spec Inv-loop μ-loop loop-holds nothing-found-requires same-length returns is-unused-requires add-i loop-less loop-again check-first-requires try-unless-barren-requires enum-known-found same-length-2 returns-2 enum-told known-from-requires sub-left add-i-2 loop-less-2 loop-again-2 nothing-found-requires-2 same-length-3 returns-3)
+find-from-spec = tie.close (tie.spec Inv-loop μ-loop loop-holds nothing-found-requires same-length returns is-unused-requires add-i loop-less loop-again check-first-requires try-unless-seedless-requires enum-known-found same-length-2 returns-2 enum-told known-from-requires sub-left add-i-2 loop-less-2 loop-again-2 nothing-found-requires-2 same-length-3 returns-3)

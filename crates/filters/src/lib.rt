@@ -1,0 +1,114 @@
+// What is refused without measuring it: triangles by squares that are too small or too large, and radii at which every triangle is refused.
+use decisions::Scene;
+use vector::Point3f;
+ghost use mathlib.Core.Path.{_≡_};
+ghost use mathlib.Core.Bool.{true, _&&_};
+ghost use lib.Ieee.{le};
+ghost use Rattle.filters.specs.Refused.{Least, Limiting, Refused, RefusedThroughout, RefusesAll};
+
+// Limits for squares, by which a triangle is refused: of twice the area a least and a largest, of a distance the largest, and one for the aspect ratio.
+pub struct Limits {
+    pub small: f32,
+    pub large: f32,
+    pub far: f32,
+    pub thin: f32,
+}
+
+// An area below which every triangle is refused at a radius: the least one, or what is next to none where edges are limited at all.
+fn least_area(s: Scene, radius: f32) -> f32
+    ensures { λ m. ⌜ Least s radius m ⌝ }
+{
+    if radius * s.max_edge_factor < 1.0 / 0.0 {
+        if s.min_triangle_area < 1e-10 {
+            return 1e-10;
+        }
+    }
+    s.min_triangle_area
+}
+
+// The limits at a radius.
+pub fn limits_of(s: Scene, radius: f32) -> Limits
+    ensures { λ l. ⌜ Limiting s radius l ⌝ }
+{
+    let small = area_bounds::area_limit(least_area(s, radius));
+    let large = area_bounds::large_limit(radius, s.max_edge_factor);
+    let far = bounds::square_limit(radius * 2.0);
+    let thin = thin::thin_limit(score_bounds::aspect_limit(s.quality_threshold));
+    Limits {
+        small: small,
+        large: large,
+        far: far,
+        thin: thin,
+    }
+}
+
+// Whether the limits refuse the triangle of three points, of which both others are close to the first.
+pub fn is_refused(l: Limits, p: Point3f, q: Point3f, t: Point3f) -> bool
+    ensures { λ r. ⌜ (r ≡ true → Refused l p q t) ⌝ }
+{
+    let last = vector::distance_squared(q, t);
+    if last > l.far {
+        return true;
+    }
+    let cross = area_bounds::cross_squared(p, q, t);
+    if cross <= l.small {
+        return true;
+    }
+    if cross >= l.large {
+        return true;
+    }
+    let first = vector::distance_squared(p, q);
+    thin::is_thin(first, vector::distance_squared(p, t), last, cross, l.thin)
+}
+
+// Whether three numbers are at most x.
+fn are_at_most(a: f32, b: f32, c: f32, x: f32) -> bool
+    ensures { λ r. ⌜ r ≡ (le a x && (le b x && le c x)) ⌝ }
+{
+    a <= x && (b <= x && c <= x)
+}
+
+// Whether they are at least x.
+fn are_at_least(a: f32, b: f32, c: f32, x: f32) -> bool
+    ensures { λ r. ⌜ r ≡ (le x a && (le x b && le x c)) ⌝ }
+{
+    x <= a && (x <= b && x <= c)
+}
+
+// Whether the limits refuse the triangle of three points, whichever of them comes first. Its area depends on that, by rounding: the largest one has to be too thin.
+pub fn is_refused_throughout(l: Limits, p: Point3f, q: Point3f, t: Point3f) -> bool
+    ensures { λ r. ⌜ (r ≡ true → RefusedThroughout l p q t) ⌝ }
+{
+    let third = vector::distance_squared(q, t);
+    if third > l.far {
+        return true;
+    }
+    let a = area_bounds::cross_squared(p, q, t);
+    let b = area_bounds::cross_squared(q, p, t);
+    let c = area_bounds::cross_squared(t, p, q);
+    if are_at_most(a, b, c, l.small) {
+        return true;
+    }
+    if are_at_least(a, b, c, l.large) {
+        return true;
+    }
+    let largest = numbers::max(numbers::max(a, b), c);
+    let first = vector::distance_squared(p, q);
+    thin::is_thin(
+        first,
+        vector::distance_squared(p, t),
+        third,
+        largest,
+        l.thin,
+    )
+}
+
+// Whether no triangle of points that are close to each other can be acceptable at a radius.
+pub fn refuses_all(s: Scene, radius: f32) -> bool
+    ensures { λ r. ⌜ (r ≡ true → RefusesAll s radius) ⌝ }
+{
+    if !(radius * 2.0 < 1.0 / 0.0) {
+        return false;
+    }
+    area_bounds::is_too_long(radius, s.min_triangle_area, s.max_edge_factor)
+}

@@ -1,0 +1,83 @@
+-- `price_of` meets its contract: limits refuse every order, or each of the three points is tried as the first one. Assumes nothing.
+use mathlib.Core.Path.{_≡_, sym, _∙_}
+use native.Mathlib.Omega.{arith}
+use borrow.Author.Tests.{not-false}
+use Rattle.vector.specs.Vector.{distance}
+use Rattle.vector.proofs.Distances.{distance-turned}
+use Rattle.seed.proofs.Points.{throughout-points}
+use Rattle.seed.proofs.Threes.{refused-seedless}
+use Rattle.seed.proofs.Measured.{measured-no-seed}
+use borrow.Author.Needs.{needs}
+use Rattle.seed.proofs.seedless.price_of.Statement.{statement}
+use Rattle.seed.proofs.seedless.price_of.Tie as tie
+
+point-at-requires : tie.Need-point-at-requires
+point-at-requires c κs = search needs
+
+point-at-requires-2 : tie.Need-point-at-requires-2
+point-at-requires-2 c κs = search needs
+
+point-at-requires-3 : tie.Need-point-at-requires-3
+point-at-requires-3 c κs = search needs
+
+is-refused-throughout-requires : tie.Need-is-refused-throughout-requires
+is-refused-throughout-requires c κs = search needs
+
+returns : tie.Need-returns
+returns c = λ _. refused-seedless (c .before .before .before .before .before .before .pre .4) (c .before .before .before .before .before .before .pre .1) (c .before .before .before .before .before .before .pre .2) (c .before .before .before .before .before .before .pre .3) (throughout-points (c .before .before .before .before .point-at .ensures) (c .before .before .before .point-at2 .ensures) (c .before .before .point-at3 .ensures) (c .before .is-refused-throughout .ensures (c .if1 .taken)))
+
+distance-requires : tie.Need-distance-requires
+distance-requires c κs = search needs
+
+distance-requires-2 : tie.Need-distance-requires-2
+distance-requires-2 c κs = search needs
+
+distance-requires-3 : tie.Need-distance-requires-3
+distance-requires-3 c κs = search needs
+
+area-of-requires : tie.Need-area-of-requires
+area-of-requires c κs = search needs
+
+are-refused-requires : tie.Need-are-refused-requires
+are-refused-requires c κs = search needs
+
+returns-2 : tie.Need-returns-2
+returns-2 c = λ h. absurd (omega arith)
+
+area-of-requires-2 : tie.Need-area-of-requires-2
+area-of-requires-2 c κs = search needs
+
+are-refused-requires-2 : tie.Need-are-refused-requires-2
+are-refused-requires-2 c κs = search needs
+
+returns-3 : tie.Need-returns-3
+returns-3 c = λ h. absurd (omega arith)
+
+area-of-requires-3 : tie.Need-area-of-requires-3
+area-of-requires-3 c κs = search needs
+
+are-refused-requires-3 : tie.Need-are-refused-requires-3
+are-refused-requires-3 c κs = search needs
+
+returns-4 : tie.Need-returns-4
+returns-4 c = λ h. absurd (omega arith)
+
+returns-5 : tie.Need-returns-5
+returns-5 c =
+    let a = c .before .before .before .before .before .before .before .before .before .before .before .before .before .before .before .before .before .before .args in
+    let p = c .before .before .before .before .before .before .before .before .before .before .before .before .before .before .before .before .point-at in
+    let q = c .before .before .before .before .before .before .before .before .before .before .before .before .before .before .before .point-at2 in
+    let t = c .before .before .before .before .before .before .before .before .before .before .before .before .before .before .point-at3 in
+    let x = c .before .before .before .before .before .before .before .are-refused in
+    let y = c .before .before .before .before .are-refused2 in
+    let z = c .before .are-refused3 in
+    let qp = c .before .before .before .before .before .before .before .before .before .before .before .distance .ensures in
+    let tq = c .before .before .before .before .before .before .before .before .before .before .distance2 .ensures in
+    let pt = c .before .before .before .before .before .before .before .before .before .distance3 .ensures in λ _. record {
+      first = measured-no-seed (p .result) (q .result) (t .result) qp tq pt (c .before .before .before .before .before .before .before .before .area-of .ensures) (a .s) (a .points .now) (a .radius) (a .i) (a .j) (a .k) (p .ensures) (q .ensures) (t .ensures) (x .ensures (not-false (x .result) (c .before .before .before .before .before .before .if2 .left)));
+      second = measured-no-seed (q .result) (p .result) (t .result) (qp ∙ distance-turned (q .result) (p .result)) (pt ∙ distance-turned (p .result) (t .result)) (tq ∙ distance-turned (t .result) (q .result)) (c .before .before .before .before .before .area-of2 .ensures) (a .s) (a .points .now) (a .radius) (a .j) (a .i) (a .k) (q .ensures) (p .ensures) (t .ensures) (y .ensures (not-false (y .result) (c .before .before .before .if3 .left)));
+      third = measured-no-seed (t .result) (p .result) (q .result) pt qp tq (c .before .before .area-of3 .ensures) (a .s) (a .points .now) (a .radius) (a .k) (a .i) (a .j) (t .ensures) (p .ensures) (q .ensures) (z .ensures (not-false (z .result) (c .if4 .left)));
+    }
+
+pub price-of-spec : {M : Type 1} → statement M
+price-of-spec = tie.close (tie.spec point-at-requires point-at-requires-2 point-at-requires-3 is-refused-throughout-requires returns distance-requires distance-requires-2 distance-requires-3 area-of-requires are-refused-requires returns-2 area-of-requires-2 are-refused-requires-2 returns-3 area-of-requires-3 are-refused-requires-3 returns-4 returns-5)
