@@ -1,6 +1,6 @@
--- The answers of the public calls: every number of the scope's list by its name, and one table of them with what each says in
--- words, in the order of the numbers. 0 accepts; the rest are refusals. A call's own definition says which it knows, and in which
--- order it asks. Definitions only.
+-- The answers of the public calls: every number of the scope's list by its name, and one table of them with what each
+-- says in words, in the order of the numbers. 0 accepts; the rest are refusals. A call's own definition says which it
+-- knows, and in which order it asks. Definitions only.
 use Prim.Native.Nat.{ℕ}
 use Prim.Native.String.{String}
 use mathlib.Core.List.{List, [], _∷_}

@@ -1,4 +1,5 @@
--- What bounds the area of triangles: bounds of two edges on each axis, and the square of the edges' cross product. Definitions only.
+-- What bounds the area of triangles: bounds of two edges on each axis, and the square of the edges' cross product.
+-- Definitions only.
 use mathlib.Core.Bool.{false}
 use lib.Dec.{T}
 use lib.Ieee.{Float, binary32, inf, lt, le, fits}
@@ -24,12 +25,15 @@ crossSquared p1 p2 p3 = magnitudeSquared (cross (difference p2 p1) (difference p
 pub record AreaLimit (m t : Float) : Type 0 where
   pub below : (a : Float) → T (fits binary32 a) → T (le (f32 0) a) → T (le a t) → T (lt (root a ⊗ half) m)
 
--- the edges of a triangle with the area m or more are too long for a radius: m is not next to none, and the edge ratio is at least 1
+-- the edges of a triangle with the area m or more are too long for a radius: m is not next to none, and the edge ratio
+-- is at least 1
 pub record TooLong (r m factor : Float) : Type 0 where
   pub some : T (le tiny m)
-  pub long : (ratio a : Float) → T (fits binary32 a) → T (le one ratio) → T (le m a) → T (lt (r ⊗ factor) (ratio ⊗ root a))
+  pub long : (ratio a : Float) → T (fits binary32 a) → T (le one ratio) → T (le m a)
+      → T (lt (r ⊗ factor) (ratio ⊗ root a))
 
--- such a square is that of an area whose edges are too long for a radius if it is at least t, and twice the radius is finite
+-- such a square is that of an area whose edges are too long for a radius if it is at least t, and twice the radius is
+-- finite
 pub record LargeLimit (r factor t : Float) : Type 0 where
   pub bounded : (a : Float) → T (le t a) → T (lt (r ⊗ f32 0x40000000) (inf false))
   pub long : (a : Float) → T (fits binary32 a) → T (le t a) → TooLong r (root a ⊗ half) factor

@@ -2,7 +2,8 @@
 use vector::Point3f;
 ghost use mathlib.Core.Path.{_≡_};
 ghost use mathlib.Core.Bool.{true};
-ghost use Rattle.area_bounds.specs.AreaBound.{crossBound, areaBound, crossSquared, AreaLimit, TooLong, LargeLimit};
+ghost use Rattle.area_bounds.specs.AreaBound.{crossBound, areaBound, crossSquared, AreaLimit, TooLong};
+ghost use Rattle.area_bounds.specs.AreaBound.{LargeLimit};
 
 fn cross_bound(v: Point3f, w: Point3f) -> Point3f
     ensures { λ r. ⌜ r ≡ crossBound v w ⌝ }
@@ -28,7 +29,8 @@ pub fn cross_squared(p1: Point3f, p2: Point3f, p3: Point3f) -> f32
     vector::magnitude_squared(vector::cross(vector::difference(p2, p1), vector::difference(p3, p1)))
 }
 
-// A number that the square of twice the area exceeds if the area is not below the least one. -1 says nothing, and stands where the guess is no such number.
+// A number that the square of twice the area exceeds if the area is not below the least one. -1 says nothing, and
+// stands where the guess is no such number.
 pub fn area_limit(least: f32) -> f32
     ensures { λ t. ⌜ AreaLimit least t ⌝ }
 {
@@ -49,7 +51,8 @@ pub fn is_too_long(radius: f32, least: f32, factor: f32) -> bool
     numbers::sqrt(least) > radius * factor
 }
 
-// A number that the square of twice the area is below unless the edges are too long for the radius. Where the guess is none it is not a number, and nothing is at least that.
+// A number that the square of twice the area is below unless the edges are too long for the radius. Where the guess is
+// none it is not a number, and nothing is at least that.
 pub fn large_limit(radius: f32, factor: f32) -> f32
     ensures { λ t. ⌜ LargeLimit radius factor t ⌝ }
 {

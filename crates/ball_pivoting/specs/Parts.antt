@@ -31,7 +31,8 @@ pub record Ready (c : BallPivotingConfig) (points : List Float) (words : List �
   pub additional : c .«additional_count» ≤ 8
   pub settled : Settled c
 
--- the code's account r of what is found, f, with the radii rs, and `why` if it is nothing; the faces that fit stand in front of the slice that was lent
+-- the code's account r of what is found, f, with the radii rs, and `why` if it is nothing; the faces that fit stand in
+-- front of the slice that was lent
 pub record Finds (why : ℕ) (f : Found) (rs : List Float) (lent : List ℕ) (r : Finding) (slice : List ℕ) : Type 0 where
   pub faces : r .faces ≡ length (f .faces)
   pub few : r .faces ≤ 10000
@@ -44,5 +45,6 @@ pub record Finds (why : ℕ) (f : Found) (rs : List Float) (lent : List ℕ) (r 
 
 -- whatever was found comes back as the definition says
 abbrev pub Delivers : Finding → List ℕ → Patch → List ℕ → Type 0
-Delivers found slice p back = (why : ℕ) (f : Found) (rs : List Float) (lent : List ℕ) → NoTriangle why → Finds why f rs lent found slice
+Delivers found slice p back = (why : ℕ) (f : Found) (rs : List Float) (lent : List ℕ) → NoTriangle why
+    → Finds why f rs lent found slice
     → (p ≡ delivered why f rs (length lent)) × (back ≡ facesAfter p f lent)

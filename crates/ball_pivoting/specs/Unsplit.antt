@@ -23,7 +23,8 @@ abbrev pub NoTriangle : ℕ → Type 0
 NoTriangle answer = (answer ≡ 8) ⊎ ((answer ≡ 15) ⊎ (answer ≡ 16))
 
 -- the same clouds are refused as before, and nothing else changed
-pub record Split (pts normals : List Float) (c : BallPivotingConfig) (room words floats : ℕ) (old new : Patch) : Type 0 where
+pub record Split (pts normals : List Float) (c : BallPivotingConfig) (room words floats : ℕ) (old new : Patch)
+    : Type 0 where
   pub old-is : old ≡ reconstructedUnsplit pts normals c room words floats
   pub new-is : new ≡ reconstructed pts normals c room words floats
   -- the old call answers 8 exactly where the new one answers 8, 15 or 16

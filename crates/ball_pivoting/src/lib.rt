@@ -9,7 +9,8 @@ ghost use Rattle.ball_pivoting.specs.Reconstruct.{refused};
 ghost use Rattle.ball_pivoting.specs.Outcome.{Reconstructs};
 ghost use Rattle.ball_pivoting.specs.Parts.{Delivers};
 
-// The answer's number and detail, 0 where the cloud is accepted; how many faces, seeds, looks and pivots there are; the radii.
+// The answer's number and detail, 0 where the cloud is accepted; how many faces, seeds, looks and pivots there are; the
+// radii.
 #[repr(C)]
 pub struct Patch {
     pub answer: u32,
@@ -83,7 +84,8 @@ pub fn reconstruct_with_normals(
     words: &mut [u32],
     floats: &mut [f32],
 ) -> Patch
-    ensures { λ r. ⌜ Reconstructs (now (points .entry)) (now (normals .entry)) settings (now (faces .entry)) (now (words .entry)) (now (floats .entry)) r (now (faces .exit)) (now (words .exit)) (now (floats .exit)) ⌝ }
+    ensures { λ r. ⌜ Reconstructs (now (points .entry)) (now (normals .entry)) settings (now (faces .entry))
+        (now (words .entry)) (now (floats .entry)) r (now (faces .exit)) (now (words .exit)) (now (floats .exit)) ⌝ }
 {
     let refusal = domain::refusal_of_reconstruct(
         points,

@@ -17,7 +17,8 @@ ghost use Rattle.decisions.specs.Decisions.{floatsOf};
 ghost use Rattle.plain.specs.Reached.{plainReached};
 ghost use Rattle.reaching.specs.Reaching.{reaches};
 ghost use Rattle.judged.specs.Triples.{Fresh};
-ghost use Rattle.ball_pivoting.specs.Reconstruct.{pointCount, sceneOf, radiiOf, laid, plainly, found, reasonBy, reason};
+ghost use Rattle.ball_pivoting.specs.Reconstruct.{pointCount, sceneOf, radiiOf, laid, plainly, found, reasonBy};
+ghost use Rattle.ball_pivoting.specs.Reconstruct.{reason};
 ghost use Rattle.ball_pivoting.specs.Parts.{Sized, Ready, Finds};
 
 // The cloud's points, indexed and hashed.
@@ -29,7 +30,8 @@ pub struct Site {
 // Indexes and hashes the cloud's points.
 fn index_points(points: &[f32], settings: BallPivotingConfig, words: &mut [u32]) -> Site
     requires { ⌜ Sized (now points) (now words) ⌝ }
-    ensures { λ r. ⌜ (r .scene ≡ sceneOf settings (now (points .entry))) × AllSearchable (r .scene) (r .hash) (now (points .entry)) (now (words .exit)) ⌝ }
+    ensures { λ r. ⌜ (r .scene ≡ sceneOf settings (now (points .entry)))
+        × AllSearchable (r .scene) (r .hash) (now (points .entry)) (now (words .exit)) ⌝ }
 {
     let n = points.len() / 3;
     let indexed = settings.use_spatial_index;
@@ -50,7 +52,8 @@ fn index_points(points: &[f32], settings: BallPivotingConfig, words: &mut [u32])
     }
 }
 
-// The answer where no triangle was found: there are too few points, or no triple was judged, or all that were judged were turned down.
+// The answer where no triangle was found: there are too few points, or no triple was judged, or all that were judged
+// were turned down.
 fn reason_by(n: usize, judged: bool) -> u32
     ensures { λ r. ⌜ r ≡ reasonBy n judged ⌝ }
 {
@@ -73,7 +76,8 @@ fn reason_after(
     laid: usize,
 ) -> u32
     requires { ⌜ (laid ≡ 0 → Fresh scene hash (now points) (now words)) ⌝ }
-    ensures { λ r. ⌜ (laid ≡ 0 → r ≡ reasonBy (scene .n) (reaches (floatsOf scene (now (points .entry))) (scene .n) largest)) ⌝ }
+    ensures { λ r. ⌜ (laid ≡ 0
+        → r ≡ reasonBy (scene .n) (reaches (floatsOf scene (now (points .entry))) (scene .n) largest)) ⌝ }
 {
     if laid > 0 {
         return 0;
@@ -91,8 +95,11 @@ fn find_plain(
     words: &mut [u32],
     floats: &mut [f32],
 ) -> Finding
-    requires { ⌜ (length (now points) / 3 ≤ 4096) × (length (now points) / 3 ≤ length (now words)) × (length (now points) / 3 ≤ length (now floats)) × Listed [] radii ⌝ }
-    ensures { λ r. ⌜ Finds (reasonBy (pointCount (now (points .entry))) (plainReached (now (points .entry)) (settings .radius))) (plainly settings (now (points .entry))) [] (now (faces .entry)) r (now (faces .exit)) ⌝ }
+    requires { ⌜ (length (now points) / 3 ≤ 4096) × (length (now points) / 3 ≤ length (now words))
+        × (length (now points) / 3 ≤ length (now floats)) × Listed [] radii ⌝ }
+    ensures { λ r. ⌜ Finds
+        (reasonBy (pointCount (now (points .entry))) (plainReached (now (points .entry)) (settings .radius)))
+        (plainly settings (now (points .entry))) [] (now (faces .entry)) r (now (faces .exit)) ⌝ }
 {
     let laid = plain::simple_triangulate(points, settings.radius, words, floats, faces);
     let reason = reason_by(points.len() / 3, laid.judged);
@@ -115,9 +122,13 @@ fn find_pivoting(
     words: &mut [u32],
     hash: Hash,
 ) -> Finding
-    requires { ⌜ AllSearchable scene hash (now points) (now words) × Listed (take (radii .count) (radii .list)) radii × (0 < radii .count) ⌝ }
-    ensures { λ r. ⌜ Finds (reasonBy (scene .n) (reaches (floatsOf scene (now (points .entry))) (scene .n) (getD (radii .list) (radii .count - 1) nan)))
-        (laid (patch (rulesOf scene (now (points .entry))) heapOf (scene .n) (take (radii .count) (radii .list)))) (take (radii .count) (radii .list)) (now (faces .entry)) r (now (faces .exit)) ⌝ }
+    requires { ⌜ AllSearchable scene hash (now points) (now words) × Listed (take (radii .count) (radii .list)) radii
+        × (0 < radii .count) ⌝ }
+    ensures { λ r. ⌜ Finds
+        (reasonBy (scene .n)
+        (reaches (floatsOf scene (now (points .entry))) (scene .n) (getD (radii .list) (radii .count - 1) nan)))
+        (laid (patch (rulesOf scene (now (points .entry))) heapOf (scene .n) (take (radii .count) (radii .list))))
+        (take (radii .count) (radii .list)) (now (faces .entry)) r (now (faces .exit)) ⌝ }
 {
     let list = radii.list;
     let count = radii.count as usize;
@@ -142,7 +153,8 @@ pub fn find(
     floats: &mut [f32],
 ) -> Finding
     requires { ⌜ Ready settings (now points) (now words) (now floats) ⌝ }
-    ensures { λ r. ⌜ Finds (reason settings (now (points .entry))) (found settings (now (points .entry))) (radiiOf settings (now (points .entry))) (now (faces .entry)) r (now (faces .exit)) ⌝ }
+    ensures { λ r. ⌜ Finds (reason settings (now (points .entry))) (found settings (now (points .entry)))
+        (radiiOf settings (now (points .entry))) (now (faces .entry)) r (now (faces .exit)) ⌝ }
 {
     let site = index_points(points, settings, words);
     let scene = site.scene;

@@ -12,7 +12,8 @@ use Rattle.bounds.specs.Cover.{between}
 
 -- a place within bounds
 unfoldable pub within : Bounds → Point3f → Bool
-within b p = between (b .lo .x) (b .hi .x) (p .x) && (between (b .lo .y) (b .hi .y) (p .y) && between (b .lo .z) (b .hi .z) (p .z))
+within b p = between (b .lo .x) (b .hi .x) (p .x)
+    && (between (b .lo .y) (b .hi .y) (p .y) && between (b .lo .z) (b .hi .z) (p .z))
 
 -- each square above t has a root above r
 abbrev pub Limit : Float → Float → Type 0

@@ -1,4 +1,5 @@
-// Bounds that hold every place within a distance of another. How far they go is a guess, which is tested; where it is not far enough they have no end.
+// Bounds that hold every place within a distance of another. How far they go is a guess, which is tested; where it is
+// not far enough they have no end.
 mod cover;
 
 use vector::Point3f;
@@ -17,7 +18,8 @@ pub struct Interval {
     pub hi: f32,
 }
 
-// A number such that each square above it has a root above r. It is a guess, which is tested; the sum is for radii whose square is lost to rounding.
+// A number such that each square above it has a root above r. It is a guess, which is tested; the sum is for radii
+// whose square is lost to rounding.
 pub fn square_limit(r: f32) -> f32
     ensures { λ t. ⌜ Limit r t ⌝ }
 {
@@ -30,7 +32,8 @@ pub fn square_limit(r: f32) -> f32
     1.0 / 0.0
 }
 
-// Bounds outside of which every squared distance from the place is above the limit. The reach is a guess at how far they have to go.
+// Bounds outside of which every squared distance from the place is above the limit. The reach is a guess at how far
+// they have to go.
 pub fn covering(place: Point3f, reach: f32, limit: f32) -> Bounds
     requires { ⌜ Finite place ⌝ }
     ensures { λ b. ⌜ Covers place limit b ⌝ }

@@ -89,7 +89,8 @@ pub record StarredCases : Type 0 where
       → length points ≡ 3 * 4097 → estimateOf points percentile words floats ≡ estimate 3 0 (f32 0)
   -- coordinate 10,000 passes; the next f32 up gets 4, with its point's number
   pub farthest-passes :
-      reconstructRefusal (second-at (f32 0x461c4000)) (second-at (f32 0)) (defaults (f32 0x3f800000)) 112 72 ≡ refusal 0 0
+      reconstructRefusal (second-at (f32 0x461c4000)) (second-at (f32 0)) (defaults (f32 0x3f800000)) 112 72
+      ≡ refusal 0 0
   pub farther-refused : (s : BallPivotingConfig) (room words floats : ℕ)
       → reconstructed (second-at (f32 0x461c4001)) (second-at (f32 0)) s room words floats ≡ refused 4 1
   pub farthest-passes-estimate : estimateRefusal (second-at (f32 0x461c4000)) (f32 0x3f000000) 112 72 ≡ refusal 0 0

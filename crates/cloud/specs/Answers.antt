@@ -1,4 +1,5 @@
--- What each answer of the crate's functions stands for, and what the reader answers and leaves in the slices. Definitions only.
+-- What each answer of the crate's functions stands for, and what the reader answers and leaves in the slices.
+-- Definitions only.
 use Prim.Native.Nat.{ℕ, _*_}
 use mathlib.Core.Path.{_≡_}
 use mathlib.Core.Bool.{cond, _&&_}
@@ -43,7 +44,8 @@ pub data Outcome : Type 0 where
 -- The points fit if three times their number is at most the length of each slice.
 unfoldable pub judged : ℕ → ℕ → File → Outcome
 judged p n (malformedLine line) = refused badLine line
-judged p n (cloud radius ps) = cond (leb (3 * length ps) p && leb (3 * length ps) n) (accepted radius ps) (refused noRoom 0)
+judged p n (cloud radius ps) = cond (leb (3 * length ps) p && leb (3 * length ps) n) (accepted radius ps)
+    (refused noRoom 0)
 
 -- of the file's bytes and the two slices' lengths
 unfoldable pub outcome : List ℕ → ℕ → ℕ → Outcome
@@ -67,14 +69,16 @@ flat (t ∷ ts) = t .x ∷ t .y ∷ t .z ∷ flat ts
 unfoldable pub over : List Float → List Float → List Float
 over new old = new ++ drop (length new) old
 
--- a slice that takes one part of each point, its position or its normal: the points' numbers in front, or untouched at a refusal
+-- a slice that takes one part of each point, its position or its normal: the points' numbers in front, or untouched at
+-- a refusal
 unfoldable pub after : (Point → Triple) → Outcome → List Float → List Float
 unfolding flat over
 after part (accepted radius ps) old = over (flat (map part ps)) old
 after part (refused answer detail) old = old
 
 -- the whole answer: what is told of an outcome, and what each slice holds afterwards
-pub record Answered (o : Outcome) (points normals : List Float) (r : CloudRead) (points′ normals′ : List Float) : Type 0 where
+pub record Answered (o : Outcome) (points normals : List Float) (r : CloudRead) (points′ normals′ : List Float)
+    : Type 0 where
   pub answer : r ≡ told o
   pub points-hold : points′ ≡ after (λ p. p .position) o points
   pub normals-hold : normals′ ≡ after (λ p. p .normal) o normals

@@ -1,4 +1,5 @@
--- The cloud file, from its bytes to a radius and points. Definitions only, leaves first: `number`, `field`, `point`, `file`.
+-- The cloud file, from its bytes to a radius and points. Definitions only, leaves first: `number`, `field`, `point`,
+-- `file`.
 use Prim.Native.Nat.{ℕ, zero, suc, _+_, _-_, _*_, _^_}
 use mathlib.Core.Bool.{Bool, true, false, cond, _&&_}
 use mathlib.Core.List.{List, [], _∷_}
@@ -46,9 +47,10 @@ whole v [] = v
 whole v (d ∷ ds) = whole (v * 10 + (d - 48)) ds
 
 -- ---- a number
--- The f32 of a number: the one nearest to the decimal as written, the even one on a tie, and then the sign. All digits, those of the whole part and those of the
--- fraction, write one whole number, which is over a power of ten; that fraction is rounded once. (`Nearest` of specs/Nearest.antt says over whole numbers what nearest is.)
--- Without a fraction there are 0 digits, which write 0, and it is the whole part (`decimal-whole`).
+-- The f32 of a number: the one nearest to the decimal as written, the even one on a tie, and then the sign. All digits,
+-- those of the whole part and those of the fraction, write one whole number, which is over a power of ten; that
+-- fraction is rounded once. (`Nearest` of specs/Nearest.antt says over whole numbers what nearest is.) Without a
+-- fraction there are 0 digits, which write 0, and it is the whole part (`decimal-whole`).
 unfoldable pub decimal : Bool → ℕ → ℕ → ℕ → Float
 decimal negative units parts places =
     let v = round binary32 false (units * 10 ^ places + parts) (10 ^ places) in
@@ -59,7 +61,8 @@ unfoldable pub fraction : Bool → ℕ → List ℕ → Parsed Float
 unfolding startsWith digits few whole decimal
 fraction negative units bs =
     let places = digits (drop 1 bs) in
-    let digitsRead = parsed (decimal negative units (whole 0 (take places (drop 1 bs))) places) (drop places (drop 1 bs)) in
+    let digitsRead = parsed (decimal negative units (whole 0 (take places (drop 1 bs))) places)
+    (drop places (drop 1 bs)) in
     cond (startsWith 46 bs) (cond (few places 6) digitsRead malformed) (parsed (decimal negative units 0 0) bs)
 
 -- 1 to 5 digits, and perhaps a fraction
@@ -83,12 +86,15 @@ field end bs = then (number bs) (λ v rest. cond (startsWith end rest) (parsed v
 -- three fields, the last one ended by the byte `last`
 unfoldable pub triple : ℕ → List ℕ → Parsed Triple
 unfolding then field
-triple last bs = then (field 44 bs) (λ x bs₁. then (field 44 bs₁) (λ y bs₂. then (field last bs₂) (λ z rest. parsed (record { x = x; y = y; z = z }) rest)))
+triple last bs =
+    then (field 44 bs) (λ x bs₁.
+    then (field 44 bs₁) (λ y bs₂. then (field last bs₂) (λ z rest. parsed (record { x = x; y = y; z = z }) rest)))
 
 -- a point's line: x,y,z,nx,ny,nz
 unfoldable pub point : List ℕ → Parsed Point
 unfolding then triple
-point bs = then (triple 44 bs) (λ p bs₁. then (triple 10 bs₁) (λ n rest. parsed (record { position = p; normal = n }) rest))
+point bs =
+    then (triple 44 bs) (λ p bs₁. then (triple 10 bs₁) (λ n rest. parsed (record { position = p; normal = n }) rest))
 
 -- ---- the file
 -- a run of points' lines: the points, or the first malformed line, from 1
@@ -101,7 +107,8 @@ unfoldable pub ahead : Point → Lines → Lines
 ahead p (good ps) = good (p ∷ ps)
 ahead p (wrong line) = wrong (suc line)
 
--- points' lines up to the end of the bytes. A line takes at least a byte, so fuel that starts at the number of bytes lasts.
+-- points' lines up to the end of the bytes. A line takes at least a byte, so fuel that starts at the number of bytes
+-- lasts.
 unfoldable pub lines : ℕ → List ℕ → Lines
 unfolding then point ahead
 lines zero bs = good []

@@ -1,5 +1,7 @@
--- What IEEE 754 asks of a rounded number, over whole numbers: of a fraction m / d and the bit pattern b of an f32. Definitions only.
--- That `decimal` of Format.antt is such a number is the theorems `decimal-nearest`, `decimal-alone` and `decimal-normal` of proofs/Decimal.antt.
+-- What IEEE 754 asks of a rounded number, over whole numbers: of a fraction m / d and the bit pattern b of an f32.
+-- Definitions only.
+-- That `decimal` of Format.antt is such a number is the theorems `decimal-nearest`, `decimal-alone` and
+-- `decimal-normal` of proofs/Decimal.antt.
 use Prim.Native.Nat.{ℕ, _+_, _-_, _*_, _%_, _^_, _≤_, _<_}
 use mathlib.Core.Path.{_≡_}
 use mathlib.Core.Logic.{_⊎_, _≢_}
@@ -13,7 +15,8 @@ gap p q = p - q + (q - p)
 abbrev pub error : ℕ → ℕ → ℕ → ℕ
 error m d b = gap (unitsOf b * d) (m * 2 ^ 149)
 
--- roundTiesToEven: of all finite f32 with a clear sign none is nearer to m / d than b, and where another is as near b's last digit is even.
+-- roundTiesToEven: of all finite f32 with a clear sign none is nearer to m / d than b, and where another is as near b's
+-- last digit is even.
 -- (0x7f800000 is infinity. What would round to that is left out: a number of the file is below 100,000.)
 pub record Nearest (m d b : ℕ) : Type 0 where
   pub number : b < 0x7f800000
@@ -24,6 +27,7 @@ pub record Nearest (m d b : ℕ) : Type 0 where
 abbrev pub Alone : ℕ → ℕ → ℕ → Type 0
 Alone m d b = (c : ℕ) → c < 0x7f800000 → c ≢ b → error m d b < error m d c
 
--- b is not the pattern of a subnormal number, whose exponent field is 0 and whose digits are not: it is zero, or its exponent field is at least 1
+-- b is not the pattern of a subnormal number, whose exponent field is 0 and whose digits are not: it is zero, or its
+-- exponent field is at least 1
 abbrev pub NotSubnormal : ℕ → Type 0
 NotSubnormal b = (b ≡ 0) ⊎ (0x00800000 ≤ b)

@@ -30,7 +30,8 @@ pub record Tenths (m d : ℕ) : Type 0 where
   pub power-is : d * power ≡ 1000000
   pub below : m < 100000 * d
 
--- m / d is n / d units of 2 ^ (h - 149), and n / d has at most 24 digits; with h more digits to drop it would have 24 before h is 106
+-- m / d is n / d units of 2 ^ (h - 149), and n / d has at most 24 digits; with h more digits to drop it would have 24
+-- before h is 106
 pub record Scaling (m d n h : ℕ) : Type 0 where
   pub is : n * 2 ^ h ≡ m * 2 ^ 149
   pub high : n < 16777216 * d

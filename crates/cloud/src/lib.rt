@@ -1,6 +1,7 @@
 // Reads a cloud file: a line with the radius, then a line for each point, into two lent slices.
 //
-// What the file means is the definition `file` of specs/Format.antt, and what the reader answers `outcome` of specs/Answers.antt.
+// What the file means is the definition `file` of specs/Format.antt, and what the reader answers `outcome` of
+// specs/Answers.antt.
 mod line;
 pub mod number;
 mod point_lines;
@@ -21,7 +22,8 @@ use crate::point_lines::Counted;
 use crate::point_lines::count_points;
 use crate::point_lines::store_points;
 
-// The answer's number, 0 where the file was accepted; the detail, the first malformed line from 1 at refusal 10; and what was read.
+// The answer's number, 0 where the file was accepted; the detail, the first malformed line from 1 at refusal 10; and
+// what was read.
 #[repr(C)]
 pub struct CloudRead {
     pub answer: u32,
@@ -49,7 +51,10 @@ fn read_points(
     points: &mut [f32],
     normals: &mut [f32],
 ) -> CloudRead
-    ensures { λ r. ⌜ Answered (judged (length (now (points .entry))) (length (now (normals .entry))) (under radius (body (drop from (now (bytes .entry)))))) (now (points .entry)) (now (normals .entry)) r (now (points .exit)) (now (normals .exit)) ⌝ }
+    ensures { λ r. ⌜ Answered
+        (judged (length (now (points .entry))) (length (now (normals .entry)))
+        (under radius (body (drop from (now (bytes .entry)))))) (now (points .entry)) (now (normals .entry)) r
+        (now (points .exit)) (now (normals .exit)) ⌝ }
 {
     match count_points(bytes, from) {
         Counted::Malformed { line } => refused(answers::LINE, line + 1),
@@ -72,7 +77,9 @@ fn read_points(
 }
 
 pub fn read_cloud(bytes: &[u8], points: &mut [f32], normals: &mut [f32]) -> CloudRead
-    ensures { λ r. ⌜ Answered (outcome (now (bytes .entry)) (length (now (points .entry))) (length (now (normals .entry)))) (now (points .entry)) (now (normals .entry)) r (now (points .exit)) (now (normals .exit)) ⌝ }
+    ensures { λ r. ⌜ Answered
+        (outcome (now (bytes .entry)) (length (now (points .entry))) (length (now (normals .entry))))
+        (now (points .entry)) (now (normals .entry)) r (now (points .exit)) (now (normals .exit)) ⌝ }
 {
     match radius_at(bytes, 0) {
         NumberRead::Number { value, next } => read_points(bytes, next, value, points, normals),

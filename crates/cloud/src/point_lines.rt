@@ -1,4 +1,5 @@
-// The points' lines: counted first, with no number worked out, and stored once it is known that all are well formed and fit.
+// The points' lines: counted first, with no number worked out, and stored once it is known that all are well formed and
+// fit.
 ghost use mathlib.Core.Path.{_≡_};
 ghost use mathlib.Core.List.{_++_};
 ghost use Prim.Native.Nat.{_+_, _≤_};
@@ -46,7 +47,9 @@ fn put(d: &mut [f32], at: usize, t: Triple)
 // Both slices hold the points' numbers in front; what lies past them stays.
 pub fn store_points(s: &[u8], from: usize, points: &mut [f32], normals: &mut [f32])
     requires { ⌜ Fitting (now s) from (now points) (now normals) ⌝ }
-    ensures { λ _. ⌜ (now (points .exit) ≡ laid (λ p. p .position) (body (drop from (now (s .entry)))) (now (points .entry))) × (now (normals .exit) ≡ laid (λ p. p .normal) (body (drop from (now (s .entry)))) (now (normals .entry))) ⌝ }
+    ensures { λ _. ⌜ (now (points .exit)
+        ≡ laid (λ p. p .position) (body (drop from (now (s .entry)))) (now (points .entry)))
+        × (now (normals .exit) ≡ laid (λ p. p .normal) (body (drop from (now (s .entry)))) (now (normals .entry))) ⌝ }
 {
     let mut at = from;
     let mut i: usize = 0;

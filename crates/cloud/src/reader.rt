@@ -1,6 +1,7 @@
 // A reader of the points' lines: it holds the file's bytes and remembers how far it has read.
 //
-// `next_line` takes it apart, leaves the work to `step_at`, which takes a slice and a place, and hands it back moved on.
+// `next_line` takes it apart, leaves the work to `step_at`, which takes a slice and a place, and hands it back moved
+// on.
 // A caller with a plain slice uses `line_of`.
 ghost use mathlib.Core.Path.{_≡_};
 ghost use Rattle.cloud.specs.Reading.{Stepped};
@@ -48,7 +49,8 @@ fn step_at(s: &[u8], at: usize) -> Step
 
 // The point's line at the reader's place.
 pub fn next_line<'a>(r: Reader<'a>) -> Moved<'a>
-    ensures { λ m. ⌜ (m .reader .src ≡ r .entry .src) × Stepped (now (r .entry .src)) (r .entry .at) (m .read) (m .reader .at) ⌝ }
+    ensures { λ m. ⌜ (m .reader .src ≡ r .entry .src)
+        × Stepped (now (r .entry .src)) (r .entry .at) (m .read) (m .reader .at) ⌝ }
 {
     let step = step_at(r.src, r.at);
     Moved {

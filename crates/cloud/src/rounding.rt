@@ -1,4 +1,5 @@
-// The f32 of a decimal: the whole number that all its digits write, over a power of ten, rounded once to the nearest f32.
+// The f32 of a decimal: the whole number that all its digits write, over a power of ten, rounded once to the nearest
+// f32.
 ghost use mathlib.Core.Path.{_≡_};
 ghost use mathlib.Core.Bool.{not, true, false};
 ghost use mathlib.Core.Logic.{_≢_};
@@ -36,7 +37,8 @@ fn nearest_quotient(n: u64, d: u64) -> u64
     if n % d * 2 < d { q } else { q + 1 }
 }
 
-// The bit pattern of m / d: doubled until it has 24 digits before the point, rounded to a whole number, with the exponent put before the digits.
+// The bit pattern of m / d: doubled until it has 24 digits before the point, rounded to a whole number, with the
+// exponent put before the digits.
 fn doubled_bits(m: u64, d: u64) -> u32
     requires { ⌜ (0 < m) × Tenths m d ⌝ }
     ensures { λ r. ⌜ (ofBits binary32 r ≡ round binary32 false m d) × T (not (nanBits binary32 r)) ⌝ }

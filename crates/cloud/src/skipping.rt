@@ -1,4 +1,5 @@
-// The same grammar with no value worked out: the place behind a number, a field or a point's line, and 0 where it is malformed.
+// The same grammar with no value worked out: the place behind a number, a field or a point's line, and 0 where it is
+// malformed.
 ghost use mathlib.Core.Path.{_≡_};
 ghost use mathlib.Core.Bool.{Bool, cond};
 ghost use Prim.Native.Nat.{ℕ, _+_, _<_};
@@ -14,7 +15,8 @@ use crate::number::is_few;
 
 // 1 to most digits.
 fn skip_digits(s: &[u8], at: usize, most: usize) -> usize
-    ensures { λ r. ⌜ r ≡ cond (few (digits (drop at (now (s .entry)))) most) (at + digits (drop at (now (s .entry)))) 0 ⌝ }
+    ensures { λ r. ⌜ r ≡ cond (few (digits (drop at (now (s .entry)))) most) (at + digits (drop at (now (s .entry))))
+        0 ⌝ }
 {
     let end = digits_end(s, at);
     if is_few(end - at, most) { end } else { 0 }
@@ -23,7 +25,8 @@ fn skip_digits(s: &[u8], at: usize, most: usize) -> usize
 // What follows a whole part.
 fn skip_fraction(s: &[u8], at: usize) -> usize
     requires { ⌜ 0 < at ⌝ }
-    ensures { λ r. ⌜ ((negative : Bool) (units : ℕ) → skipMeans (now (s .entry)) r ≡ bare (fraction negative units (drop at (now (s .entry))))) ⌝ }
+    ensures { λ r. ⌜ ((negative : Bool) (units : ℕ)
+        → skipMeans (now (s .entry)) r ≡ bare (fraction negative units (drop at (now (s .entry))))) ⌝ }
 {
     if byte_is(s, at, b'.') {
         skip_digits(s, at + 1, 6)
@@ -34,7 +37,8 @@ fn skip_fraction(s: &[u8], at: usize) -> usize
 
 // A number without its sign.
 fn skip_magnitude(s: &[u8], at: usize) -> usize
-    ensures { λ r. ⌜ ((negative : Bool) → skipMeans (now (s .entry)) r ≡ bare (magnitude negative (drop at (now (s .entry))))) ⌝ }
+    ensures { λ r. ⌜ ((negative : Bool)
+        → skipMeans (now (s .entry)) r ≡ bare (magnitude negative (drop at (now (s .entry))))) ⌝ }
 {
     let end = skip_digits(s, at, 5);
     if end == 0 { 0 } else { skip_fraction(s, end) }

@@ -1,4 +1,5 @@
-// Reads literal inputs and writes each answer: its number, detail and count, and the bits of the radius, of the points and of the normals.
+// Reads literal inputs and writes each answer: its number, detail and count, and the bits of the radius, of the points
+// and of the normals.
 // A slot that was not written keeps 41100000, the bits of 9.
 
 fn bits_of(x: f32) -> u32 {

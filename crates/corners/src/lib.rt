@@ -8,7 +8,9 @@ ghost use Rattle.corners.specs.Corners.{headsAt, headsEnd, faceIn, Links
 
 // Links the corners of `count` faces over n points, whose heads are zeros.
 pub fn link_corners(n: usize, count: usize, words: &mut [u32])
-    requires { ⌜ (n ≤ 4096) × (count ≤ n) × (headsEnd n ≤ length (now words)) × ((s : ℕ) → s < 3 * count → getD (now words) s 0 < n) × ((x : ℕ) → x < n → getD (now words) (headsAt n + x) 0 ≡ 0) ⌝ }
+    requires { ⌜ (n ≤ 4096) × (count ≤ n) × (headsEnd n ≤ length (now words))
+        × ((s : ℕ) → s < 3 * count → getD (now words) s 0 < n)
+        × ((x : ℕ) → x < n → getD (now words) (headsAt n + x) 0 ≡ 0) ⌝ }
     ensures { λ _. ⌜ Links n (3 * count) (now (words .entry)) (now (words .exit)) ⌝ }
 {
     let mut s: usize = 0;

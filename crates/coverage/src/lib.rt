@@ -8,7 +8,8 @@ ghost use Rattle.lists.specs.Lists.{count};
 
 // Marks a point, if it has an entry. The answer is 1 if it was not marked before, else 0.
 fn mark_point(reached: &mut [u32], point: usize) -> usize
-    ensures { λ r. ⌜ (r ≤ 1) × (now (reached .exit) ≡ set (now (reached .entry)) point 1) × (count (eqb 1) (now (reached .exit)) ≡ r + count (eqb 1) (now (reached .entry))) ⌝ }
+    ensures { λ r. ⌜ (r ≤ 1) × (now (reached .exit) ≡ set (now (reached .entry)) point 1)
+        × (count (eqb 1) (now (reached .exit)) ≡ r + count (eqb 1) (now (reached .entry))) ⌝ }
 {
     if point < reached.len() {
         if reached[point] != 1 {

@@ -1,4 +1,5 @@
-// What the floats decide of points by their numbers: which are near enough to each other, which triangles are acceptable, and how good they are.
+// What the floats decide of points by their numbers: which are near enough to each other, which triangles are
+// acceptable, and how good they are.
 use grid::SpatialGrid;
 use quality::Shape;
 use quality::TriangleQuality;
@@ -9,7 +10,8 @@ ghost use Prim.Native.Nat.{_*_, _<_, _+_};
 ghost use lib.ListN.{length};
 ghost use Rattle.quality.specs.Shape.{qualityOf};
 ghost use Rattle.patch.specs.Lay.{edge};
-ghost use Rattle.decisions.specs.Decisions.{apart, isClose, qualityAt, accepts, completes, halfway, middle, pivotable};
+ghost use Rattle.decisions.specs.Decisions.{apart, isClose, qualityAt, accepts, completes, halfway, middle};
+ghost use Rattle.decisions.specs.Decisions.{pivotable};
 ghost use Rattle.decisions.specs.Found.{scoreFound, atLeast, areaAt, acceptedScore, ShapeRefused};
 
 // What the decisions go by: the number of points, the index and whether it is used, and the thresholds of the settings.
@@ -46,7 +48,8 @@ pub fn is_close(points: &[f32], radius: f32, i: usize, j: usize) -> bool
 
 // The area of the triangle of points i, j and k.
 fn area_at(points: &[f32], i: usize, j: usize, k: usize) -> f32
-    requires { ⌜ (3 * i + 2 < length (now points)) × (3 * j + 2 < length (now points)) × (3 * k + 2 < length (now points)) ⌝ }
+    requires { ⌜ (3 * i + 2 < length (now points)) × (3 * j + 2 < length (now points))
+        × (3 * k + 2 < length (now points)) ⌝ }
     ensures { λ r. ⌜ r ≡ areaAt (now (points .entry)) i j k ⌝ }
 {
     triangle::area_of(
@@ -139,7 +142,8 @@ fn is_accepted_at(
     to_i: f32,
     to_j: f32,
 ) -> bool
-    requires { ⌜ (3 * i + 2 < length (now points)) × (3 * j + 2 < length (now points)) × (3 * k + 2 < length (now points)) × («to_i» ≡ apart (now points) i k) × («to_j» ≡ apart (now points) j k) ⌝ }
+    requires { ⌜ (3 * i + 2 < length (now points)) × (3 * j + 2 < length (now points))
+        × (3 * k + 2 < length (now points)) × («to_i» ≡ apart (now points) i k) × («to_j» ≡ apart (now points) j k) ⌝ }
     ensures { λ r. ⌜ r ≡ accepts s radius (qualityAt (now (points .entry)) i j k) ⌝ }
 {
     let area = area_at(points, i, j, k);
@@ -153,7 +157,8 @@ fn is_accepted_at(
 
 // Whether k is near enough to i and j and makes an acceptable triangle with them.
 pub fn is_completed(s: Scene, points: &[f32], radius: f32, i: usize, j: usize, k: usize) -> bool
-    requires { ⌜ (3 * i + 2 < length (now points)) × (3 * j + 2 < length (now points)) × (3 * k + 2 < length (now points)) ⌝ }
+    requires { ⌜ (3 * i + 2 < length (now points)) × (3 * j + 2 < length (now points))
+        × (3 * k + 2 < length (now points)) ⌝ }
     ensures { λ r. ⌜ r ≡ completes s (now (points .entry)) radius i j k ⌝ }
 {
     let to_i = apart_at(points, i, k);

@@ -30,7 +30,8 @@ pub record AcceptedEstimate (points : List Float) (percentile : Float) (words fl
   pub percentile-inside : percentileInside percentile ≡ true
   pub room : Room (length points / 3) words floats
 
-pub record AcceptedReconstruct (points normals : List Float) (settings : BallPivotingConfig) (words floats : ℕ) : Type 0 where
+pub record AcceptedReconstruct (points normals : List Float) (settings : BallPivotingConfig) (words floats : ℕ)
+    : Type 0 where
   pub cloud : Cloud (length points / 3) points
   pub as-long : length normals ≡ length points
   pub finite : Within largest normals

@@ -19,7 +19,8 @@ pub fn estimate_optimal_radius(
     work_u32: &mut [u32],
     work_f32: &mut [f32],
 ) -> Estimate
-    ensures { λ r. ⌜ Estimated (now (points .entry)) percentile (now («work_u32» .entry)) (now («work_f32» .entry)) r (now («work_u32» .exit)) (now («work_f32» .exit)) ⌝ }
+    ensures { λ r. ⌜ Estimated (now (points .entry)) percentile (now («work_u32» .entry)) (now («work_f32» .entry)) r
+        (now («work_u32» .exit)) (now («work_f32» .exit)) ⌝ }
 {
     let refusal = domain::refusal_of_estimate(points, percentile, work_u32.len(), work_f32.len());
     if refusal.answer != 0 {

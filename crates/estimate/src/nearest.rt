@@ -1,5 +1,7 @@
-// The least distance from a point to another. Squares are compared, and a root is taken only of the least; of the points those near by are looked at, through the spatial hash.
-// How near is a guess, which decides nothing: a least square counts only if it is not above the limit that was looked within.
+// The least distance from a point to another. Squares are compared, and a root is taken only of the least; of the
+// points those near by are looked at, through the spatial hash.
+// How near is a guess, which decides nothing: a least square counts only if it is not above the limit that was looked
+// within.
 use spatial_hash::Hash;
 ghost use mathlib.Core.Path.{_≡_};
 ghost use mathlib.Core.Bool.{false};
@@ -31,8 +33,10 @@ fn lesser(points: &[f32], i: usize, j: usize, s: f32) -> f32
 
 // The least squared distance from point i to another of the `found` points that are listed; infinity if there is none.
 fn least_square(points: &[f32], n: usize, i: usize, w: &[u32], found: usize) -> f32
-    requires { ⌜ (i < n) × (n ≤ 4096) × (found ≤ n) × (3 * n ≤ length (now points)) × (5 * n ≤ length (now w)) × Below n (take found (drop (4 * n) (now w))) ⌝ }
-    ensures { λ r. ⌜ r ≡ leastSquare (now (points .entry)) i (inf false) (take found (drop (4 * n) (now (w .entry)))) ⌝ }
+    requires { ⌜ (i < n) × (n ≤ 4096) × (found ≤ n) × (3 * n ≤ length (now points)) × (5 * n ≤ length (now w))
+        × Below n (take found (drop (4 * n) (now w))) ⌝ }
+    ensures { λ r. ⌜ r
+        ≡ leastSquare (now (points .entry)) i (inf false) (take found (drop (4 * n) (now (w .entry)))) ⌝ }
 {
     let mut s = infinity();
     let mut k: usize = 0;
@@ -69,7 +73,8 @@ pub fn least_distance(
     w: &mut [u32],
 ) -> f32
     requires { ⌜ (i < n) × HashedAll hash (now points) n (now w) ⌝ }
-    ensures { λ r. ⌜ (r ≡ leastDistance (now (points .entry)) n i) × HashedAll hash (now (points .entry)) n (now (w .exit)) ⌝ }
+    ensures { λ r. ⌜ (r ≡ leastDistance (now (points .entry)) n i)
+        × HashedAll hash (now (points .entry)) n (now (w .exit)) ⌝ }
 {
     let everywhere = infinity();
     let mut limit = guess * guess;

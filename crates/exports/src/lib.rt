@@ -183,7 +183,8 @@ pub extern "C" fn yb_estimate_optimal_radius(
     work_u32: &mut [u32],
     work_f32: &mut [f32],
 ) -> Estimate
-    ensures { λ r. ⌜ Estimated (now (points .entry)) percentile (now («work_u32» .entry)) (now («work_f32» .entry)) r (now («work_u32» .exit)) (now («work_f32» .exit)) ⌝ }
+    ensures { λ r. ⌜ Estimated (now (points .entry)) percentile (now («work_u32» .entry)) (now («work_f32» .entry)) r
+        (now («work_u32» .exit)) (now («work_f32» .exit)) ⌝ }
 {
     estimate::estimate_optimal_radius(points, percentile, work_u32, work_f32)
 }
@@ -197,14 +198,17 @@ pub extern "C" fn yb_reconstruct_with_normals(
     words: &mut [u32],
     floats: &mut [f32],
 ) -> Patch
-    ensures { λ r. ⌜ Reconstructs (now (points .entry)) (now (normals .entry)) settings (now (faces .entry)) (now (words .entry)) (now (floats .entry)) r (now (faces .exit)) (now (words .exit)) (now (floats .exit)) ⌝ }
+    ensures { λ r. ⌜ Reconstructs (now (points .entry)) (now (normals .entry)) settings (now (faces .entry))
+        (now (words .entry)) (now (floats .entry)) r (now (faces .exit)) (now (words .exit)) (now (floats .exit)) ⌝ }
 {
     ball_pivoting::reconstruct_with_normals(points, normals, settings, faces, words, floats)
 }
 
 #[no_mangle]
 pub extern "C" fn yb_read_cloud(bytes: &[u8], points: &mut [f32], normals: &mut [f32]) -> CloudRead
-    ensures { λ r. ⌜ Answered (outcome (now (bytes .entry)) (length (now (points .entry))) (length (now (normals .entry)))) (now (points .entry)) (now (normals .entry)) r (now (points .exit)) (now (normals .exit)) ⌝ }
+    ensures { λ r. ⌜ Answered
+        (outcome (now (bytes .entry)) (length (now (points .entry))) (length (now (normals .entry))))
+        (now (points .entry)) (now (normals .entry)) r (now (points .exit)) (now (normals .exit)) ⌝ }
 {
     cloud::read_cloud(bytes, points, normals)
 }
@@ -252,7 +256,8 @@ pub extern "C" fn yb_order_patch(
     words: &mut [u32],
     floats: &mut [f32],
 ) -> Ordered
-    ensures { λ r. ⌜ OrdersPatch (now (bytes .entry)) «point_count» (now (order .entry)) (now (words .entry)) (now (floats .entry)) r (now (order .exit)) (now (words .exit)) (now (floats .exit)) ⌝ }
+    ensures { λ r. ⌜ OrdersPatch (now (bytes .entry)) «point_count» (now (order .entry)) (now (words .entry))
+        (now (floats .entry)) r (now (order .exit)) (now (words .exit)) (now (floats .exit)) ⌝ }
 {
     patch_order::order_patch(bytes, point_count, order, words, floats)
 }
@@ -282,7 +287,8 @@ pub extern "C" fn yb_build_index(
     words: &mut [u32],
     floats: &mut [f32],
 ) -> Indexed
-    ensures { λ r. ⌜ Builds (now (points .entry)) (now (index .entry)) (now (words .entry)) (now (floats .entry)) r (now (index .exit)) (now (words .exit)) (now (floats .exit)) ⌝ }
+    ensures { λ r. ⌜ Builds (now (points .entry)) (now (index .entry)) (now (words .entry)) (now (floats .entry)) r
+        (now (index .exit)) (now (words .exit)) (now (floats .exit)) ⌝ }
 {
     point_index::build_index(points, index, words, floats)
 }
@@ -294,7 +300,8 @@ pub extern "C" fn yb_index_belongs(
     words: &mut [u32],
     floats: &mut [f32],
 ) -> Belongs
-    ensures { λ r. ⌜ Tells (now (points .entry)) (now (index .entry)) (now (words .entry)) (now (floats .entry)) r (now (words .exit)) (now (floats .exit)) ⌝ }
+    ensures { λ r. ⌜ Tells (now (points .entry)) (now (index .entry)) (now (words .entry)) (now (floats .entry)) r
+        (now (words .exit)) (now (floats .exit)) ⌝ }
 {
     point_index::index_belongs(points, index, words, floats)
 }
@@ -309,7 +316,8 @@ pub extern "C" fn yb_nearest_point(
     words: &mut [u32],
     floats: &mut [f32],
 ) -> Nearest
-    ensures { λ r. ⌜ Nears (now (points .entry)) x y z (now (index .entry)) (now (words .entry)) (now (floats .entry)) r (now (words .exit)) (now (floats .exit)) ⌝ }
+    ensures { λ r. ⌜ Nears (now (points .entry)) x y z (now (index .entry)) (now (words .entry)) (now (floats .entry))
+        r (now (words .exit)) (now (floats .exit)) ⌝ }
 {
     nearest_points::nearest_point(points, x, y, z, index, words, floats)
 }
@@ -323,7 +331,8 @@ pub extern "C" fn yb_nearest_points(
     words: &mut [u32],
     floats: &mut [f32],
 ) -> Searched
-    ensures { λ r. ⌜ Searches (now (points .entry)) (now (spots .entry)) (now (index .entry)) (now (found .entry)) (now (words .entry)) (now (floats .entry)) r (now (found .exit)) (now (words .exit)) (now (floats .exit)) ⌝ }
+    ensures { λ r. ⌜ Searches (now (points .entry)) (now (spots .entry)) (now (index .entry)) (now (found .entry))
+        (now (words .entry)) (now (floats .entry)) r (now (found .exit)) (now (words .exit)) (now (floats .exit)) ⌝ }
 {
     nearest_points::nearest_points(points, spots, index, found, words, floats)
 }

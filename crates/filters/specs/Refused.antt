@@ -18,7 +18,8 @@ use Rattle.filters.specs.declared.Limits.{Limits}
 pub record Least (s : Scene) (r m : Float) : Type 0 where
   pub refuses : (p q t : Point3f) → T (lt (area p q t) m) → accepts s r (quality p q t) ≡ false
 
--- limits are those of the settings at a radius: for the least area, the edge factor, twice the radius, and an aspect ratio up to which no score reaches the threshold
+-- limits are those of the settings at a radius: for the least area, the edge factor, twice the radius, and an aspect
+-- ratio up to which no score reaches the threshold
 pub record Limiting (s : Scene) (r : Float) (l : Limits) : Type 0 where
   pub least : Float
   pub leasts : Least s r least
@@ -29,19 +30,22 @@ pub record Limiting (s : Scene) (r : Float) (l : Limits) : Type 0 where
   pub aspects : AspectLimit (s .«quality_threshold») aspect
   pub thins : ThinLimit aspect (l .thin)
 
--- limits refuse the triangle of p, q and t: its area is too small or too large, q and t are too far apart, or it is too thin
+-- limits refuse the triangle of p, q and t: its area is too small or too large, q and t are too far apart, or it is too
+-- thin
 pub data Refused (l : Limits) (p q t : Point3f) : Type 0 where
   small : T (le (crossSquared p q t) (l .small)) → Refused l p q t
   large : T (le (l .large) (crossSquared p q t)) → Refused l p q t
   far : T (lt (l .far) (squared q t)) → Refused l p q t
   thin : AllThin (l .thin) (squared p q) (squared p t) (squared q t) (crossSquared p q t) → Refused l p q t
 
--- limits refuse the triangle of p, q and t whichever of them comes first: q and t are too far apart, or it is refused in each order
+-- limits refuse the triangle of p, q and t whichever of them comes first: q and t are too far apart, or it is refused
+-- in each order
 pub data RefusedThroughout (l : Limits) (p q t : Point3f) : Type 0 where
   distant : T (lt (l .far) (squared q t)) → RefusedThroughout l p q t
   each : Refused l p q t → Refused l q p t → Refused l t p q → RefusedThroughout l p q t
 
--- points that are close at a radius have finite distances, and no triangle has an area large enough and edges short enough
+-- points that are close at a radius have finite distances, and no triangle has an area large enough and edges short
+-- enough
 pub record RefusesAll (s : Scene) (r : Float) : Type 0 where
   pub bounded : T (lt (reach r) (inf false))
   pub long : TooLong r (s .«min_triangle_area») (s .«max_edge_factor»)

@@ -1,4 +1,5 @@
-// What is refused without measuring it: triangles by squares that are too small or too large, and radii at which every triangle is refused.
+// What is refused without measuring it: triangles by squares that are too small or too large, and radii at which every
+// triangle is refused.
 use decisions::Scene;
 use vector::Point3f;
 ghost use mathlib.Core.Path.{_≡_};
@@ -6,7 +7,8 @@ ghost use mathlib.Core.Bool.{true, _&&_};
 ghost use lib.Ieee.{le};
 ghost use Rattle.filters.specs.Refused.{Least, Limiting, Refused, RefusedThroughout, RefusesAll};
 
-// Limits for squares, by which a triangle is refused: of twice the area a least and a largest, of a distance the largest, and one for the aspect ratio.
+// Limits for squares, by which a triangle is refused: of twice the area a least and a largest, of a distance the
+// largest, and one for the aspect ratio.
 pub struct Limits {
     pub small: f32,
     pub large: f32,
@@ -14,7 +16,8 @@ pub struct Limits {
     pub thin: f32,
 }
 
-// An area below which every triangle is refused at a radius: the least one, or what is next to none where edges are limited at all.
+// An area below which every triangle is refused at a radius: the least one, or what is next to none where edges are
+// limited at all.
 fn least_area(s: Scene, radius: f32) -> f32
     ensures { λ m. ⌜ Least s radius m ⌝ }
 {
@@ -75,7 +78,8 @@ fn are_at_least(a: f32, b: f32, c: f32, x: f32) -> bool
     x <= a && (x <= b && x <= c)
 }
 
-// Whether the limits refuse the triangle of three points, whichever of them comes first. Its area depends on that, by rounding: the largest one has to be too thin.
+// Whether the limits refuse the triangle of three points, whichever of them comes first. Its area depends on that, by
+// rounding: the largest one has to be too thin.
 pub fn is_refused_throughout(l: Limits, p: Point3f, q: Point3f, t: Point3f) -> bool
     ensures { λ r. ⌜ (r ≡ true → RefusedThroughout l p q t) ⌝ }
 {

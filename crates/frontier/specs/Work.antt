@@ -40,7 +40,8 @@ pub record Holds (n : ℕ) (lent : List ℕ) (s : State) (c : Counts) (w slice :
 
 -- a function that turns c, w and slice into r, u and back takes the step, from each held state of which `asked` holds
 abbrev pub Takes : ℕ → (State → Type 0) → (State → State) → Counts → List ℕ → List ℕ → Counts → List ℕ → List ℕ → Type 0
-Takes n asked step c w slice r u back = (lent : List ℕ) (s : State) → asked s → Holds n lent s c w slice → Holds n lent (step s) r u back
+Takes n asked step c w slice r u back = (lent : List ℕ) (s : State) → asked s → Holds n lent s c w slice
+    → Holds n lent (step s) r u back
 
 -- the laying begins, with any face slice
 abbrev pub Begins : ℕ → Counts → List ℕ → Type 0
@@ -52,12 +53,14 @@ Clears c r = (n : ℕ) (w slice lent : List ℕ) (s : State) → Holds n lent s 
 
 -- an entry comes out as the order of popping says
 abbrev pub Pops : ℕ → Counts → List ℕ → ℕ → Counts → List ℕ → Type 0
-Pops n c w entry r u = (lent slice : List ℕ) (s : State) (x : Edge) (xs : List Edge) → Holds n lent s c w slice → s .frontier ≡ x ∷ xs
+Pops n c w entry r u = (lent slice : List ℕ) (s : State) (x : Edge) (xs : List Edge) → Holds n lent s c w slice
+    → s .frontier ≡ x ∷ xs
     → (entry ≡ entryOf (s .processed) (heapOf x xs .0)) × Holds n lent (popped (heapOf x xs .1) s) r u slice
 
 -- r tells of an entry's word whether its edge is processed
 abbrev pub Tells : ℕ → Bool → Type 0
-Tells entry r = (processed : List Edge) (e : Edge) → e .v1 < 4096 → e .v2 < 4096 → entry ≡ entryOf processed e → r ≡ any (same e) processed
+Tells entry r = (processed : List Edge) (e : Edge) → e .v1 < 4096 → e .v2 < 4096 → entry ≡ entryOf processed e
+    → r ≡ any (same e) processed
 
 -- ---- what is asked of a state, so that the flags stay right
 
@@ -80,7 +83,8 @@ NoneProcessed s = s .processed ≡ []
 
 -- the step that ends a pivot which met no point changes the counts alone
 abbrev pub Misses : Counts → Counts → Type 0
-Misses c r = (n : ℕ) (w slice lent : List ℕ) (e : Edge) (s : State) → Alone e s → Holds n lent s c w slice → Holds n lent (pivoted e s) r w slice
+Misses c r = (n : ℕ) (w slice lent : List ℕ) (e : Edge) (s : State) → Alone e s → Holds n lent s c w slice
+    → Holds n lent (pivoted e s) r w slice
 
 -- ---- what is asked of the counts and the slices
 pub record Sized (n : ℕ) (w : List ℕ) : Type 0 where
@@ -136,4 +140,5 @@ pub record Marked (n : ℕ) (ks w u : List ℕ) : Type 0 where
 
 -- the face f goes behind `count` faces
 abbrev pub Wrote : ℕ → Face → List ℕ → List ℕ → Type 0
-Wrote count f slice back = (lent : List ℕ) (fs : List Face) → length fs ≡ count → slice ≡ written fs lent → back ≡ written (fs ++ (f ∷ [])) lent
+Wrote count f slice back = (lent : List ℕ) (fs : List Face) → length fs ≡ count → slice ≡ written fs lent
+    → back ≡ written (fs ++ (f ∷ [])) lent

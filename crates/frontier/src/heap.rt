@@ -7,7 +7,8 @@ ghost use Rattle.patch.specs.Frontier.{sift, afterPop};
 // Puts v into the gap at the top of the first m entries.
 fn sift_down(w: &mut [u32], m: usize, v: u32)
     requires { ⌜ (0 < m) × (m ≤ length (now w)) ⌝ }
-    ensures { λ _. ⌜ (take m (now (w .exit)) ≡ sift 0 m (take m (now (w .entry))) 0 v) × (drop m (now (w .exit)) ≡ drop m (now (w .entry))) ⌝ }
+    ensures { λ _. ⌜ (take m (now (w .exit)) ≡ sift 0 m (take m (now (w .entry))) 0 v)
+        × (drop m (now (w .exit)) ≡ drop m (now (w .entry))) ⌝ }
 {
     let mut p: usize = 0;
     while p + p + 2 < m {
@@ -25,7 +26,9 @@ fn sift_down(w: &mut [u32], m: usize, v: u32)
 // Takes entry 0 of the first m entries out; m - 1 are left.
 pub fn pop(w: &mut [u32], m: usize) -> u32
     requires { ⌜ (0 < m) × (m ≤ length (now w)) ⌝ }
-    ensures { λ r. ⌜ (r ≡ getD (now (w .entry)) 0 0) × (take (m - 1) (now (w .exit)) ≡ afterPop 0 (take m (now (w .entry)))) × (drop m (now (w .exit)) ≡ drop m (now (w .entry))) ⌝ }
+    ensures { λ r. ⌜ (r ≡ getD (now (w .entry)) 0 0)
+        × (take (m - 1) (now (w .exit)) ≡ afterPop 0 (take m (now (w .entry))))
+        × (drop m (now (w .exit)) ≡ drop m (now (w .entry))) ⌝ }
 {
     let top = w[0];
     let left = m - 1;

@@ -1,4 +1,5 @@
-// The frontier and the used points in the lent work slice, and the faces in the lent face slice: the parts of a step of the laying.
+// The frontier and the used points in the lent work slice, and the faces in the lent face slice: the parts of a step of
+// the laying.
 mod heap;
 
 ghost use mathlib.Core.Path.{_≡_};
@@ -8,7 +9,9 @@ ghost use lib.ListN.{replicate};
 ghost use Prim.Native.Nat.{_+_, _*_, _≤_, _<_};
 ghost use Rattle.regions.specs.Regions.{usedAt, frontierAt, frontierEnd, usedIn};
 ghost use Rattle.patch.specs.Lay.{edge, face, met, seeded, pivoted};
-ghost use Rattle.frontier.specs.Work.{flag, wordOf, wordsOf, Takes, Begins, Clears, Pops, Tells, Open, NoneProcessed, Misses, Sized, Ready, Room, OnlyIn, Taken, Pushed, Marked, Wrote};
+ghost use Rattle.frontier.specs.Work.{flag, wordOf, wordsOf, Takes, Begins, Clears, Pops, Tells, Open};
+ghost use Rattle.frontier.specs.Work.{NoneProcessed, Misses, Sized, Ready, Room, OnlyIn, Taken, Pushed, Marked};
+ghost use Rattle.frontier.specs.Work.{Wrote};
 
 // What an entry has above its edge if the edge is processed.
 const FLAG: u32 = 16777216;
@@ -108,7 +111,8 @@ fn push_edge(w: &mut [u32], n: usize, count: usize, mark: u32, a: u32, b: u32)
     w[i] = a * 4096 + b + mark;
 }
 
-// The three edges of the face a, b, k, of which none was processed; `mark` comes above the first: FLAG if it is processed from now on, else 0.
+// The three edges of the face a, b, k, of which none was processed; `mark` comes above the first: FLAG if it is
+// processed from now on, else 0.
 pub fn add_triangle_edges_to_frontier(
     w: &mut [u32],
     n: usize,
@@ -179,7 +183,8 @@ pub fn lay_pivot(
     k: u32,
 ) -> Counts
     requires { ⌜ Room n c (now w) a b k ⌝ }
-    ensures { λ r. ⌜ Takes n (Open (edge a b) k) (λ s. pivoted (edge a b) (met (edge a b) (some k) s)) c (now (w .entry)) (now (faces .entry)) r (now (w .exit)) (now (faces .exit)) ⌝ }
+    ensures { λ r. ⌜ Takes n (Open (edge a b) k) (λ s. pivoted (edge a b) (met (edge a b) (some k) s)) c
+        (now (w .entry)) (now (faces .entry)) r (now (w .exit)) (now (faces .exit)) ⌝ }
     ensures { λ _. ⌜ OnlyIn (usedAt n) (frontierEnd n) (now (w .entry)) (now (w .exit)) ⌝ }
 {
     let count = c.faces;
@@ -205,7 +210,8 @@ pub fn lay_seed(
     k: u32,
 ) -> Counts
     requires { ⌜ Room n c (now w) i j k ⌝ }
-    ensures { λ r. ⌜ Takes n NoneProcessed (seeded (i, j, k)) c (now (w .entry)) (now (faces .entry)) r (now (w .exit)) (now (faces .exit)) ⌝ }
+    ensures { λ r. ⌜ Takes n NoneProcessed (seeded (i, j, k)) c (now (w .entry)) (now (faces .entry)) r (now (w .exit))
+        (now (faces .exit)) ⌝ }
     ensures { λ _. ⌜ OnlyIn (usedAt n) (frontierEnd n) (now (w .entry)) (now (w .exit)) ⌝ }
 {
     let count = c.faces;

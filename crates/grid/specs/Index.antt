@@ -33,7 +33,8 @@ precedesIn w n i j = before (cellIn w n i) (cellIn w n j)
 
 -- point i comes before point j: by cell if there is an index, then by number
 unfoldable pub earlier : Bool → (ℕ → Cell) → ℕ → ℕ → Bool
-earlier indexed cell i j = (indexed && before (cell i) (cell j)) || (not (indexed && before (cell j) (cell i)) && ltb i j)
+earlier indexed cell i j = (indexed && before (cell i) (cell j))
+    || (not (indexed && before (cell j) (cell i)) && ltb i j)
 
 -- those of the points js whose cell lies within the range of a cell; without the index all of them
 unfoldable pub keepIn : Bool → ℕ → Cell → List ℕ → ℕ → List ℕ → List ℕ

@@ -23,7 +23,8 @@ pub fn width_of(n: usize) -> usize
 
 // The nearest point to a spot.
 pub fn nearest_in(points: &[f32], index: &[u32], width: usize, spot: Point3f) -> Best
-    requires { ⌜ Indexed (now points) (now index) × Width (length (now points) / 3) width × (width ≤ 4096) × Finite spot ⌝ }
+    requires { ⌜ Indexed (now points) (now index) × Width (length (now points) / 3) width × (width ≤ 4096)
+        × Finite spot ⌝ }
     ensures { λ r. ⌜ nearOf r ≡ nearest (now (points .entry)) (length (now (points .entry)) / 3) spot ⌝ }
 {
     let n = points.len() / 3;

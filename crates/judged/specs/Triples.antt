@@ -22,7 +22,8 @@ use Rattle.reaching.specs.Triple.{Reaches}
 unfoldable pub isBeside : Scene → List Float → Float → ℕ → ℕ → Bool
 isBeside s pts r i k =
     not (eqb i k)
-    && (inCells (s .indexed) (s .grid) pts (rangeOf (s .grid) (reach r)) (cellAt (s .grid) pts i) k && isClose pts r i k)
+    && (inCells (s .indexed) (s .grid) pts (rangeOf (s .grid) (reach r)) (cellAt (s .grid) pts i) k
+    && isClose pts r i k)
 
 -- and it is another point than j, and close to it
 unfoldable pub isBesideBoth : Scene → List Float → Float → ℕ → ℕ → ℕ → Bool

@@ -1,5 +1,5 @@
-// Whether some triple of the search for a seed comes to the quality test at a radius, where no point is used: asked after a
-// search that found nothing, without its order and its filters.
+// Whether some triple of the search for a seed comes to the quality test at a radius, where no point is used: asked
+// after a search that found nothing, without its order and its filters.
 use decisions::Scene;
 use nearby::Filter;
 use spatial_hash::Hash;
@@ -116,7 +116,8 @@ fn find_second(
     i: usize,
 ) -> bool
     requires { ⌜ Around s (now points) (now w) radius f i × Listed s (now w) count ⌝ }
-    ensures { λ r. ⌜ r ≡ any (hasThird s (now (points .entry)) radius (listed s (now (w .entry)) count) i) (listed s (now (w .entry)) count) ⌝ }
+    ensures { λ r. ⌜ r ≡ any (hasThird s (now (points .entry)) radius (listed s (now (w .entry)) count) i)
+        (listed s (now (w .entry)) count) ⌝ }
 {
     let at = 4 * s.n;
     let mut m: usize = 0;

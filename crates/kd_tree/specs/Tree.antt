@@ -1,8 +1,9 @@
 -- The k-d tree of a cloud, as the index holds it: an order of the point numbers, and the boxes. Definitions only.
 --
--- The tree is not stored; lengths tell it. A part of m > 8 numbers of the order has its first m / 2 as its first part and the
--- others as its second, and a part of at most 8 is a leaf; the whole order is the root. Boxes are in preorder, one of six
--- coordinates for each part, so the part whose box is number b has its parts' boxes at b + 1 and b + 1 + boxCount (m / 2).
+-- The tree is not stored; lengths tell it. A part of m > 8 numbers of the order has its first m / 2 as its first part
+-- and the others as its second, and a part of at most 8 is a leaf; the whole order is the root. Boxes are in preorder,
+-- one of six coordinates for each part, so the part whose box is number b has its parts' boxes at b + 1 and b + 1 +
+-- boxCount (m / 2).
 use mathlib.Core.Bool.{Bool, true, false, _&&_}
 use mathlib.Core.List.{List, [], _∷_, _++_, map}
 use Prim.Native.Nat.{ℕ, zero, suc, _+_, _-_, _*_, _/_}
@@ -30,7 +31,8 @@ split points xs = halving leafSize (λ l. l) (λ _ a b. a ++ b) (along points) (
 -- the boxes, each before those of its parts and the first part's first
 unfoldable pub boxesOf : List Float → List ℕ → List Float
 boxesOf points xs =
-    halving leafSize (λ l. corners (boxOf points l)) (λ l a b. corners (boxOf points l) ++ (a ++ b)) (along points) (length xs) xs
+    halving leafSize (λ l. corners (boxOf points l)) (λ l a b. corners (boxOf points l) ++ (a ++ b)) (along points)
+    (length xs) xs
 
 -- how many boxes a part of m points has, its own and its parts'
 unfoldable pub boxCountTo : ℕ → ℕ → ℕ

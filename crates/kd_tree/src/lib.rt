@@ -6,7 +6,8 @@ ghost use Prim.Native.Nat.{_+_, _*_, _≤_, _<_};
 ghost use lib.ListN.{length};
 ghost use Rattle.axis_sort.specs.Axis.{coordinateOf};
 ghost use Rattle.axis_sort.specs.Small.{Small};
-ghost use Rattle.kd_tree.specs.Boxes.{lesser, greater, lowest, highest, plusZero, least, greatest, boxOf, corners, longest};
+ghost use Rattle.kd_tree.specs.Boxes.{lesser, greater, lowest, highest, plusZero, least, greatest, boxOf};
+ghost use Rattle.kd_tree.specs.Boxes.{corners, longest};
 ghost use Rattle.kd_tree.specs.Tree.{boxCount};
 ghost use Rattle.kd_tree.specs.Written.{Written, Splits};
 
@@ -137,8 +138,10 @@ fn put_box(boxes: &mut [f32], at: usize, b: Bounds)
 // Splits a list of point numbers until eight or fewer are left in each part, and writes the boxes from `at` on; answers
 // where they end. What lies behind the boxes is work.
 pub fn split(points: &[f32], order: &mut [u32], boxes: &mut [f32], at: usize) -> usize
-    requires { ⌜ (0 < length (now order)) × (at + 6 * boxCount (length (now order)) + length (now order) ≤ length (now boxes)) × Small (now order) ⌝ }
-    ensures { λ r. ⌜ Splits (now (points .entry)) (now (order .entry)) (now (order .exit)) (now (boxes .entry)) (now (boxes .exit)) at r ⌝ }
+    requires { ⌜ (0 < length (now order))
+        × (at + 6 * boxCount (length (now order)) + length (now order) ≤ length (now boxes)) × Small (now order) ⌝ }
+    ensures { λ r. ⌜ Splits (now (points .entry)) (now (order .entry)) (now (order .exit)) (now (boxes .entry))
+        (now (boxes .exit)) at r ⌝ }
 {
     let n = order.len();
     let b = box_of(points, order);

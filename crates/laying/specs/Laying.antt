@@ -1,4 +1,5 @@
--- What the laying asks of the lent slices and the counts, and what each of its parts does to the state that they hold. Definitions only.
+-- What the laying asks of the lent slices and the counts, and what each of its parts does to the state that they hold.
+-- Definitions only.
 use Prim.Native.Nat.{ℕ, _<_}
 use mathlib.Core.Path.{_≡_}
 use mathlib.Core.Bool.{false}
@@ -36,7 +37,8 @@ pub record Searchable (s : Scene) (hash : Hash) (pts : List Float) (w : List ℕ
   pub indexed : Indexed (s .grid) pts (s .n) w
   pub hashed : Hashed hash pts (s .n) w
 
--- the points ks were taken out of the hash, and nobody else; only words from `linksAt` on were changed: w before, u after
+-- the points ks were taken out of the hash, and nobody else; only words from `linksAt` on were changed: w before, u
+-- after
 pub record Without (hash : Hash) (pts : List Float) (n : ℕ) (ks w u : List ℕ) : Type 0 where
   pub linked : Linked hash pts n u
   pub others : (j : ℕ) → j < n → count (eqb j) ks ≡ 0 → isOut n (linksOf n u) j ≡ isOut n (linksOf n w) j
@@ -56,8 +58,10 @@ pivotOver s pts r e t = pivoted e (met e (rulesOf s pts .pivotOf r (t .used) e) 
 abbrev pub looked : Scene → List Float → Float → State → State
 looked s pts r t = next (rulesOf s pts) heapOf r (t .frontier) t
 
--- a function that turns c, w and slice into r, u and back takes the step, from each held state of which `asked` holds, and leaves the index and the hash right
-pub record Lays (s : Scene) (hash : Hash) (pts : List Float) (asked : State → Type 0) (step : State → State) (c : Counts) (w slice : List ℕ) (r : Counts) (u back : List ℕ) : Type 0 where
+-- a function that turns c, w and slice into r, u and back takes the step, from each held state of which `asked` holds,
+-- and leaves the index and the hash right
+pub record Lays (s : Scene) (hash : Hash) (pts : List Float) (asked : State → Type 0) (step : State
+    → State) (c : Counts) (w slice : List ℕ) (r : Counts) (u back : List ℕ) : Type 0 where
   pub takes : Takes (s .n) asked step c w slice r u back
   pub searchable : Searchable s hash pts u
   pub length-same : length u ≡ length w
@@ -90,7 +94,8 @@ pub record BetweenRadii (s : Scene) (hash : Hash) (pts : List Float) (c : Counts
   pub holds : Holds (s .n) lent state c w slice
 
 -- within a look, before the pivot over e
-pub record Pivoting (s : Scene) (hash : Hash) (pts : List Float) (c : Counts) (w slice : List ℕ) (e : Edge) : Type 0 where
+pub record Pivoting (s : Scene) (hash : Hash) (pts : List Float) (c : Counts) (w slice : List ℕ) (e : Edge)
+    : Type 0 where
   pub searchable : Searchable s hash pts w
   pub lent : List ℕ
   pub state : State

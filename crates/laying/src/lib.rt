@@ -14,7 +14,8 @@ ghost use Rattle.patch.specs.Invariant.{Inv, Rest};
 ghost use mathlib.Core.Option.{none};
 ghost use Rattle.nearby.specs.Ready.{usedIn};
 ghost use Rattle.frontier.specs.Work.{Holds};
-ghost use Rattle.laying.specs.Laying.{AllSearchable, Searchable, rulesOf, pivotOver, looked, Lays, Opened, Pivoting, BetweenLooks, BetweenRadii, Without};
+ghost use Rattle.laying.specs.Laying.{AllSearchable, Searchable, rulesOf, pivotOver, looked, Lays, Opened};
+ghost use Rattle.laying.specs.Laying.{Pivoting, BetweenLooks, BetweenRadii, Without};
 ghost use Rattle.spatial_hash.specs.Near.{Linked};
 ghost use mathlib.Core.List.{[], _∷_};
 
@@ -31,7 +32,9 @@ fn pivot_over(
     hash: Hash,
 ) -> Counts
     requires { ⌜ Pivoting s hash (now points) c (now w) (now faces) (edge a b) ⌝ }
-    ensures { λ r. ⌜ Lays s hash (now (points .entry)) (Opened (s .n) (edge a b)) (pivotOver s (now (points .entry)) radius (edge a b)) c (now (w .entry)) (now (faces .entry)) r (now (w .exit)) (now (faces .exit)) ⌝ }
+    ensures { λ r. ⌜ Lays s hash (now (points .entry)) (Opened (s .n) (edge a b))
+        (pivotOver s (now (points .entry)) radius (edge a b)) c (now (w .entry)) (now (faces .entry)) r (now (w .exit))
+        (now (faces .exit)) ⌝ }
 {
     let found = pivot::try_ball_pivot(s, points, w, radius, a as usize, b as usize, hash);
     match found {
@@ -54,7 +57,8 @@ fn look(
     hash: Hash,
 ) -> Counts
     requires { ⌜ BetweenLooks s hash (now points) c (now w) (now faces) × (0 < c .frontier) ⌝ }
-    ensures { λ r. ⌜ Lays s hash (now (points .entry)) (Inv (s .n)) (looked s (now (points .entry)) radius) c (now (w .entry)) (now (faces .entry)) r (now (w .exit)) (now (faces .exit)) ⌝ }
+    ensures { λ r. ⌜ Lays s hash (now (points .entry)) (Inv (s .n)) (looked s (now (points .entry)) radius) c
+        (now (w .entry)) (now (faces .entry)) r (now (w .exit)) (now (faces .exit)) ⌝ }
 {
     let top = frontier::pop(w, s.n, c);
     let left = top.counts;
@@ -77,7 +81,9 @@ fn run(
     hash: Hash,
 ) -> Counts
     requires { ⌜ BetweenLooks s hash (now points) start (now w) (now faces) ⌝ }
-    ensures { λ r. ⌜ Lays s hash (now (points .entry)) (Inv (s .n)) (run (rulesOf s (now (points .entry))) heapOf radius (3 * s .n)) start (now (w .entry)) (now (faces .entry)) r (now (w .exit)) (now (faces .exit)) ⌝ }
+    ensures { λ r. ⌜ Lays s hash (now (points .entry)) (Inv (s .n))
+        (run (rulesOf s (now (points .entry))) heapOf radius (3 * s .n)) start (now (w .entry)) (now (faces .entry)) r
+        (now (w .exit)) (now (faces .exit)) ⌝ }
 {
     let mut c = start;
     while 0 < c.frontier {
@@ -113,8 +119,11 @@ fn lay_one(
     hash: Hash,
     known: bool,
 ) -> Laid
-    requires { ⌜ BetweenRadii s hash (now points) before (now w) (now faces) × (known ≡ true → rulesOf s (now points) .seedOf radius (usedIn s (now w)) ≡ none) ⌝ }
-    ensures { λ r. ⌜ Lays s hash (now (points .entry)) (Rest (s .n)) (layOne (rulesOf s (now (points .entry))) heapOf (s .n) radius) before (now (w .entry)) (now (faces .entry)) (r .counts) (now (w .exit)) (now (faces .exit))
+    requires { ⌜ BetweenRadii s hash (now points) before (now w) (now faces)
+        × (known ≡ true → rulesOf s (now points) .seedOf radius (usedIn s (now w)) ≡ none) ⌝ }
+    ensures { λ r. ⌜ Lays s hash (now (points .entry)) (Rest (s .n))
+        (layOne (rulesOf s (now (points .entry))) heapOf (s .n) radius) before (now (w .entry)) (now (faces .entry))
+        (r .counts) (now (w .exit)) (now (faces .exit))
         × (known ≡ true → usedIn s (now (w .exit)) ≡ usedIn s (now (w .entry))) ⌝ }
 {
     let c = frontier::clear(before);
@@ -158,7 +167,8 @@ pub fn advanced_ball_pivoting(
     hash: Hash,
 ) -> Counts
     requires { ⌜ AllSearchable s hash (now points) (now w) × (count ≤ 17) ⌝ }
-    ensures { λ r. ⌜ Holds (s .n) (now (faces .entry)) (patch (rulesOf s (now (points .entry))) heapOf (s .n) (take count radii)) r (now (w .exit)) (now (faces .exit))
+    ensures { λ r. ⌜ Holds (s .n) (now (faces .entry))
+        (patch (rulesOf s (now (points .entry))) heapOf (s .n) (take count radii)) r (now (w .exit)) (now (faces .exit))
         × Searchable s hash (now (points .entry)) (now (w .exit)) ⌝ }
 {
     let flat = seed::flat::is_flat(s, points);

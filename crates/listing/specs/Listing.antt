@@ -36,16 +36,19 @@ faceLine i a b c = field i 44 ++ field a 44 ++ field b 44 ++ field c 10
 unfoldable pub faceLines : List ℕ → ℕ → ℕ → List ℕ
 unfolding faceLine
 faceLines fs i zero = []
-faceLines fs i (suc n) = faceLine i (getD fs (3 * i) 0) (getD fs (3 * i + 1) 0) (getD fs (3 * i + 2) 0) ++ faceLines fs (i + 1) n
+faceLines fs i (suc n) = faceLine i (getD fs (3 * i) 0) (getD fs (3 * i + 1) 0) (getD fs (3 * i + 2) 0)
+    ++ faceLines fs (i + 1) n
 
 unfoldable pub countsLine : Counts → List ℕ
 unfolding field
-countsLine c = field (c .points) 44 ++ field (c .faces) 44 ++ field (c .seeds) 44 ++ field (c .looks) 44 ++ field (c .pivots) 10
+countsLine c = field (c .points) 44 ++ field (c .faces) 44 ++ field (c .seeds) 44 ++ field (c .looks) 44
+    ++ field (c .pivots) 10
 
 -- the whole listing
 unfoldable pub listing : Counts → List ℕ → List ℕ
 unfolding text countsLine faceLines
-listing c fs = text "points,faces,seeds,looks,pivots\n" ++ countsLine c ++ text "face,a,b,c\n" ++ faceLines fs 0 (c .faces)
+listing c fs =
+    text "points,faces,seeds,looks,pivots\n" ++ countsLine c ++ text "face,a,b,c\n" ++ faceLines fs 0 (c .faces)
 
 -- a refusal
 unfoldable pub refusal : ℕ → ℕ → List ℕ

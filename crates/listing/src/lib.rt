@@ -1,6 +1,7 @@
 // Writes what the program prints into a lent buffer: the listing of a patch, or a refusal.
 //
-// The text is the definition `listing`, or `refusal`, of specs/Listing.antt. It is written whole or, where the buffer is too short, not at all.
+// The text is the definition `listing`, or `refusal`, of specs/Listing.antt. It is written whole or, where the buffer
+// is too short, not at all.
 mod put;
 mod rows;
 
@@ -37,7 +38,8 @@ fn put_listing(counts: Counts, faces: &[u32], out: &mut [u8]) -> usize
 
 // The number of bytes written, 0 where the listing does not fit or there are fewer faces than counted.
 pub fn write_listing(counts: Counts, faces: &[u32], out: &mut [u8]) -> usize
-    ensures { λ r. ⌜ (r ≡ written (listed counts (now (faces .entry))) (now (out .entry))) × (now (out .exit) ≡ filled (listed counts (now (faces .entry))) (now (out .entry))) ⌝ }
+    ensures { λ r. ⌜ (r ≡ written (listed counts (now (faces .entry))) (now (out .entry)))
+        × (now (out .exit) ≡ filled (listed counts (now (faces .entry))) (now (out .entry))) ⌝ }
 {
     if faces.len() / 3 < counts.faces as usize {
         return 0;
@@ -60,7 +62,8 @@ fn put_refusal(answer: u32, detail: usize, out: &mut [u8]) -> usize
 
 // The number of bytes written, 0 where the line does not fit.
 pub fn write_refusal(answer: u32, detail: usize, out: &mut [u8]) -> usize
-    ensures { λ r. ⌜ (r ≡ written (refusal answer detail) (now (out .entry))) × (now (out .exit) ≡ filled (refusal answer detail) (now (out .entry))) ⌝ }
+    ensures { λ r. ⌜ (r ≡ written (refusal answer detail) (now (out .entry)))
+        × (now (out .exit) ≡ filled (refusal answer detail) (now (out .entry))) ⌝ }
 {
     let mut scratch = [0u8; 1];
     let n = put_refusal(answer, detail, &mut scratch);

@@ -31,7 +31,8 @@ pub fn renew(base: usize, count: usize, words: &mut [u32], element: usize, value
 fn set_leaves(base: usize, count: usize, words: &mut [u32])
     requires { ⌜ (count ≤ 4096) × (base + 2 * count ≤ length (now words)) ⌝ }
     ensures { λ _. ⌜ ((g : ℕ) → g < count → leaf base count (now (words .exit)) g ≡ count + g) ⌝ }
-    ensures { λ _. ⌜ ((k : ℕ) → (k < base + count) ⊎ (base + 2 * count ≤ k) → getD (now (words .exit)) k 0 ≡ getD (now (words .entry)) k 0) ⌝ }
+    ensures { λ _. ⌜ ((k : ℕ) → (k < base + count) ⊎ (base + 2 * count ≤ k)
+        → getD (now (words .exit)) k 0 ≡ getD (now (words .entry)) k 0) ⌝ }
 {
     let mut g: usize = 0;
     while g < count {
@@ -44,7 +45,8 @@ fn set_leaves(base: usize, count: usize, words: &mut [u32])
 fn set_nodes(base: usize, count: usize, words: &mut [u32])
     requires { ⌜ base + 2 * count ≤ length (now words) ⌝ }
     ensures { λ _. ⌜ Nodes base count (now (words .exit)) ⌝ }
-    ensures { λ _. ⌜ ((k : ℕ) → (k < base) ⊎ (base + count ≤ k) → getD (now (words .exit)) k 0 ≡ getD (now (words .entry)) k 0) ⌝ }
+    ensures { λ _. ⌜ ((k : ℕ) → (k < base) ⊎ (base + count ≤ k)
+        → getD (now (words .exit)) k 0 ≡ getD (now (words .entry)) k 0) ⌝ }
 {
     let mut k: usize = count;
     while 1 < k {

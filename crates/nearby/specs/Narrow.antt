@@ -39,9 +39,11 @@ inCells indexed g pts range c k = not indexed || inRange range c (cellAt g pts k
 
 -- point k is as a filter asks
 unfoldable pub passes : Scene → List Float → List ℕ → Filter → ℕ → Bool
-passes s pts used f k = inReach pts used (f .center) (f .limit) k && inCells (s .indexed) (s .grid) pts (f .range) (f .cell) k
+passes s pts used f k = inReach pts used (f .center) (f .limit) k
+    && inCells (s .indexed) (s .grid) pts (f .range) (f .cell) k
 
--- js are those of the points ks that are unused and within some limit of point a, and whoever is beyond it is farther than r from a
+-- js are those of the points ks that are unused and within some limit of point a, and whoever is beyond it is farther
+-- than r from a
 pub record Nearby (pts : List Float) (used : List ℕ) (a : ℕ) (r : Float) (ks js : List ℕ) : Type 0 where
   pub limit : Float
   pub limits : Limit r limit
@@ -61,17 +63,20 @@ pub record Collected (s : Scene) (pts : List Float) (f : Filter) (q : Point3f) (
   pub most : r ≤ s .n
   pub below : Below (s .n) (listed s u r)
   pub once : (k : ℕ) → count (eqb k) (listed s u r) ≤ 1
-  pub complete : (k : ℕ) → k < s .n → unused (usedIn s w) k ≡ true → isWithin pts (f .center) (f .limit) k ≡ true → isWithin pts q (f .limit) k ≡ true → 1 ≤ count (eqb k) (listed s u r)
+  pub complete : (k : ℕ) → k < s .n → unused (usedIn s w) k ≡ true → isWithin pts (f .center) (f .limit) k ≡ true
+      → isWithin pts q (f .limit) k ≡ true → 1 ≤ count (eqb k) (listed s u r)
   pub kept : Kept s w u
 
 -- of the `found` points r are left, those that pass, inserted in turn
 pub record Narrowed (s : Scene) (pts : List Float) (f : Filter) (w u : List ℕ) (found r : ℕ) : Type 0 where
   pub most : r ≤ found
-  pub same : listed s u r ≡ insertAll (earlier (s .indexed) (cellAt (s .grid) pts)) (passes s pts (usedIn s w) f) [] (listed s w found)
+  pub same : listed s u r ≡ insertAll (earlier (s .indexed) (cellAt (s .grid) pts)) (passes s pts (usedIn s w) f) []
+      (listed s w found)
   pub kept : Kept s w u
 
 -- r neighbours of place q are listed: all but some that are used or farther than the radius from point a
-pub record Sought (s : Scene) (pts : List Float) (w u : List ℕ) (a : ℕ) (q : Point3f) (radius : Float) (r : ℕ) : Type 0 where
+pub record Sought (s : Scene) (pts : List Float) (w u : List ℕ) (a : ℕ) (q : Point3f) (radius : Float) (r : ℕ)
+    : Type 0 where
   pub most : r ≤ s .n
   pub nearby : Nearby pts (usedIn s w) a radius (neighbors (s .indexed) (s .grid) pts (s .n) q radius) (listed s u r)
   pub kept : Kept s w u

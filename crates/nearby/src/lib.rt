@@ -1,4 +1,5 @@
-// The points that a search has to look at: of the neighbours of a place those that are unused and near a point, or near two.
+// The points that a search has to look at: of the neighbours of a place those that are unused and near a point, or near
+// two.
 use decisions::Scene;
 use grid::Cell;
 use spatial_hash::Hash;
@@ -77,7 +78,8 @@ pub fn filter_of(s: Scene, center: Point3f, place: Point3f, radius: f32) -> Filt
     }
 }
 
-// Lists points, all unused ones within the filter's limit among them, and returns how many they are. The reach is a guess at how far they are.
+// Lists points, all unused ones within the filter's limit among them, and returns how many they are. The reach is a
+// guess at how far they are.
 pub fn gather_near(
     s: Scene,
     points: &[f32],
@@ -92,7 +94,8 @@ pub fn gather_near(
     spatial_hash::gather_within(points, w, s.n, hash, f.center, reach, f.limit)
 }
 
-// Lists points, all unused ones within the filter's limit of its center and of q among them, and returns how many they are.
+// Lists points, all unused ones within the filter's limit of its center and of q among them, and returns how many they
+// are.
 pub fn gather_both(
     s: Scene,
     points: &[f32],

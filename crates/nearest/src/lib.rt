@@ -1,4 +1,5 @@
-// The nearest of a list of points, by boxes that hold its halves: a part whose box is strictly farther than the best so far is left out.
+// The nearest of a list of points, by boxes that hold its halves: a part whose box is strictly farther than the best so
+// far is left out.
 use vector::Point3f;
 ghost use mathlib.Core.Path.{_≡_};
 ghost use mathlib.Core.Bool.{not};
@@ -111,7 +112,8 @@ fn boxes_below(width: usize, n: usize) -> usize
     2 * width - 1
 }
 
-// The same as `scan`, but that parts whose box is farther than the best so far are left out, and of two halves the nearer one comes first.
+// The same as `scan`, but that parts whose box is farther than the best so far are left out, and of two halves the
+// nearer one comes first.
 pub fn search(
     points: &[f32],
     spot: Point3f,

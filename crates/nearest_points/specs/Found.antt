@@ -6,7 +6,8 @@ use mathlib.Core.List.{List, [], _∷_, _++_, map}
 use lib.Dec.{leb, ltb, eqb}
 use lib.ListN.{length, drop}
 use lib.Ieee.{Float}
-use Rattle.answers.specs.Answers.{noPoints, wrongLengths, tooManyPoints, outsidePoint, shortWork, shortOutput, foreignIndex}
+use Rattle.answers.specs.Answers.{noPoints, wrongLengths, tooManyPoints, outsidePoint, shortWork, shortOutput}
+use Rattle.answers.specs.Answers.{foreignIndex}
 use Rattle.numbers.specs.Rounded.{f32}
 use Rattle.lists.specs.Lists.{upFrom}
 use Rattle.vector.specs.Vector.{point}
@@ -32,8 +33,8 @@ pub record Answers (r : Searched) (f : Refusal) : Type 0 where
   pub detailed : r .detail ≡ f .detail
 
 -- The checks up to 7, by the lengths of the slices and the first point and the first spot outside the domain:
--- 1 to 3 of the points, 2 also for spots not in threes, 4 of the points, 4 of the spots with the point count added, then 7,
--- work as in the scope or an index of fewer than 8n + 64 numbers.
+-- 1 to 3 of the points, 2 also for spots not in threes, 4 of the points, 4 of the spots with the point count added,
+-- then 7, work as in the scope or an index of fewer than 8n + 64 numbers.
 abbrev pub checksBy : ℕ → ℕ → ℕ → ℕ → ℕ → ℕ → ℕ → List Check
 checksBy points spots bad badSpot index words floats =
     check (ltb 0 points) noPoints 0
@@ -47,7 +48,8 @@ checksBy points spots bad badSpot index words floats =
 unfoldable pub searchRefusal : List Float → List Float → ℕ → ℕ → ℕ → Refusal
 searchRefusal points spots index words floats =
     firstRefusal
-    (checksBy (length points) (length spots) (firstOutside farthest points) (firstOutside farthest spots) index words floats)
+    (checksBy (length points) (length spots) (firstOutside farthest points) (firstOutside farthest spots) index words
+    floats)
 
 -- whether the checks up to 7 pass, for slices of these lengths
 abbrev pub checked : List Float → List Float → ℕ → ℕ → ℕ → Bool
@@ -57,7 +59,8 @@ checked points spots index words floats = eqb (searchRefusal points spots index 
 unfoldable pub nearestRefusal : List Float → List Float → List ℕ → ℕ → ℕ → ℕ → Refusal
 nearestRefusal points spots index words floats found =
     cond (checked points spots (length index) words floats)
-    (firstRefusal (check (leb (length spots / 3) found) shortOutput 0 ∷ check (belongs points index) foreignIndex 0 ∷ []))
+    (firstRefusal (check (leb (length spots / 3) found) shortOutput 0 ∷ check (belongs points index) foreignIndex 0
+    ∷ []))
     (searchRefusal points spots (length index) words floats)
 
 -- the number of the point nearest to spot i
@@ -66,7 +69,8 @@ numberAt points spots i = nearest points (length points / 3) (pointAt spots i) .
 
 -- a point number a spot, in front of what lies past them
 abbrev pub numbersIn : List Float → List Float → List ℕ → List ℕ
-numbersIn points spots found = map (numberAt points spots) (upFrom 0 (length spots / 3)) ++ drop (length spots / 3) found
+numbersIn points spots found = map (numberAt points spots) (upFrom 0 (length spots / 3))
+    ++ drop (length spots / 3) found
 
 -- many spots: what the call answers and leaves
 pub record Searches
@@ -84,7 +88,9 @@ pub record Nears
   pub answered : r .answer ≡ nearestRefusal points (x ∷ y ∷ z ∷ []) index (length words) (length floats) 1 .answer
   pub detailed : r .detail ≡ nearestRefusal points (x ∷ y ∷ z ∷ []) index (length words) (length floats) 1 .detail
   pub point-is : r .point ≡ cond (eqb (r .answer) 0) (nearest points (length points / 3) (point x y z) .number) 0
-  pub distance-is : r .distance ≡ cond (eqb (r .answer) 0) (nearest points (length points / 3) (point x y z) .distance) (f32 0)
-  pub words-left : words' ≡ swept 0 (checked points (x ∷ y ∷ z ∷ []) (length index) (length words) (length floats)) words
+  pub distance-is : r .distance ≡ cond (eqb (r .answer) 0) (nearest points (length points / 3) (point x y z) .distance)
+      (f32 0)
+  pub words-left : words' ≡ swept 0 (checked points (x ∷ y ∷ z ∷ []) (length index) (length words) (length floats))
+      words
   pub floats-left
       : floats' ≡ swept (f32 0) (checked points (x ∷ y ∷ z ∷ []) (length index) (length words) (length floats)) floats

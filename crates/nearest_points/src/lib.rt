@@ -62,7 +62,9 @@ fn refusal_of_search(
     words: usize,
     floats: usize,
 ) -> Searched
-    ensures { λ r. ⌜ Answers r (firstRefusal (checksBy (length (now (points .entry))) spots (firstOutside farthest (now (points .entry))) bad index words floats)) ⌝ }
+    ensures { λ r. ⌜ Answers r
+        (firstRefusal (checksBy (length (now (points .entry))) spots (firstOutside farthest (now (points .entry))) bad
+        index words floats)) ⌝ }
 {
     let size = points.len();
     if size == 0 {
@@ -123,7 +125,8 @@ pub fn nearest_point(
     words: &mut [u32],
     floats: &mut [f32],
 ) -> Nearest
-    ensures { λ r. ⌜ Nears (now (points .entry)) x y z (now (index .entry)) (now (words .entry)) (now (floats .entry)) r (now (words .exit)) (now (floats .exit)) ⌝ }
+    ensures { λ r. ⌜ Nears (now (points .entry)) x y z (now (index .entry)) (now (words .entry)) (now (floats .entry))
+        r (now (words .exit)) (now (floats .exit)) ⌝ }
 {
     let bad = spot_outside(x, y, z);
     let refusal = refusal_of_search(points, 3, bad, index.len(), words.len(), floats.len());
@@ -150,7 +153,8 @@ pub fn nearest_points(
     words: &mut [u32],
     floats: &mut [f32],
 ) -> Searched
-    ensures { λ r. ⌜ Searches (now (points .entry)) (now (spots .entry)) (now (index .entry)) (now (found .entry)) (now (words .entry)) (now (floats .entry)) r (now (found .exit)) (now (words .exit)) (now (floats .exit)) ⌝ }
+    ensures { λ r. ⌜ Searches (now (points .entry)) (now (spots .entry)) (now (index .entry)) (now (found .entry))
+        (now (words .entry)) (now (floats .entry)) r (now (found .exit)) (now (words .exit)) (now (floats .exit)) ⌝ }
 {
     let bad = ranges::first_outside(spots, 10000.0);
     let refusal = refusal_of_search(

@@ -4,7 +4,8 @@ use mathlib.Core.Bool.{cond}
 use lib.Dec.{ltb}
 use lib.Ieee.{Float, nan, inf, fin, up, down, odd, toUnsigned}
 
--- the scope's cutting to a whole number, Rust's `as u32`: without the fraction, held to 0 .. 2 ^ 32 - 1; 0 for a not-a-number.
+-- the scope's cutting to a whole number, Rust's `as u32`: without the fraction, held to 0 .. 2 ^ 32 - 1; 0 for a
+-- not-a-number.
 -- The Rust cuts cells and ranges to an i32 and places to a usize: inside the domain that is the same, see crate `cuts`.
 abbrev pub cut : Float → ℕ
 cut = toUnsigned 32

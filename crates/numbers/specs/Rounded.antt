@@ -1,4 +1,5 @@
--- f32 arithmetic as IEEE 754 has it: each operation exact, then rounded once to the nearest f32, ties to the even one. Definitions only.
+-- f32 arithmetic as IEEE 754 has it: each operation exact, then rounded once to the nearest f32, ties to the even one.
+-- Definitions only.
 use Prim.Native.Nat.{ℕ}
 use lib.Ieee.{Float, binary32, ofBits, add, sub, mul, div}
 

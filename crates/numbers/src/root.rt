@@ -70,7 +70,8 @@ fn nearest_root(n: u64) -> u64
     if s * s + s < n { s + 1 } else { s }
 }
 
-// The bit pattern of the root of q * 2^(k + 23) units of 2^-298. An odd k gives q one more place, so that an even power of two is left.
+// The bit pattern of the root of q * 2^(k + 23) units of 2^-298. An odd k gives q one more place, so that an even power
+// of two is left.
 fn root_of(q: u32, k: u32) -> u32
     requires { ⌜ (2 ^ 23 ≤ q) × (q < 2 ^ 24) × (k < 400) ⌝ }
     ensures { λ r. ⌜ r ≡ k / 2 * 8388608 + nearestRoot (q * 2 ^ (23 + k % 2)) ⌝ }
@@ -82,7 +83,8 @@ fn root_of(q: u32, k: u32) -> u32
 // The number with the pattern b. A subnormal's digits are moved up to be 24.
 fn read_bits(b: u32) -> Scaled
     requires { ⌜ (0 < b) × (b < 0x7f80_0000) ⌝ }
-    ensures { λ r. ⌜ (2 ^ 23 ≤ r .q) × (r .q < 2 ^ 24) × (r .k < 400) × HasValue (ofBits binary32 b) false (r .q * 2 ^ (r .k + 23)) (2 ^ 298) ⌝ }
+    ensures { λ r. ⌜ (2 ^ 23 ≤ r .q) × (r .q < 2 ^ 24) × (r .k < 400)
+        × HasValue (ofBits binary32 b) false (r .q * 2 ^ (r .k + 23)) (2 ^ 298) ⌝ }
 {
     let e = b / 8388608;
     let t = b % 8388608;

@@ -33,7 +33,8 @@ fn offer_with(n: usize, count: usize, words: &mut [u32], g: usize, y: u32) -> us
 
 // Offers every face that has the edge from x to y; answers how many have it.
 pub fn offer_at(n: usize, count: usize, words: &mut [u32], x: usize, y: u32) -> usize
-    requires { ⌜ (n ≤ 4096) × (count ≤ n) × (x < n) × (treeEnd n ≤ length (now words)) × Bound n (3 * count) (now words) ⌝ }
+    requires { ⌜ (n ≤ 4096) × (count ≤ n) × (x < n) × (treeEnd n ≤ length (now words))
+        × Bound n (3 * count) (now words) ⌝ }
     ensures { λ r. ⌜ Meets n count x y r (now (words .entry)) (now (words .exit)) ⌝ }
 {
     let mut met: usize = 0;

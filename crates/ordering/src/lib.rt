@@ -20,7 +20,8 @@ pub struct Ordered {
 fn clear_part(words: &mut [u32], from: usize, to: usize)
     requires { ⌜ (from ≤ to) × (to ≤ length (now words)) ⌝ }
     ensures { λ _. ⌜ ((k : ℕ) → from ≤ k → k < to → getD (now (words .exit)) k 0 ≡ 0) ⌝ }
-    ensures { λ _. ⌜ ((k : ℕ) → (k < from) ⊎ (to ≤ k) → getD (now (words .exit)) k 0 ≡ getD (now (words .entry)) k 0) ⌝ }
+    ensures { λ _. ⌜ ((k : ℕ) → (k < from) ⊎ (to ≤ k)
+        → getD (now (words .exit)) k 0 ≡ getD (now (words .entry)) k 0) ⌝ }
 {
     let mut k: usize = from;
     while k < to {
@@ -85,7 +86,8 @@ fn place_all(n: usize, count: usize, words: &mut [u32]) -> Ordered
 // Copies the order out of the words.
 fn copy_order(n: usize, count: usize, order: &mut [u32], words: &[u32])
     requires { ⌜ (count ≤ n) × (count ≤ length (now order)) × (orderEnd n ≤ length (now words)) ⌝ }
-    ensures { λ _. ⌜ now (order .exit) ≡ take count (drop (orderAt n) (now (words .entry))) ++ drop count (now (order .entry)) ⌝ }
+    ensures { λ _. ⌜ now (order .exit) ≡ take count (drop (orderAt n) (now (words .entry)))
+        ++ drop count (now (order .entry)) ⌝ }
 {
     let mut j: usize = 0;
     while j < count {
@@ -97,8 +99,10 @@ fn copy_order(n: usize, count: usize, order: &mut [u32], words: &[u32])
 // Decides whether `count` faces over n points, three words each in front of `words`, could be a patch of ours in shape;
 // if so `order` gets the greedy order in front. What `words` holds afterwards is free.
 pub fn order_faces(n: usize, count: usize, order: &mut [u32], words: &mut [u32]) -> Ordered
-    requires { ⌜ (n ≤ 4096) × (count ≤ n) × (count ≤ length (now order)) × (orderEnd n ≤ length (now words)) × ((s : ℕ) → s < 3 * count → getD (now words) s 0 < n) ⌝ }
-    ensures { λ r. ⌜ ((fs : List Face) → Told count fs (now (words .entry)) → Ordering fs (r .ok) (r .seeds) (now (order .entry)) (now (order .exit))) ⌝ }
+    requires { ⌜ (n ≤ 4096) × (count ≤ n) × (count ≤ length (now order)) × (orderEnd n ≤ length (now words))
+        × ((s : ℕ) → s < 3 * count → getD (now words) s 0 < n) ⌝ }
+    ensures { λ r. ⌜ ((fs : List Face) → Told count fs (now (words .entry))
+        → Ordering fs (r .ok) (r .seeds) (now (order .entry)) (now (order .exit))) ⌝ }
 {
     clear_part(words, 6 * n, 8 * n);
     corners::link_corners(n, count, words);

@@ -8,7 +8,8 @@ use Rattle.patch.specs.Lay.{Edge, edge, Pop}
 
 -- d stands for an entry that is not there, and is never read
 module _ {A : Type 0} (d : A) where
-  -- the gap at p of xs moves down to the right child while both children exist, at last to a lone left child, and v goes into it; `fuel` is at least the number of entries
+  -- the gap at p of xs moves down to the right child while both children exist, at last to a lone left child, and v
+  -- goes into it; `fuel` is at least the number of entries
   unfoldable pub sift : ℕ → List A → ℕ → A → List A
   sift zero xs p v = set xs p v
   sift (suc fuel) xs p v =

@@ -44,7 +44,8 @@ waiting processed e = not (any (same e) processed)
 pub record Inv (n : ℕ) (s : State) : Type 0 where
   pub edges : List Edge
   pub edgewise : (e : Edge)
-      → Edgewise (count (has e) (s .faces)) (count (same e) (s .frontier)) (count (same e) (s .processed)) (count (same e) edges)
+      → Edgewise (count (has e) (s .faces)) (count (same e) (s .frontier)) (count (same e) (s .processed))
+      (count (same e) edges)
   pub straight : (x : ℕ) → count (has (edge x x)) (s .faces) ≡ 0
   pub edges-count : length edges ≡ 2 * length (s .faces) + seedsOf s
   pub points : List ℕ

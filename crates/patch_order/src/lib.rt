@@ -102,7 +102,8 @@ pub fn order_patch(
     words: &mut [u32],
     floats: &mut [f32],
 ) -> Ordered
-    ensures { λ r. ⌜ OrdersPatch (now (bytes .entry)) «point_count» (now (order .entry)) (now (words .entry)) (now (floats .entry)) r (now (order .exit)) (now (words .exit)) (now (floats .exit)) ⌝ }
+    ensures { λ r. ⌜ OrdersPatch (now (bytes .entry)) «point_count» (now (order .entry)) (now (words .entry))
+        (now (floats .entry)) r (now (order .exit)) (now (words .exit)) (now (floats .exit)) ⌝ }
 {
     let seen = face_lines::scan_faces(bytes, point_count);
     if seen.malformed != 0 {

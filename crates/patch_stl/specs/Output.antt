@@ -45,7 +45,8 @@ patchOutput points p f room =
 unfoldable pub laidOutput : Float → List Float → List Float → ℕ → ℕ → ℕ → ℕ → Output
 unfolding patchOutput
 laidOutput radius points normals faces words floats room =
-    patchOutput points (reconstructed points normals (defaults radius) faces words floats) (found (defaults radius) points)
+    patchOutput points (reconstructed points normals (defaults radius) faces words floats)
+    (found (defaults radius) points)
     room
 
 -- what the reader answers: a cloud to lay, or a refusal

@@ -3,7 +3,8 @@
 // It is the definition `fileOutput` of specs/Output.antt, for all bytes and all lengths of the slices.
 ghost use lib.ListN.{length};
 ghost use Prim.Native.Nat.{_≤_};
-ghost use Rattle.patch_stl.specs.Output.{longestLine, refusedWith, writtenOutput, laidOutput, fileOutput, Outputs};
+ghost use Rattle.patch_stl.specs.Output.{longestLine, refusedWith, writtenOutput, laidOutput, fileOutput};
+ghost use Rattle.patch_stl.specs.Output.{Outputs};
 use settings::BallPivotingConfig;
 
 // Whether there is a refusal, and how many bytes in front of the output are its line, or the file.
@@ -25,7 +26,8 @@ fn refuse(answer: u32, detail: usize, out: &mut [u8]) -> StlOutput
 
 fn write_faces(points: &[f32], faces: &[u32], out: &mut [u8]) -> StlOutput
     requires { ⌜ longestLine ≤ length (now out) ⌝ }
-    ensures { λ r. ⌜ Outputs (writtenOutput (now (points .entry)) (now (faces .entry)) (length (now (out .entry)))) (now (out .entry)) r (now (out .exit)) ⌝ }
+    ensures { λ r. ⌜ Outputs (writtenOutput (now (points .entry)) (now (faces .entry)) (length (now (out .entry))))
+        (now (out .entry)) r (now (out .exit)) ⌝ }
 {
     let told = stl_file::write_stl(points, faces, out);
     if told.answer != 0 {
@@ -48,7 +50,10 @@ fn write_patch(
     out: &mut [u8],
 ) -> StlOutput
     requires { ⌜ longestLine ≤ length (now out) ⌝ }
-    ensures { λ r. ⌜ Outputs (laidOutput radius (now (points .entry)) (now (normals .entry)) (length (now (faces .entry))) (length (now (words .entry))) (length (now (floats .entry))) (length (now (out .entry)))) (now (out .entry)) r (now (out .exit)) ⌝ }
+    ensures { λ r. ⌜ Outputs
+        (laidOutput radius (now (points .entry)) (now (normals .entry)) (length (now (faces .entry)))
+        (length (now (words .entry))) (length (now (floats .entry))) (length (now (out .entry)))) (now (out .entry)) r
+        (now (out .exit)) ⌝ }
 {
     let settings = BallPivotingConfig::new(radius);
     let patch = ball_pivoting::reconstruct_with_normals(
@@ -75,7 +80,10 @@ pub fn lay_stl(
     out: &mut [u8],
 ) -> StlOutput
     requires { ⌜ longestLine ≤ length (now out) ⌝ }
-    ensures { λ r. ⌜ Outputs (fileOutput (now (input .entry)) (length (now (points .entry))) (length (now (normals .entry))) (length (now (faces .entry))) (length (now (words .entry))) (length (now (floats .entry))) (length (now (out .entry)))) (now (out .entry)) r (now (out .exit)) ⌝ }
+    ensures { λ r. ⌜ Outputs
+        (fileOutput (now (input .entry)) (length (now (points .entry))) (length (now (normals .entry)))
+        (length (now (faces .entry))) (length (now (words .entry))) (length (now (floats .entry)))
+        (length (now (out .entry)))) (now (out .entry)) r (now (out .exit)) ⌝ }
 {
     if patch_text::MOST_BYTES < input.len() {
         return refuse(answers::ROOM, 0, out);

@@ -21,10 +21,11 @@ countsOf n p = record { points = n; faces = p .faces; seeds = p .seeds; looks = 
 
 -- the main call's answer over n points: the listing of the faces found, or the refusal
 unfoldable pub patchText : ℕ → Patch → Found → List ℕ
-patchText n p f = cond (eqb (p .answer) 0) (listing (countsOf n p) (patch.flat (f .faces))) (refusal (p .answer) (p .detail))
+patchText n p f = cond (eqb (p .answer) 0) (listing (countsOf n p) (patch.flat (f .faces)))
+    (refusal (p .answer) (p .detail))
 
--- a cloud, by its coordinates and normals, with the settings of `ball_pivoting_from_normals`; `faces`, `words` and `floats` are the
--- lengths of the slices lent for them
+-- a cloud, by its coordinates and normals, with the settings of `ball_pivoting_from_normals`; `faces`, `words` and
+-- `floats` are the lengths of the slices lent for them
 unfoldable pub laidText : Float → ℕ → List Float → List Float → ℕ → ℕ → ℕ → List ℕ
 laidText radius n points normals faces words floats =
     patchText n (reconstructed points normals (defaults radius) faces words floats) (found (defaults radius) points)
@@ -32,13 +33,15 @@ laidText radius n points normals faces words floats =
 -- what the reader answers: a cloud to lay, or a refusal
 unfoldable pub outcomeText : cloud.Outcome → ℕ → ℕ → ℕ → List ℕ
 outcomeText (cloud.accepted radius ps) faces words floats =
-    laidText radius (length ps) (cloud.flat (map (λ p. p .position) ps)) (cloud.flat (map (λ p. p .normal) ps)) faces words floats
+    laidText radius (length ps) (cloud.flat (map (λ p. p .position) ps)) (cloud.flat (map (λ p. p .normal) ps)) faces
+    words floats
 outcomeText (cloud.refused answer detail) faces words floats = refusal answer detail
 
 -- a whole file, with slices of these lengths; one of more than 65,536 bytes is refused before any line is read
 unfoldable pub fileText : List ℕ → ℕ → ℕ → ℕ → ℕ → ℕ → List ℕ
 fileText bytes points normals faces words floats =
-    cond (ltb 65536 (length bytes)) (refusal noRoom 0) (outcomeText (cloud.outcome bytes points normals) faces words floats)
+    cond (ltb 65536 (length bytes)) (refusal noRoom 0)
+    (outcomeText (cloud.outcome bytes points normals) faces words floats)
 
 -- the program: room for 512 points and 5,000 faces, and work slices for so many points
 unfoldable pub printed : List ℕ → List ℕ
@@ -49,13 +52,13 @@ pub record Prints (text out : List ℕ) (r : ℕ) (out' : List ℕ) : Type 0 whe
   pub bytes : r ≡ written text out
   pub holds : out' ≡ filled text out
 
--- the bytes that hold whatever is printed: two lines of names, 32 and 11, five counts of at most 11 and 5,000 faces of at
--- most 44
+-- the bytes that hold whatever is printed: two lines of names, 32 and 11, five counts of at most 11 and 5,000 faces of
+-- at most 44
 abbrev pub enough : ℕ
 enough = 220098
 
--- what the program prints of a file: its text as above; and into a buffer of `enough` bytes it goes whole, is not empty,
--- and is the first r bytes
+-- what the program prints of a file: its text as above; and into a buffer of `enough` bytes it goes whole, is not
+-- empty, and is the first r bytes
 pub record PrintsFile (file out : List ℕ) (r : ℕ) (out' : List ℕ) : Type 0 where
   pub text : Prints (printed file) out r out'
   pub number : enough ≤ length out → r ≡ length (printed file)

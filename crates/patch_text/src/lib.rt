@@ -1,4 +1,5 @@
-// Makes what the program prints of a cloud file: its bytes in, the listing of the patch or a refusal out, in lent slices.
+// Makes what the program prints of a cloud file: its bytes in, the listing of the patch or a refusal out, in lent
+// slices.
 //
 // The text is the definition `fileText` of specs/Text.antt, for all bytes and all lengths of the slices; the program's
 // is `printed`.
@@ -21,7 +22,9 @@ fn write_patch(
     floats: &mut [f32],
     out: &mut [u8],
 ) -> usize
-    ensures { λ r. ⌜ Prints (laidText radius (length (now (points .entry)) / 3) (now (points .entry)) (now (normals .entry)) (length (now (faces .entry))) (length (now (words .entry))) (length (now (floats .entry)))) (now (out .entry)) r (now (out .exit)) ⌝ }
+    ensures { λ r. ⌜ Prints (laidText radius (length (now (points .entry)) / 3) (now (points .entry))
+        (now (normals .entry)) (length (now (faces .entry))) (length (now (words .entry)))
+        (length (now (floats .entry)))) (now (out .entry)) r (now (out .exit)) ⌝ }
 {
     let settings = BallPivotingConfig::new(radius);
     let patch = ball_pivoting::reconstruct_with_normals(
@@ -55,7 +58,10 @@ pub fn lay_text(
     floats: &mut [f32],
     out: &mut [u8],
 ) -> usize
-    ensures { λ r. ⌜ Prints (fileText (now (input .entry)) (length (now (points .entry))) (length (now (normals .entry))) (length (now (faces .entry))) (length (now (words .entry))) (length (now (floats .entry)))) (now (out .entry)) r (now (out .exit)) ⌝ }
+    ensures { λ r. ⌜ Prints
+        (fileText (now (input .entry)) (length (now (points .entry))) (length (now (normals .entry)))
+        (length (now (faces .entry))) (length (now (words .entry))) (length (now (floats .entry)))) (now (out .entry))
+        r (now (out .exit)) ⌝ }
 {
     if MOST_BYTES < input.len() {
         return listing::write_refusal(answers::ROOM, 0, out);

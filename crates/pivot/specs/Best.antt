@@ -1,4 +1,5 @@
--- The best of several points in any order: the highest score, and on equality the one that comes first in an order. Definitions only.
+-- The best of several points in any order: the highest score, and on equality the one that comes first in an order.
+-- Definitions only.
 use Prim.Native.Nat.{ℕ}
 use mathlib.Core.Bool.{Bool, false, cond, _&&_, _||_}
 use mathlib.Core.List.{List, [], _∷_}
@@ -24,8 +25,14 @@ ahead less top best k (some x) = cond (le top x && (lt top x || isBefore less k 
 -- the best of the points ks, given the best so far and its score
 unfoldable pub leader : (ℕ → ℕ → Bool) → (ℕ → Option Float) → List ℕ → Float → Option ℕ → Option ℕ
 leader less score [] top best = best
-leader less score (k ∷ ks) top best = elim (ahead less top best k (score k)) [ none ↦ leader less score ks top best | some x ↦ leader less score ks x (some k) ]
+leader less score (k ∷ ks) top best =
+    elim (ahead less top best k (score k)) [
+      | none ↦ leader less score ks top best
+      | some x ↦ leader less score ks x
+          (some k)
+    ]
 
 -- the score of point k with an edge, if its cell is as a filter asks
 unfoldable pub scoreIn : Scene → List Float → Float → List ℕ → Filter → Edge → ℕ → Option Float
-scoreIn s pts r used f e k = cond (inCells (s .indexed) (s .grid) pts (f .range) (f .cell) k) (scoreOf (floatsOf s pts) r used e k) none
+scoreIn s pts r used f e k =
+    cond (inCells (s .indexed) (s .grid) pts (f .range) (f .cell) k) (scoreOf (floatsOf s pts) r used e k) none

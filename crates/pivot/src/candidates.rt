@@ -39,8 +39,11 @@ fn score_of(
     top: f32,
     thin: f32,
 ) -> Score
-    requires { ⌜ Held s (now points) (now w) × (k < s .n) × (side ≡ sideOf (pointAt (now points) a) (pointAt (now points) b)) × Thinned top thin ⌝ }
-    ensures { λ r. ⌜ r ≡ scoreFound (atLeast top (scoreOf (floatsOf s (now (points .entry))) radius (usedIn s (now (w .entry))) (edge a b) k)) ⌝ }
+    requires { ⌜ Held s (now points) (now w) × (k < s .n)
+        × (side ≡ sideOf (pointAt (now points) a) (pointAt (now points) b)) × Thinned top thin ⌝ }
+    ensures { λ r. ⌜ r
+        ≡ scoreFound
+        (atLeast top (scoreOf (floatsOf s (now (points .entry))) radius (usedIn s (now (w .entry))) (edge a b) k)) ⌝ }
 {
     if k == a {
         return Score::None;
@@ -96,8 +99,11 @@ fn score_ahead(
     thin: f32,
     best: Pivot,
 ) -> Score
-    requires { ⌜ Held s (now points) (now w) × Cells (s .grid) (now points) (s .n) (now w) × (k < s .n) × (side ≡ sideOf (pointAt (now points) a) (pointAt (now points) b)) × Thinned top thin × Met s best ⌝ }
-    ensures { λ r. ⌜ r ≡ scoreFound (ahead (earlier (s .indexed) (cellAt (s .grid) (now (points .entry)))) top (pointOf best) k (scoreIn s (now (points .entry)) radius (usedIn s (now (w .entry))) f (edge a b) k)) ⌝ }
+    requires { ⌜ Held s (now points) (now w) × Cells (s .grid) (now points) (s .n) (now w) × (k < s .n)
+        × (side ≡ sideOf (pointAt (now points) a) (pointAt (now points) b)) × Thinned top thin × Met s best ⌝ }
+    ensures { λ r. ⌜ r
+        ≡ scoreFound (ahead (earlier (s .indexed) (cellAt (s .grid) (now (points .entry)))) top (pointOf best) k
+        (scoreIn s (now (points .entry)) radius (usedIn s (now (w .entry))) f (edge a b) k)) ⌝ }
 {
     if let Score::Of(x) = score_of(s, points, w, radius, a, b, k, side, top, thin) {
         if is_ahead(s, w, f, k, x, top, best) {
@@ -107,7 +113,8 @@ fn score_ahead(
     Score::None
 }
 
-// Of the listed points that are neighbours the one with the highest score above 0, the first in their order on equality.
+// Of the listed points that are neighbours the one with the highest score above 0, the first in their order on
+// equality.
 fn best_of(
     s: Scene,
     points: &[f32],
@@ -118,8 +125,12 @@ fn best_of(
     a: usize,
     b: usize,
 ) -> Pivot
-    requires { ⌜ Held s (now points) (now w) × Cells (s .grid) (now points) (s .n) (now w) × Listed s (now w) count × (a < s .n) × (b < s .n) ⌝ }
-    ensures { λ r. ⌜ r ≡ pivotFound (leader (earlier (s .indexed) (cellAt (s .grid) (now (points .entry)))) (scoreIn s (now (points .entry)) radius (usedIn s (now (w .entry))) f (edge a b)) (listed s (now (w .entry)) count) (f32 0) none) ⌝ }
+    requires { ⌜ Held s (now points) (now w) × Cells (s .grid) (now points) (s .n) (now w) × Listed s (now w) count
+        × (a < s .n) × (b < s .n) ⌝ }
+    ensures { λ r. ⌜ r
+        ≡ pivotFound (leader (earlier (s .indexed) (cellAt (s .grid) (now (points .entry))))
+        (scoreIn s (now (points .entry)) radius (usedIn s (now (w .entry))) f (edge a b))
+        (listed s (now (w .entry)) count) (f32 0) none) ⌝ }
 {
     let at = 4 * s.n;
     let p = points::point_at(points, a);
@@ -150,8 +161,11 @@ pub fn find_best(
     b: usize,
     hash: Hash,
 ) -> Pivot
-    requires { ⌜ Held s (now points) (now w) × Indexed (s .grid) (now points) (s .n) (now w) × Hashed hash (now points) (s .n) (now w) × (a < s .n) × (b < s .n) ⌝ }
-    ensures { λ r. ⌜ (r ≡ pivotFound (bestOf (floatsOf s (now (points .entry))) radius (usedIn s (now (w .entry))) (edge a b) (floatsOf s (now (points .entry)) .around radius (edge a b)) (f32 0) none))
+    requires { ⌜ Held s (now points) (now w) × Indexed (s .grid) (now points) (s .n) (now w)
+        × Hashed hash (now points) (s .n) (now w) × (a < s .n) × (b < s .n) ⌝ }
+    ensures { λ r. ⌜ (r
+        ≡ pivotFound (bestOf (floatsOf s (now (points .entry))) radius (usedIn s (now (w .entry))) (edge a b)
+        (floatsOf s (now (points .entry)) .around radius (edge a b)) (f32 0) none))
         × Kept s (now (w .entry)) (now (w .exit)) ⌝ }
 {
     let p = points::point_at(points, a);

@@ -28,8 +28,11 @@ pub fn try_ball_pivot(
     b: usize,
     hash: Hash,
 ) -> Pivot
-    requires { ⌜ Held s (now points) (now w) × Indexed (s .grid) (now points) (s .n) (now w) × Hashed hash (now points) (s .n) (now w) × (a < s .n) × (b < s .n) ⌝ }
-    ensures { λ r. ⌜ (r ≡ pivotFound (searching (floatsOf s (now (points .entry))) (s .n) .pivotOf radius (usedIn s (now (w .entry))) (edge a b))) × Kept s (now (w .entry)) (now (w .exit)) ⌝ }
+    requires { ⌜ Held s (now points) (now w) × Indexed (s .grid) (now points) (s .n) (now w)
+        × Hashed hash (now points) (s .n) (now w) × (a < s .n) × (b < s .n) ⌝ }
+    ensures { λ r. ⌜ (r
+        ≡ pivotFound (searching (floatsOf s (now (points .entry))) (s .n) .pivotOf radius (usedIn s (now (w .entry)))
+        (edge a b))) × Kept s (now (w .entry)) (now (w .exit)) ⌝ }
 {
     if !decisions::is_pivotable(points, radius, a, b) {
         return Pivot::Nowhere;

@@ -1,5 +1,5 @@
-// A face is placed: its points are reached, its value in the tree of minima goes, and every face at one of its new edges
-// is offered.
+// A face is placed: its points are reached, its value in the tree of minima goes, and every face at one of its new
+// edges is offered.
 ghost use mathlib.Core.Path.{_≡_};
 ghost use Prim.Native.Nat.{_+_, _*_, _≤_, _<_};
 ghost use lib.ListN.{length, set};
@@ -9,7 +9,8 @@ ghost use Rattle.placing.specs.Placing.{usedAt, opens, known, fitting, O
 
 // The side from x to y of a face that is placed, ux and uy 0 where the point was not reached before.
 fn open_side(n: usize, count: usize, words: &mut [u32], x: u32, y: u32, ux: u32, uy: u32) -> bool
-    requires { ⌜ (n ≤ 4096) × (count ≤ n) × (x < n) × (y < n) × (treeEnd n ≤ length (now words)) × Bound n (3 * count) (now words) ⌝ }
+    requires { ⌜ (n ≤ 4096) × (count ≤ n) × (x < n) × (y < n) × (treeEnd n ≤ length (now words))
+        × Bound n (3 * count) (now words) ⌝ }
     ensures { λ r. ⌜ Opens n count x y (opens ux uy) r (now (words .entry)) (now (words .exit)) ⌝ }
 {
     if ux == 0 {
@@ -33,8 +34,10 @@ fn open_sides(
     ub: u32,
     uc: u32,
 ) -> bool
-    requires { ⌜ (n ≤ 4096) × (count ≤ n) × (a < n) × (b < n) × (c < n) × (treeEnd n ≤ length (now words)) × Bound n (3 * count) (now words) ⌝ }
-    ensures { λ r. ⌜ Arounds n count a b c (opens ua ub) (opens ub uc) (opens uc ua) r (now (words .entry)) (now (words .exit)) ⌝ }
+    requires { ⌜ (n ≤ 4096) × (count ≤ n) × (a < n) × (b < n) × (c < n) × (treeEnd n ≤ length (now words))
+        × Bound n (3 * count) (now words) ⌝ }
+    ensures { λ r. ⌜ Arounds n count a b c (opens ua ub) (opens ub uc) (opens uc ua) r (now (words .entry))
+        (now (words .exit)) ⌝ }
 {
     if !open_side(n, count, words, a, b, ua, ub) {
         return false;
@@ -48,7 +51,8 @@ fn open_sides(
 // Three points are reached.
 fn reach(n: usize, words: &mut [u32], a: usize, b: usize, c: usize)
     requires { ⌜ (n ≤ 4096) × (a < n) × (b < n) × (c < n) × (treeEnd n ≤ length (now words)) ⌝ }
-    ensures { λ _. ⌜ now (words .exit) ≡ set (set (set (now (words .entry)) (usedAt n + a) 1) (usedAt n + b) 1) (usedAt n + c) 1 ⌝ }
+    ensures { λ _. ⌜ now (words .exit) ≡ set (set (set (now (words .entry)) (usedAt n + a) 1) (usedAt n + b) 1)
+        (usedAt n + c) 1 ⌝ }
 {
     words[7 * n + a] = 1;
     words[7 * n + b] = 1;
@@ -79,7 +83,8 @@ fn may_place(ua: u32, ub: u32, uc: u32, shared: bool) -> bool
 // Places the face i, which shares an edge with a placed one or not; answers whether it fits, and none of its edges lies
 // in three faces.
 pub fn place(n: usize, count: usize, words: &mut [u32], i: usize, shared: bool) -> bool
-    requires { ⌜ (n ≤ 4096) × (count ≤ n) × (i < count) × (treeEnd n ≤ length (now words)) × Bound n (3 * count) (now words) ⌝ }
+    requires { ⌜ (n ≤ 4096) × (count ≤ n) × (i < count) × (treeEnd n ≤ length (now words))
+        × Bound n (3 * count) (now words) ⌝ }
     ensures { λ r. ⌜ Places n count i shared r (now (words .entry)) (now (words .exit)) ⌝ }
 {
     let a = words[3 * i];

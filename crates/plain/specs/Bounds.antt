@@ -1,5 +1,6 @@
 -- Tests by which a circumradius is known to be at most the widest, or above it, without a root. Definitions only.
--- Of a triangle, x is the product of two edges with a guess b at the third, whose square is `edge`; z is a guess at the length of the cross product, whose square is s.
+-- Of a triangle, x is the product of two edges with a guess b at the third, whose square is `edge`; z is a guess at the
+-- length of the cross product, whose square is s.
 use lib.Dec.{T}
 use lib.Ieee.{Float, lt, le}
 use Rattle.numbers.specs.Rounded.{f32, _⊗_}

@@ -27,7 +27,8 @@ abbrev pub apart : List Float → ℕ → ℕ → Float
 apart points i j = distance (pointAt points i) (pointAt points j)
 
 -- j is listed behind `count` others, with its distance, if it is a candidate of i
-pub record Adds (points : List Float) (radius : Float) (i j : ℕ) (w : List ℕ) (lengths : List Float) (count : ℕ) (w' : List ℕ) (lengths' : List Float) (r : ℕ) : Type 0 where
+pub record Adds (points : List Float) (radius : Float) (i j : ℕ) (w : List ℕ) (lengths : List Float) (count : ℕ)
+    (w' : List ℕ) (lengths' : List Float) (r : ℕ) : Type 0 where
   pub counted : r ≡ cond (candidate points radius i j) (count + 1) count
   pub stored : w' ≡ cond (candidate points radius i j) (set w count j) w
   pub measured : lengths' ≡ cond (candidate points radius i j) (set lengths count (apart points i j)) lengths
@@ -40,7 +41,8 @@ pub record Lists (points : List Float) (i : ℕ) (w : List ℕ) (lengths : List 
   pub distances : (k : ℕ) → k < count → getD lengths k nan ≡ apart points i (getD w k 0)
 
 -- they are the candidates of i
-pub record Listed (points : List Float) (radius : Float) (i : ℕ) (w : List ℕ) (lengths : List Float) (count : ℕ) : Type 0 where
+pub record Listed (points : List Float) (radius : Float) (i : ℕ) (w : List ℕ) (lengths : List Float) (count : ℕ)
+    : Type 0 where
   pub ready : Ready points i
   pub few : count ≤ i
   pub lists : Lists points i w lengths count

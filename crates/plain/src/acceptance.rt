@@ -1,5 +1,5 @@
-// Whether a triangle is neither too thin nor too wide. A guess at the edge b, squared, bounds the edge, and the circumradius with it; most triangles are judged
-// by that, without a root.
+// Whether a triangle is neither too thin nor too wide. A guess at the edge b, squared, bounds the edge, and the
+// circumradius with it; most triangles are judged by that, without a root.
 use crate::Limits;
 use vector::Point3f;
 ghost use mathlib.Core.Path.{_≡_};
@@ -51,8 +51,8 @@ fn guess_root(x: f32) -> f32
     f32::from_bits(b / 2 + 0x1fc0_0010)
 }
 
-// Whether the circumradius is known to be at most the widest, by a guess b above the edge whose square is `edge`. The product of the edges gives a guess z below
-// the length of the cross product, whose square is s.
+// Whether the circumradius is known to be at most the widest, by a guess b above the edge whose square is `edge`. The
+// product of the edges gives a guess z below the length of the cross product, whose square is s.
 fn is_narrow(a: f32, b: f32, c: f32, edge: f32, s: f32, limits: Limits) -> bool
     ensures { λ r. ⌜ (r ≡ true → Narrow (a ⊗ b ⊗ c) (a ⊗ b ⊗ c ⊗ limits .high) b edge s (limits .widest)) ⌝ }
 {
@@ -63,9 +63,11 @@ fn is_narrow(a: f32, b: f32, c: f32, edge: f32, s: f32, limits: Limits) -> bool
     z * z < s && (x < w * d && (edge < b * b && (0.0 < x && 0.0 < d)))
 }
 
-// Whether it is known to be above the widest, by a guess b below the edge and a guess z above the length. What is above 0 and not infinite needs no more care.
+// Whether it is known to be above the widest, by a guess b below the edge and a guess z above the length. What is above
+// 0 and not infinite needs no more care.
 fn is_wide(a: f32, b: f32, c: f32, edge: f32, s: f32, limits: Limits) -> bool
-    ensures { λ r. ⌜ (r ≡ true → Wide (a ⊗ b ⊗ c) (a ⊗ b ⊗ c ⊗ limits .low) b edge s (limits .widest) (limits .beyond)) ⌝ }
+    ensures { λ r. ⌜ (r ≡ true
+        → Wide (a ⊗ b ⊗ c) (a ⊗ b ⊗ c ⊗ limits .low) b edge s (limits .widest) (limits .beyond)) ⌝ }
 {
     let x = a * b * c;
     let z = x * limits.low;
@@ -96,7 +98,8 @@ fn is_sound_closer(
     radius: f32,
     limits: Limits,
 ) -> bool
-    requires { ⌜ Limited radius limits × (a ≡ distance p1 p2) × (c ≡ distance p1 p3) × (edge ≡ squared p3 p2) × (s ≡ crossSquared p1 p2 p3) × T (le least s) × T (le s largest) ⌝ }
+    requires { ⌜ Limited radius limits × (a ≡ distance p1 p2) × (c ≡ distance p1 p3) × (edge ≡ squared p3 p2)
+        × (s ≡ crossSquared p1 p2 p3) × T (le least s) × T (le s largest) ⌝ }
     ensures { λ r. ⌜ r ≡ sound p1 p2 p3 radius ⌝ }
 {
     let h = (b + edge / b) * 0.5;
@@ -121,7 +124,8 @@ fn is_sound_long(
     radius: f32,
     limits: Limits,
 ) -> bool
-    requires { ⌜ Limited radius limits × (a ≡ distance p1 p2) × (c ≡ distance p1 p3) × (s ≡ crossSquared p1 p2 p3) × T (le least s) × T (le s largest) ⌝ }
+    requires { ⌜ Limited radius limits × (a ≡ distance p1 p2) × (c ≡ distance p1 p3) × (s ≡ crossSquared p1 p2 p3)
+        × T (le least s) × T (le s largest) ⌝ }
     ensures { λ r. ⌜ r ≡ sound p1 p2 p3 radius ⌝ }
 {
     let edge = vector::distance_squared(p3, p2);

@@ -19,9 +19,10 @@ ghost use Rattle.plain.specs.Reached.{paired, plainReached};
 
 const MAX_TRIANGLES: usize = 10000;
 
-// What the points of a face are held to: a candidate is no farther than the reach, and none of the squares above `square` is that of one; the circumradius
-// is at most the widest. The others are guesses: something beyond the widest, and what a product of edges is multiplied by for a cross product whose
-// circumradius is a little above or below the widest.
+// What the points of a face are held to: a candidate is no farther than the reach, and none of the squares above
+// `square` is that of one; the circumradius is at most the widest. The others are guesses: something beyond the widest,
+// and what a product of edges is multiplied by for a cross product whose circumradius is a little above or below the
+// widest.
 pub struct Limits {
     pub reach: f32,
     pub square: f32,
@@ -31,7 +32,8 @@ pub struct Limits {
     pub high: f32,
 }
 
-// The count of faces, and whether three points came to the cross product test; the latter is told only while fewer than the limit are laid.
+// The count of faces, and whether three points came to the cross product test; the latter is told only while fewer than
+// the limit are laid.
 pub struct Triangulated {
     pub faces: usize,
     pub judged: bool,
@@ -52,7 +54,8 @@ fn limits_of(radius: f32) -> Limits
     }
 }
 
-// Lays the face i, a, b if the three form one and fewer than the limit are laid; la and lb are the distances of a and b from i.
+// Lays the face i, a, b if the three form one and fewer than the limit are laid; la and lb are the distances of a and b
+// from i.
 // The answer is the count of faces, here and below.
 fn try_face(
     points: &[f32],
@@ -67,8 +70,10 @@ fn try_face(
     count: usize,
 ) -> usize
     requires { ⌜ Ready (now points) i × Limited radius limits × (a < i) × (b < i) × (count ≤ 10000)
-        × (la ≡ distance (pointAt (now points) i) (pointAt (now points) a)) × (lb ≡ distance (pointAt (now points) i) (pointAt (now points) b)) ⌝ }
-    ensures { λ r. ⌜ Lays (cond (valid (now (points .entry)) radius i a b) (face i a b ∷ []) []) (now (faces .entry)) count (now (faces .exit)) r ⌝ }
+        × (la ≡ distance (pointAt (now points) i) (pointAt (now points) a))
+        × (lb ≡ distance (pointAt (now points) i) (pointAt (now points) b)) ⌝ }
+    ensures { λ r. ⌜ Lays (cond (valid (now (points .entry)) radius i a b) (face i a b ∷ []) []) (now (faces .entry))
+        count (now (faces .exit)) r ⌝ }
 {
     if MAX_TRIANGLES <= count {
         return count;
@@ -96,8 +101,11 @@ fn faces_over(
     faces: &mut [u32],
     count: usize,
 ) -> usize
-    requires { ⌜ Limited radius limits × Listed (now points) radius i (now w) (now lengths) listed × (at < listed) × (count ≤ 10000) ⌝ }
-    ensures { λ r. ⌜ Lays (facesOver (now (points .entry)) radius i (getD (now (w .entry)) at 0) (drop (at + 1) (take listed (now (w .entry))))) (now (faces .entry)) count (now (faces .exit)) r ⌝ }
+    requires { ⌜ Limited radius limits × Listed (now points) radius i (now w) (now lengths) listed × (at < listed)
+        × (count ≤ 10000) ⌝ }
+    ensures { λ r. ⌜ Lays
+        (facesOver (now (points .entry)) radius i (getD (now (w .entry)) at 0)
+        (drop (at + 1) (take listed (now (w .entry))))) (now (faces .entry)) count (now (faces .exit)) r ⌝ }
 {
     if MAX_TRIANGLES <= count {
         return count;
@@ -137,7 +145,8 @@ fn faces_among(
     count: usize,
 ) -> usize
     requires { ⌜ Limited radius limits × Listed (now points) radius i (now w) (now lengths) listed × (count ≤ 10000) ⌝ }
-    ensures { λ r. ⌜ Lays (facesAt (now (points .entry)) radius i (take listed (now (w .entry)))) (now (faces .entry)) count (now (faces .exit)) r ⌝ }
+    ensures { λ r. ⌜ Lays (facesAt (now (points .entry)) radius i (take listed (now (w .entry)))) (now (faces .entry))
+        count (now (faces .exit)) r ⌝ }
 {
     let mut laid = count;
     let mut at: usize = 0;
@@ -170,8 +179,11 @@ fn faces_at(
     faces: &mut [u32],
     count: usize,
 ) -> Triangulated
-    requires { ⌜ Ready (now points) i × Limited radius limits × (i ≤ length (now w)) × (i ≤ length (now lengths)) × (count ≤ 10000) ⌝ }
-    ensures { λ r. ⌜ Lays (facesAt (now (points .entry)) radius i (candidates (now (points .entry)) radius i (upFrom 0 i))) (now (faces .entry)) count (now (faces .exit)) (r .faces)
+    requires { ⌜ Ready (now points) i × Limited radius limits × (i ≤ length (now w)) × (i ≤ length (now lengths))
+        × (count ≤ 10000) ⌝ }
+    ensures { λ r. ⌜ Lays
+        (facesAt (now (points .entry)) radius i (candidates (now (points .entry)) radius i (upFrom 0 i)))
+        (now (faces .entry)) count (now (faces .exit)) (r .faces)
         × (count < 10000 → r .judged ≡ paired (now (points .entry)) radius i) ⌝ }
 {
     if MAX_TRIANGLES <= count {
@@ -194,7 +206,8 @@ fn is_either(a: bool, b: bool) -> bool
     a || b
 }
 
-// Faces go to the front of the slice as far as they fit; all of them, up to the limit, are counted. Where there are none, it is told whether any triple was judged.
+// Faces go to the front of the slice as far as they fit; all of them, up to the limit, are counted. Where there are
+// none, it is told whether any triple was judged.
 // The front of the two work slices is used.
 pub fn simple_triangulate(
     points: &[f32],
@@ -203,8 +216,10 @@ pub fn simple_triangulate(
     lengths: &mut [f32],
     faces: &mut [u32],
 ) -> Triangulated
-    requires { ⌜ (length (now points) / 3 ≤ 4096) × (length (now points) / 3 ≤ length (now w)) × (length (now points) / 3 ≤ length (now lengths)) ⌝ }
-    ensures { λ r. ⌜ (r .faces ≡ length (plainFaces (now (points .entry)) radius)) × (now (faces .exit) ≡ written (plainFaces (now (points .entry)) radius) (now (faces .entry)))
+    requires { ⌜ (length (now points) / 3 ≤ 4096) × (length (now points) / 3 ≤ length (now w))
+        × (length (now points) / 3 ≤ length (now lengths)) ⌝ }
+    ensures { λ r. ⌜ (r .faces ≡ length (plainFaces (now (points .entry)) radius))
+        × (now (faces .exit) ≡ written (plainFaces (now (points .entry)) radius) (now (faces .entry)))
         × (r .faces ≡ 0 → r .judged ≡ plainReached (now (points .entry)) radius) ⌝ }
 {
     let n = points.len() / 3;

@@ -5,7 +5,8 @@ ghost use lib.ListN.{length};
 ghost use Rattle.plain.specs.Laid.{Ready};
 ghost use Rattle.plain.specs.Listed.{Limited, Listed, Adds};
 
-// Lists the point j behind the `count` ones that are listed, if it is a candidate of i. The answer is how many there are then. Most points are too far by their squares.
+// Lists the point j behind the `count` ones that are listed, if it is a candidate of i. The answer is how many there
+// are then. Most points are too far by their squares.
 fn add_candidate(
     points: &[f32],
     radius: f32,
@@ -16,8 +17,10 @@ fn add_candidate(
     lengths: &mut [f32],
     count: usize,
 ) -> usize
-    requires { ⌜ Ready (now points) i × Limited radius limits × (j < i) × (count ≤ j) × (i ≤ length (now w)) × (i ≤ length (now lengths)) ⌝ }
-    ensures { λ r. ⌜ Adds (now (points .entry)) radius i j (now (w .entry)) (now (lengths .entry)) count (now (w .exit)) (now (lengths .exit)) r ⌝ }
+    requires { ⌜ Ready (now points) i × Limited radius limits × (j < i) × (count ≤ j) × (i ≤ length (now w))
+        × (i ≤ length (now lengths)) ⌝ }
+    ensures { λ r. ⌜ Adds (now (points .entry)) radius i j (now (w .entry)) (now (lengths .entry)) count
+        (now (w .exit)) (now (lengths .exit)) r ⌝ }
 {
     let p = points::point_at(points, i);
     let q = points::point_at(points, j);

@@ -37,8 +37,8 @@ pub record Fits (points : List Float) (index floats : ℕ) : Type 0 where
   pub index-enough : indexSize (length points / 3) ≤ index
   pub floats-enough : 4 * (length points / 3) + 64 ≤ floats
 
--- building: the checks' answer; the index's first 8n + 64 numbers are the cloud's and the others stay, at a refusal all of
--- them do; the work slices end as zeros once the checks have passed
+-- building: the checks' answer; the index's first 8n + 64 numbers are the cloud's and the others stay, at a refusal all
+-- of them do; the work slices end as zeros once the checks have passed
 pub record Builds
     (points : List Float) (index words : List ℕ) (floats : List Float)
     (r : Indexed) (index' words' : List ℕ) (floats' : List Float) : Type 0 where
@@ -55,6 +55,7 @@ pub record Tells
     (r : Belongs) (words' : List ℕ) (floats' : List Float) : Type 0 where
   pub answered : r .answer ≡ indexRefusal points (length index) (length words) (length floats) .answer
   pub detailed : r .detail ≡ indexRefusal points (length index) (length words) (length floats) .detail
-  pub told : r .belongs ≡ cond (accepted points (length index) (length words) (length floats)) (belongs points index) false
+  pub told : r .belongs ≡ cond (accepted points (length index) (length words) (length floats)) (belongs points index)
+      false
   pub words-left : words' ≡ swept 0 (accepted points (length index) (length words) (length floats)) words
   pub floats-left : floats' ≡ swept (f32 0) (accepted points (length index) (length words) (length floats)) floats

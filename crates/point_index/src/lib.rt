@@ -1,5 +1,5 @@
-// An index beside a cloud's points, by which the nearest point is found at once: the k-d tree of the cloud, as numbers in a
-// lent slice.
+// An index beside a cloud's points, by which the nearest point is found at once: the k-d tree of the cloud, as numbers
+// in a lent slice.
 mod fill;
 
 use domain::Refusal;
@@ -47,8 +47,10 @@ pub fn refusal_of_index(points: &[f32], index: usize, words: usize, floats: usiz
 // The numbers of all points as the splits leave them, and the boxes at the front of the floats; answers where these
 // end.
 fn order_points(points: &[f32], order: &mut [u32], floats: &mut [f32]) -> usize
-    requires { ⌜ (0 < length (now order)) × (length (now order) ≤ 4096) × (4 * length (now order) + 64 ≤ length (now floats)) ⌝ }
-    ensures { λ r. ⌜ Splits (now (points .entry)) (upFrom 0 (length (now (order .entry)))) (now (order .exit)) (now (floats .entry)) (now (floats .exit)) 0 r ⌝ }
+    requires { ⌜ (0 < length (now order)) × (length (now order) ≤ 4096)
+        × (4 * length (now order) + 64 ≤ length (now floats)) ⌝ }
+    ensures { λ r. ⌜ Splits (now (points .entry)) (upFrom 0 (length (now (order .entry)))) (now (order .exit))
+        (now (floats .entry)) (now (floats .exit)) 0 r ⌝ }
 {
     fill::number_order(order);
     kd_tree::split(points, order, floats, 0)
@@ -57,7 +59,8 @@ fn order_points(points: &[f32], order: &mut [u32], floats: &mut [f32]) -> usize
 // The index of an accepted cloud.
 pub fn build(points: &[f32], index: &mut [u32], floats: &mut [f32])
     requires { ⌜ Fits (now points) (length (now index)) (length (now floats)) ⌝ }
-    ensures { λ _. ⌜ now (index .exit) ≡ built (now (points .entry)) ++ drop (indexSize (length (now (points .entry)) / 3)) (now (index .entry)) ⌝ }
+    ensures { λ _. ⌜ now (index .exit) ≡ built (now (points .entry))
+        ++ drop (indexSize (length (now (points .entry)) / 3)) (now (index .entry)) ⌝ }
 {
     let n = points.len() / 3;
     let end = order_points(points, &mut index[..n], floats);
@@ -67,7 +70,8 @@ pub fn build(points: &[f32], index: &mut [u32], floats: &mut [f32])
 
 // Whether an index is an accepted cloud's: it is built afresh in the work slice.
 pub fn matches(points: &[f32], index: &[u32], words: &mut [u32], floats: &mut [f32]) -> bool
-    requires { ⌜ Fits (now points) (length (now index)) (length (now floats)) × (indexSize (length (now points) / 3) ≤ length (now words)) ⌝ }
+    requires { ⌜ Fits (now points) (length (now index)) (length (now floats))
+        × (indexSize (length (now points) / 3) ≤ length (now words)) ⌝ }
     ensures { λ r. ⌜ r ≡ belongs (now (points .entry)) (now (index .entry)) ⌝ }
 {
     build(points, words, floats);
@@ -81,7 +85,8 @@ pub fn build_index(
     words: &mut [u32],
     floats: &mut [f32],
 ) -> Indexed
-    ensures { λ r. ⌜ Builds (now (points .entry)) (now (index .entry)) (now (words .entry)) (now (floats .entry)) r (now (index .exit)) (now (words .exit)) (now (floats .exit)) ⌝ }
+    ensures { λ r. ⌜ Builds (now (points .entry)) (now (index .entry)) (now (words .entry)) (now (floats .entry)) r
+        (now (index .exit)) (now (words .exit)) (now (floats .exit)) ⌝ }
 {
     let refusal = refusal_of_index(points, index.len(), words.len(), floats.len());
     if refusal.answer != 0 {
@@ -106,7 +111,8 @@ pub fn index_belongs(
     words: &mut [u32],
     floats: &mut [f32],
 ) -> Belongs
-    ensures { λ r. ⌜ Tells (now (points .entry)) (now (index .entry)) (now (words .entry)) (now (floats .entry)) r (now (words .exit)) (now (floats .exit)) ⌝ }
+    ensures { λ r. ⌜ Tells (now (points .entry)) (now (index .entry)) (now (words .entry)) (now (floats .entry)) r
+        (now (words .exit)) (now (floats .exit)) ⌝ }
 {
     let refusal = refusal_of_index(points, index.len(), words.len(), floats.len());
     if refusal.answer != 0 {

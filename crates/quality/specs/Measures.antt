@@ -1,4 +1,5 @@
--- A triangle's six measures from the lengths of its edges and its area, each operation rounded once, in the Rust's order. Definitions only.
+-- A triangle's six measures from the lengths of its edges and its area, each operation rounded once, in the Rust's
+-- order. Definitions only.
 use mathlib.Core.Bool.{false, cond}
 use lib.Ieee.{Float, inf, neg, lt}
 use Rattle.numbers.specs.Rounded.{f32, _⊕_, _⊖_, _⊗_, _⊘_}

@@ -1,4 +1,5 @@
--- What is known of a triangle from its lengths and its area: the measures without the angles, and the quality. Definitions only.
+-- What is known of a triangle from its lengths and its area: the measures without the angles, and the quality.
+-- Definitions only.
 use mathlib.Core.Bool.{false, cond}
 use lib.Ieee.{Float, inf, lt}
 use Rattle.numbers.specs.Rounded.{f32}
@@ -8,7 +9,12 @@ use Rattle.quality.specs.declared.TriangleQuality.{TriangleQuality}
 
 -- of a triangle that has an area
 unfoldable pub shape : Float → Float → Float → Float → Shape
-shape a b c area = record { area = area; «aspect_ratio» = aspectRatio a b c area (radiusOf a b c area); «edge_ratio» = edgeRatio a b c }
+shape a b c area = record {
+  area = area;
+  «aspect_ratio» = aspectRatio a b c area (radiusOf a b c area);
+  «edge_ratio» =
+      edgeRatio a b c;
+}
 
 -- of one whose area is below 1e-10
 unfoldable pub flat : Float → Shape

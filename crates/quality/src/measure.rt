@@ -2,7 +2,8 @@
 use crate::Shape;
 use crate::TriangleQuality;
 ghost use mathlib.Core.Path.{_≡_};
-ghost use Rattle.quality.specs.Measures.{radiusOf, angle, least, largest, aspectRatio, edgeRatio, measures, degenerate};
+ghost use Rattle.quality.specs.Measures.{radiusOf, angle, least, largest, aspectRatio, edgeRatio, measures};
+ghost use Rattle.quality.specs.Measures.{degenerate};
 ghost use Rattle.quality.specs.Shape.{shape, flat};
 
 // The angle opposite to a.

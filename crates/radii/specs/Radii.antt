@@ -76,4 +76,5 @@ radiiAt c [] = []
 radiiAt c (d ∷ ds) = dedup (sorted (candidates c (sorted (d ∷ ds))))
 
 unfoldable pub adaptiveRadii : BallPivotingConfig → SpatialGrid → List Float → ℕ → List Float
-adaptiveRadii c g pts n = cond (c .«adaptive_radius») (radiiAt c (densitiesFrom c g pts n (stepOf n) 0 (sampleCount n))) []
+adaptiveRadii c g pts n =
+    cond (c .«adaptive_radius») (radiiAt c (densitiesFrom c g pts n (stepOf n) 0 (sampleCount n))) []

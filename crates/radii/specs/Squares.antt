@@ -1,4 +1,5 @@
--- The least squared distances from a sample to its neighbours, and when those that were looked at decide. Definitions only.
+-- The least squared distances from a sample to its neighbours, and when those that were looked at decide. Definitions
+-- only.
 use Prim.Native.Nat.{ℕ, _+_, _*_, _≤_, _<_}
 use mathlib.Core.Path.{_≡_}
 use mathlib.Core.Bool.{Bool, false, cond, not, _&&_, _||_}
@@ -22,7 +23,12 @@ use Rattle.radii.specs.declared.Around.{Around}
 
 -- the neighbours of a place at 3 × radius
 abbrev pub aroundOf : BallPivotingConfig → SpatialGrid → Point3f → Around
-aroundOf c g p = record { indexed = c .«use_spatial_index»; range = rangeOf g (c .radius ⊗ f32 0x40400000); cell = cellOf g p }
+aroundOf c g p = record {
+  indexed = c .«use_spatial_index»;
+  range = rangeOf g (c .radius ⊗ f32 0x40400000);
+  cell =
+      cellOf g p;
+}
 
 -- whether point j is a neighbour, by its kept cell
 unfoldable pub isNear : Around → List ℕ → ℕ → ℕ → Bool
@@ -45,7 +51,8 @@ leastSquares near pts i js = take 10 (sorted (squaresTo near pts i js))
 
 -- the least squares, once point j has been looked at
 unfoldable pub withSquare : (ℕ → Bool) → List Float → ℕ → ℕ → List Float → List Float
-withSquare near pts i j kept = cond (not (eqb j i) && near j) (take 10 (insert (squared (pointAt pts j) (pointAt pts i)) kept)) kept
+withSquare near pts i j kept =
+    cond (not (eqb j i) && near j) (take 10 (insert (squared (pointAt pts j) (pointAt pts i)) kept)) kept
 
 -- of ten least squares the last, and no limit where there are fewer
 unfoldable pub tenthOf : List Float → ℕ → ℕ → Float
@@ -61,11 +68,13 @@ pub record Prepared (h : Hash) (pts : List Float) (n i : ℕ) (w : List ℕ) (f 
   pub room : n + 10 ≤ length f
   pub hashed : HashedAll h pts n w
 
--- the r numbers in the region of the least distances are the least squares from point i to its other neighbours, of all points
+-- the r numbers in the region of the least distances are the least squares from point i to its other neighbours, of all
+-- points
 abbrev pub Decided : Around → List Float → ℕ → ℕ → List ℕ → List Float → ℕ → Type 0
 Decided a pts n i w f r = take r (drop n f) ≡ leastSquares (isNear a w n) pts i (upFrom 0 n)
 
--- what changes in the slices, w to u and f to g, while a sample's squares are looked for: the list of neighbours, and the region of the least distances
+-- what changes in the slices, w to u and f to g, while a sample's squares are looked for: the list of neighbours, and
+-- the region of the least distances
 pub record Kept (n : ℕ) (w u : List ℕ) (f g : List Float) : Type 0 where
   pub front : take n g ≡ take n f
   pub before : take (4 * n) u ≡ take (4 * n) w

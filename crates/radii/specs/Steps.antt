@@ -17,7 +17,8 @@ use Rattle.radii.specs.declared.Radii.{Radii}
 use Rattle.radii.specs.Radii.{average}
 
 -- what `compute_adaptive_radii` needs
-pub record Ready (c : BallPivotingConfig) (g : SpatialGrid) (h : Hash) (pts : List Float) (n : ℕ) (w : List ℕ) (f : List Float) : Type 0 where
+pub record Ready (c : BallPivotingConfig) (g : SpatialGrid) (h : Hash) (pts : List Float) (n : ℕ) (w : List ℕ)
+    (f : List Float) : Type 0 where
   pub some : 0 < n
   pub indexed : Indexed g pts n w
   pub hashed : HashedAll h pts n w

@@ -1,5 +1,7 @@
-// The least distances of a sample. Squares are compared, and roots taken only of the ten least; of the points those near by are looked at, through the spatial hash.
-// How near is a guess, which decides nothing: squares above the limit that is looked within go no further, and those that are left count only if they are ten.
+// The least distances of a sample. Squares are compared, and roots taken only of the ten least; of the points those
+// near by are looked at, through the spatial hash.
+// How near is a guess, which decides nothing: squares above the limit that is looked within go no further, and those
+// that are left count only if they are ten.
 use crate::Around;
 use grid::SpatialGrid;
 use settings::BallPivotingConfig;
@@ -19,7 +21,8 @@ ghost use Rattle.points.specs.Points.{pointAt};
 ghost use Rattle.vector.specs.Vector.{Finite};
 ghost use Rattle.spatial_hash.specs.Near.{HashedAll};
 ghost use Rattle.radii.specs.Radii.{nearest};
-ghost use Rattle.radii.specs.Squares.{isNear, within, aroundOf, tenthOf, withSquare, leastSquares, Decided, Prepared, Looked, Found};
+ghost use Rattle.radii.specs.Squares.{isNear, within, aroundOf, tenthOf, withSquare, leastSquares, Decided};
+ghost use Rattle.radii.specs.Squares.{Prepared, Looked, Found};
 
 // The neighbours of a place at 3 × radius.
 fn around_of(config: BallPivotingConfig, grid: SpatialGrid, place: Point3f) -> Around
@@ -45,7 +48,8 @@ fn is_other(w: &[u32], n: usize, around: Around, i: usize, j: usize) -> bool
     grid::search::is_near(w, n, around.indexed, around.range, cell, j)
 }
 
-// Looks at point j for the least squared distances from point i that are not above the limit, of which `kept` are in the region of the least distances.
+// Looks at point j for the least squared distances from point i that are not above the limit, of which `kept` are in
+// the region of the least distances.
 // Most points are too far, which the square tells soonest.
 fn look_at(
     points: &[f32],
@@ -58,9 +62,12 @@ fn look_at(
     f: &mut [f32],
     kept: usize,
 ) -> usize
-    requires { ⌜ (i < n) × (j < n) × (n ≤ 4096) × (3 * n ≤ length (now points)) × (4 * n ≤ length (now w)) × (n + 10 ≤ length (now f)) × (kept ≤ 10)
+    requires { ⌜ (i < n) × (j < n) × (n ≤ 4096) × (3 * n ≤ length (now points)) × (4 * n ≤ length (now w))
+        × (n + 10 ≤ length (now f)) × (kept ≤ 10)
         × Rising (take kept (drop n (now f))) ⌝ }
-    ensures { λ r. ⌜ (take r (drop n (now (f .exit))) ≡ withSquare (within limit (isNear around (now (w .entry)) n) (now (points .entry)) i) (now (points .entry)) i j (take kept (drop n (now (f .entry)))))
+    ensures { λ r. ⌜ (take r (drop n (now (f .exit)))
+        ≡ withSquare (within limit (isNear around (now (w .entry)) n) (now (points .entry)) i) (now (points .entry)) i
+        j (take kept (drop n (now (f .entry)))))
         × (r ≤ 10)
         × (take n (now (f .exit)) ≡ take n (now (f .entry))) ⌝ }
 {
@@ -76,7 +83,8 @@ fn look_at(
     kept
 }
 
-// The least squared distances from point i to the others among the `found` points that are listed, of those that are not above the limit.
+// The least squared distances from point i to the others among the `found` points that are listed, of those that are
+// not above the limit.
 fn least_squares(
     points: &[f32],
     n: usize,
@@ -87,9 +95,12 @@ fn least_squares(
     found: usize,
     f: &mut [f32],
 ) -> usize
-    requires { ⌜ (i < n) × (n ≤ 4096) × (found ≤ n) × (3 * n ≤ length (now points)) × (5 * n ≤ length (now w)) × (n + 10 ≤ length (now f)) × Below n (take found (drop (4 * n) (now w)))
+    requires { ⌜ (i < n) × (n ≤ 4096) × (found ≤ n) × (3 * n ≤ length (now points)) × (5 * n ≤ length (now w))
+        × (n + 10 ≤ length (now f)) × Below n (take found (drop (4 * n) (now w)))
         × ((j : ℕ) → j < n → Finite (pointAt (now points) j)) ⌝ }
-    ensures { λ r. ⌜ (take r (drop n (now (f .exit))) ≡ leastSquares (within limit (isNear around (now (w .entry)) n) (now (points .entry)) i) (now (points .entry)) i (take found (drop (4 * n) (now (w .entry)))))
+    ensures { λ r. ⌜ (take r (drop n (now (f .exit)))
+        ≡ leastSquares (within limit (isNear around (now (w .entry)) n) (now (points .entry)) i) (now (points .entry))
+        i (take found (drop (4 * n) (now (w .entry)))))
         × (r ≤ 10)
         × (take n (now (f .exit)) ≡ take n (now (f .entry))) ⌝ }
 {
@@ -124,7 +135,8 @@ fn look_within(
     f: &mut [f32],
 ) -> usize
     requires { ⌜ Prepared hash (now points) n i (now w) (now f) ⌝ }
-    ensures { λ r. ⌜ Looked around (now (points .entry)) n i (now (w .entry)) (now (w .exit)) (now (f .entry)) (now (f .exit)) r ⌝ }
+    ensures { λ r. ⌜ Looked around (now (points .entry)) n i (now (w .entry)) (now (w .exit)) (now (f .entry))
+        (now (f .exit)) r ⌝ }
 {
     let place = points::point_at(points, i);
     let reach = numbers::sqrt(limit) * 1.01;
@@ -156,7 +168,8 @@ fn look_everywhere(
     w: &[u32],
     f: &mut [f32],
 ) -> usize
-    requires { ⌜ (i < n) × (n ≤ 4096) × (3 * n ≤ length (now points)) × (4 * n ≤ length (now w)) × (n + 10 ≤ length (now f))
+    requires { ⌜ (i < n) × (n ≤ 4096) × (3 * n ≤ length (now points)) × (4 * n ≤ length (now w))
+        × (n + 10 ≤ length (now f))
         × ((j : ℕ) → j < n → Finite (pointAt (now points) j)) ⌝ }
     ensures { λ r. ⌜ Decided around (now (points .entry)) n i (now (w .entry)) (now (f .exit)) r
         × (r ≤ 10)
@@ -190,7 +203,8 @@ fn find_squares(
     f: &mut [f32],
 ) -> usize
     requires { ⌜ Prepared hash (now points) n i (now w) (now f) ⌝ }
-    ensures { λ r. ⌜ Found around (now (points .entry)) n i (now (w .entry)) (now (w .exit)) (now (f .entry)) (now (f .exit)) r ⌝ }
+    ensures { λ r. ⌜ Found around (now (points .entry)) n i (now (w .entry)) (now (w .exit)) (now (f .entry))
+        (now (f .exit)) r ⌝ }
 {
     let mut limit = guess * guess;
     let mut tries = first_try(n);
@@ -230,7 +244,8 @@ pub fn find_nearest(
     w: &mut [u32],
     f: &mut [f32],
 ) -> usize
-    requires { ⌜ (i < n) × (n + 10 ≤ length (now f)) × HashedAll hash (now points) n (now w) × Indexed grid (now points) n (now w) ⌝ }
+    requires { ⌜ (i < n) × (n + 10 ≤ length (now f)) × HashedAll hash (now points) n (now w)
+        × Indexed grid (now points) n (now w) ⌝ }
     ensures { λ r. ⌜ (take r (drop n (now (f .exit))) ≡ nearest config grid (now (points .entry)) n i)
         × (r ≤ 10)
         × (take n (now (f .exit)) ≡ take n (now (f .entry)))
@@ -243,7 +258,8 @@ pub fn find_nearest(
     kept
 }
 
-// A guess for the next sample: a little more than the tenth distance of the last one that had ten. It grows slowly, since a look too wide costs more than one too narrow.
+// A guess for the next sample: a little more than the tenth distance of the last one that had ten. It grows slowly,
+// since a look too wide costs more than one too narrow.
 pub fn guess_after(f: &[f32], n: usize, guess: f32) -> f32
     requires { ⌜ (n ≤ 4096) × (n + 10 ≤ length (now f)) ⌝ }
 {

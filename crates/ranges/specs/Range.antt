@@ -1,4 +1,5 @@
--- The ranges of the scope's domain, for one value, a list of values, a percentile and the points of a cloud. Definitions only.
+-- The ranges of the scope's domain, for one value, a list of values, a percentile and the points of a cloud.
+-- Definitions only.
 -- A comparison with a not-a-number is false, so it is outside every range; minus zero equals zero.
 use Prim.Native.Nat.{ℕ, suc, _/_, min}
 use mathlib.Core.Bool.{Bool, cond, _&&_}
@@ -15,7 +16,8 @@ unfoldable pub leading : Float → Float → List Float → ℕ
 leading lo hi [] = 0
 leading lo hi (x ∷ xs) = cond (inside lo hi x) (suc (leading lo hi xs)) 0
 
--- the number of the first point, three values to a point, with a value outside -bound to bound; the number of points if there is none
+-- the number of the first point, three values to a point, with a value outside -bound to bound; the number of points if
+-- there is none
 unfoldable pub firstOutside : Float → List Float → ℕ
 firstOutside bound xs = leading (neg bound) bound xs / 3
 

@@ -8,7 +8,8 @@ pub fn in_range(lo: f32, hi: f32, x: f32) -> bool
     lo <= x && x <= hi
 }
 
-// The number of the first point, three values to a point, with a value outside -bound to bound; the number of points if there is none.
+// The number of the first point, three values to a point, with a value outside -bound to bound; the number of points if
+// there is none.
 pub fn first_outside(values: &[f32], bound: f32) -> usize
     ensures { λ r. ⌜ r ≡ firstOutside bound (now (values .entry)) ⌝ }
 {

@@ -1,5 +1,5 @@
--- The triple that comes to the quality test, and how one radius stands to another. For laws and contracts inside: the main
--- call's statement cites none of it. Definitions only.
+-- The triple that comes to the quality test, and how one radius stands to another. For laws and contracts inside: the
+-- main call's statement cites none of it. Definitions only.
 use Prim.Native.Nat.{ℕ, _<_, _≤_}
 use mathlib.Core.Path.{_≡_}
 use mathlib.Core.Logic.{_≢_}

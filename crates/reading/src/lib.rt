@@ -51,7 +51,8 @@ fn read_some(input: &mut [u8], at: usize) -> Progress
 
 // All of it, or as much as the slice holds; a slice one byte longer than what is allowed tells what is longer.
 //
-// A proved loop has to end, and nothing says that the input does, so the turns are counted down from a number that no run uses up.
+// A proved loop has to end, and nothing says that the input does, so the turns are counted down from a number that no
+// run uses up.
 pub fn read_all(input: &mut [u8]) -> Progress
     ensures { λ r. ⌜ r .length ≤ length (now (input .exit)) ⌝ }
 {

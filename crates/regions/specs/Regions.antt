@@ -72,7 +72,8 @@ radiiAt n = n + 10
 
 abbrev pub floats : ℕ → List Region
 floats n =
-    record { start = samplesAt n; size = n } ∷ record { start = leastAt n; size = 10 } ∷ record { start = radiiAt n; size = 17 } ∷ []
+    record { start = samplesAt n; size = n } ∷ record { start = leastAt n; size = 10 }
+    ∷ record { start = radiiAt n; size = 17 } ∷ []
 
 -- ---- what is claimed of a map
 

@@ -1,1 +1,2 @@
-// Where everything that a call keeps stands in the two lent work slices. The map is in specs/, the proof that the regions fit and don't overlap in proofs/.
+// Where everything that a call keeps stands in the two lent work slices. The map is in specs/, the proof that the
+// regions fit and don't overlap in proofs/.

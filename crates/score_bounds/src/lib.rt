@@ -10,7 +10,8 @@ pub fn score_bound(shape: Shape) -> f32
     quality::score(3.1415927, shape.aspect_ratio, shape.edge_ratio)
 }
 
-// An aspect ratio up to which no score reaches the threshold, of 4 at most. Where the guess is none it is not a number, and nothing is at most that.
+// An aspect ratio up to which no score reaches the threshold, of 4 at most. Where the guess is none it is not a number,
+// and nothing is at most that.
 pub fn aspect_limit(threshold: f32) -> f32
     ensures { λ t. ⌜ AspectLimit threshold t ⌝ }
 {

@@ -1,4 +1,5 @@
--- The score of a point over an edge, from lengths, and the limit by which a triangle is too thin to reach a score. Definitions only.
+-- The score of a point over an edge, from lengths, and the limit by which a triangle is too thin to reach a score.
+-- Definitions only.
 use mathlib.Core.Bool.{cond, _&&_}
 use mathlib.Core.Option.{Option, none, some}
 use lib.Ieee.{Float, le}
@@ -17,9 +18,11 @@ use Rattle.scores.specs.declared.Side.{Side}
 abbrev pub sideOf : Point3f → Point3f → Side
 sideOf p q = record { p = p; q = q; square = squared q p; length = root (squared q p) }
 
--- the score of a triangle with edges of lengths a, b and c, if b and c are within the radius and the triangle is acceptable
+-- the score of a triangle with edges of lengths a, b and c, if b and c are within the radius and the triangle is
+-- acceptable
 unfoldable pub scoreNear : Scene → Float → Float → Float → Float → Float → Option Float
-scoreNear s r a b c area = cond (le c r && (le b r && accepts s r (qualityOf a b c area))) (some (qualityOf a b c area .«quality_score»)) none
+scoreNear s r a b c area =
+    cond (le c r && (le b r && accepts s r (qualityOf a b c area))) (some (qualityOf a b c area .«quality_score»)) none
 
 -- the score of the edge from p to q with point t
 unfoldable pub scoreOver : Scene → Float → Point3f → Point3f → Point3f → Option Float

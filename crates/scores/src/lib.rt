@@ -52,7 +52,8 @@ fn score_near(s: Scene, radius: f32, a: f32, b: f32, c: f32, cross: f32, top: f3
     decisions::score_from(s, radius, a, to_q, to_p, numbers::sqrt(cross) * 0.5, top)
 }
 
-// The score of an edge with a point, if the point is near enough to both ends, the triangle is acceptable and the score is not below `top`.
+// The score of an edge with a point, if the point is near enough to both ends, the triangle is acceptable and the score
+// is not below `top`.
 // `thin` is a limit for triangles that don't reach `top`.
 pub fn score_over(s: Scene, radius: f32, side: Side, t: Point3f, top: f32, thin: f32) -> Score
     requires { ⌜ (side ≡ sideOf (side .p) (side .q)) × Thinned top thin ⌝ }

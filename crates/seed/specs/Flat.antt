@@ -21,7 +21,8 @@ tooSmall s v = lt (areaBound v v) (s .«min_triangle_area») || lt (areaBound v 
 
 -- no three points of the cloud make an acceptable triangle, at any radius at which edges are limited at all
 abbrev pub Flat : Scene → List Float → Type 0
-Flat s pts = (r : Float) → T (lt (r ⊗ s .«max_edge_factor») (inf false)) → (i j k : ℕ) → i < s .n → j < s .n → k < s .n → accepts s r (qualityAt pts i j k) ≡ false
+Flat s pts = (r : Float) → T (lt (r ⊗ s .«max_edge_factor») (inf false)) → (i j k : ℕ) → i < s .n → j < s .n → k < s .n
+    → accepts s r (qualityAt pts i j k) ≡ false
 
 -- the coordinate of point k on an axis
 abbrev pub onAxis : List Float → ℕ → ℕ → Float

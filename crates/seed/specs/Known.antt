@@ -24,7 +24,8 @@ pub record Growing (s : Scene) (r : Float) : Type 0 where
 
 -- no radius from 0 up to another has a seed
 abbrev pub NothingTo : Scene → List Float → List ℕ → Float → Type 0
-NothingTo s pts used upto = (r : Float) → T (le (f32 0) r) → T (le r upto) → searching (floatsOf s pts) (s .n) .seedOf r used ≡ none
+NothingTo s pts used upto = (r : Float) → T (le (f32 0) r) → T (le r upto)
+    → searching (floatsOf s pts) (s .n) .seedOf r used ≡ none
 
 -- a radius is one of those, or the cloud is flat and edges are limited at that radius
 pub data Known (s : Scene) (flat : Bool) (r upto : Float) : Type 0 where

@@ -37,7 +37,8 @@ isLeft s lo i w k = isOther lo i k && unused (usedIn s w) k
 
 -- no two such points make one with point i
 abbrev pub SeedlessFrom : Scene → List Float → Float → List ℕ → ℕ → ℕ → Type 0
-SeedlessFrom s pts r used lo i = (j k : ℕ) → j < s .n → k < s .n → isOther lo i j ≡ true → isOther lo i k ≡ true → j ≢ k → unused used j ≡ true → unused used k ≡ true → Seedless s pts r i j k
+SeedlessFrom s pts r used lo i = (j k : ℕ) → j < s .n → k < s .n → isOther lo i j ≡ true → isOther lo i k ≡ true
+    → j ≢ k → unused used j ≡ true → unused used k ≡ true → Seedless s pts r i j k
 
 -- that holds of each unused point from lo on and below i
 abbrev pub SeedlessBetween : Scene → List Float → Float → List ℕ → ℕ → ℕ → Type 0
@@ -49,7 +50,8 @@ Stands s w count k = (m : ℕ) × ((m < count) × (getD w (neighborsAt (s .n) + 
 
 -- no two of the listed points that are such make one with point i
 abbrev pub AllLeftSeedless : Scene → List Float → Float → ℕ → ℕ → List ℕ → ℕ → Type 0
-AllLeftSeedless s pts r lo i w found = (j k : ℕ) → Stands s w found j → Stands s w found k → isLeft s lo i w j ≡ true → isLeft s lo i w k ≡ true → j ≢ k → Seedless s pts r i j k
+AllLeftSeedless s pts r lo i w found = (j k : ℕ) → Stands s w found j → Stands s w found k → isLeft s lo i w j ≡ true
+    → isLeft s lo i w k ≡ true → j ≢ k → Seedless s pts r i j k
 
 -- of the `found` points r are left, all such among them: w before, u after
 pub record Left (s : Scene) (lo i : ℕ) (w u : List ℕ) (found r : ℕ) : Type 0 where

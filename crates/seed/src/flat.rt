@@ -9,7 +9,8 @@ ghost use Rattle.points.specs.Points.{pointAt};
 ghost use Rattle.vector.specs.Vector.{Finite};
 ghost use Rattle.seed.specs.Flat.{tooSmall, Flat, Numbers, Extent};
 
-// How far the n points reach on one axis, 0, 1 or 2. The difference is taken both ways, since a zero may have either sign.
+// How far the n points reach on one axis, 0, 1 or 2. The difference is taken both ways, since a zero may have either
+// sign.
 fn extent_on(points: &[f32], axis: usize, n: usize) -> f32
     requires { ⌜ (axis < 3) × (0 < n) × (n ≤ 4096) × (3 * n ≤ length (now points)) × Numbers (now points) axis n ⌝ }
     ensures { λ r. ⌜ Extent (now (points .entry)) axis n r ⌝ }
@@ -25,7 +26,8 @@ fn extent_on(points: &[f32], axis: usize, n: usize) -> f32
     numbers::max(numbers::max(0.0, hi - lo), -(lo - hi))
 }
 
-// Whether two edges that v bounds make no triangle that is large enough: one next to no area never is, where edges are limited.
+// Whether two edges that v bounds make no triangle that is large enough: one next to no area never is, where edges are
+// limited.
 fn is_too_small(s: Scene, v: Point3f) -> bool
     ensures { λ r. ⌜ r ≡ tooSmall s v ⌝ }
 {
@@ -35,7 +37,8 @@ fn is_too_small(s: Scene, v: Point3f) -> bool
 
 // Whether no triangle in the box around the points is large enough.
 pub fn is_flat(s: Scene, points: &[f32]) -> bool
-    requires { ⌜ (0 < s .n) × (s .n ≤ 4096) × (length (now points) ≡ 3 * s .n) × ((k : ℕ) → k < s .n → Finite (pointAt (now points) k)) ⌝ }
+    requires { ⌜ (0 < s .n) × (s .n ≤ 4096) × (length (now points) ≡ 3 * s .n)
+        × ((k : ℕ) → k < s .n → Finite (pointAt (now points) k)) ⌝ }
     ensures { λ r. ⌜ (r ≡ true → Flat s (now (points .entry))) ⌝ }
 {
     let x = extent_on(points, 0, s.n);

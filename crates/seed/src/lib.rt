@@ -29,7 +29,8 @@ pub struct Search {
     pub purse: usize,
 }
 
-// The first triangle of unused points at a radius that is acceptable, in the order of their numbers and neighbours; it is never without area. It may be known that there is none.
+// The first triangle of unused points at a radius that is acceptable, in the order of their numbers and neighbours; it
+// is never without area. It may be known that there is none.
 pub fn find_seed_triangle(
     s: Scene,
     points: &[f32],
@@ -38,9 +39,12 @@ pub fn find_seed_triangle(
     hash: Hash,
     known: bool,
 ) -> Search
-    requires { ⌜ Held s (now points) (now w) × Indexed (s .grid) (now points) (s .n) (now w) × Hashed hash (now points) (s .n) (now w)
+    requires { ⌜ Held s (now points) (now w) × Indexed (s .grid) (now points) (s .n) (now w)
+        × Hashed hash (now points) (s .n) (now w)
         × (known ≡ true → searching (floatsOf s (now points)) (s .n) .seedOf radius (usedIn s (now w)) ≡ none) ⌝ }
-    ensures { λ r. ⌜ (r .seed ≡ seedFound (searching (floatsOf s (now (points .entry))) (s .n) .seedOf radius (usedIn s (now (w .entry))))) × Kept s (now (w .entry)) (now (w .exit))
+    ensures { λ r. ⌜ (r .seed
+        ≡ seedFound (searching (floatsOf s (now (points .entry))) (s .n) .seedOf radius (usedIn s (now (w .entry)))))
+        × Kept s (now (w .entry)) (now (w .exit))
         × WithArea (now (points .entry)) (r .seed) ⌝ }
 {
     if known {
@@ -53,7 +57,8 @@ pub fn find_seed_triangle(
     triples::find_from(s, points, w, radius, hash, limits)
 }
 
-// Whether a radius is known to have no seed: in a flat cloud each at which edges are limited, else each up to another one.
+// Whether a radius is known to have no seed: in a flat cloud each at which edges are limited, else each up to another
+// one.
 pub fn is_known(s: Scene, flat: bool, radius: f32, upto: f32) -> bool
     ensures { λ r. ⌜ (r ≡ true → Known s flat radius upto) ⌝ }
 {
@@ -91,7 +96,8 @@ fn is_growing(s: Scene, radius: f32) -> bool
 // The radius, if it is known that no radius up to it has a seed, as far as that is paid for; else not a number.
 fn ask_at(s: Scene, points: &[f32], w: &mut [u32], radius: f32, hash: Hash, purse: usize) -> f32
     requires { ⌜ Held s (now points) (now w) × Hashed hash (now points) (s .n) (now w) ⌝ }
-    ensures { λ r. ⌜ NothingTo s (now (points .entry)) (usedIn s (now (w .entry))) r × Kept s (now (w .entry)) (now (w .exit)) ⌝ }
+    ensures { λ r. ⌜ NothingTo s (now (points .entry)) (usedIn s (now (w .entry))) r
+        × Kept s (now (w .entry)) (now (w .exit)) ⌝ }
 {
     if !is_growing(s, radius) {
         return 0.0 / 0.0;
@@ -103,8 +109,9 @@ fn ask_at(s: Scene, points: &[f32], w: &mut [u32], radius: f32, hash: Hash, purs
     0.0 / 0.0
 }
 
-// A radius up to which none has a seed, after one that was known or searched; not a number where none is known. After a search in vain the largest radius is asked, with what
-// that search has left to pay with: what is accepted at a radius is accepted at every larger one.
+// A radius up to which none has a seed, after one that was known or searched; not a number where none is known. After a
+// search in vain the largest radius is asked, with what that search has left to pay with: what is accepted at a radius
+// is accepted at every larger one.
 pub fn known_to(
     s: Scene,
     points: &[f32],
@@ -116,8 +123,10 @@ pub fn known_to(
     upto: f32,
     purse: usize,
 ) -> f32
-    requires { ⌜ Held s (now points) (now w) × Hashed hash (now points) (s .n) (now w) × (known ≡ true → NothingTo s (now points) (usedIn s (now w)) upto) ⌝ }
-    ensures { λ r. ⌜ NothingTo s (now (points .entry)) (usedIn s (now (w .entry))) r × Kept s (now (w .entry)) (now (w .exit)) ⌝ }
+    requires { ⌜ Held s (now points) (now w) × Hashed hash (now points) (s .n) (now w)
+        × (known ≡ true → NothingTo s (now points) (usedIn s (now w)) upto) ⌝ }
+    ensures { λ r. ⌜ NothingTo s (now (points .entry)) (usedIn s (now (w .entry))) r
+        × Kept s (now (w .entry)) (now (w .exit)) ⌝ }
 {
     if known {
         return upto;

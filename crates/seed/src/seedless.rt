@@ -1,6 +1,7 @@
-// Points no three of which make a seed, whichever of them comes first: each three are looked at once. What that may take is paid from a purse, to which each first point
-// adds what a search in the definition's order takes there; so it never takes much more than that, whatever the cloud. A purse decides nothing but which of two searches
-// with the same answer is made.
+// Points no three of which make a seed, whichever of them comes first: each three are looked at once. What that may
+// take is paid from a purse, to which each first point adds what a search in the definition's order takes there; so it
+// never takes much more than that, whatever the cloud. A purse decides nothing but which of two searches with the same
+// answer is made.
 use crate::three;
 use decisions::Scene;
 use filters::Limits;
@@ -15,12 +16,14 @@ ghost use Rattle.spatial_hash.specs.Near.{Hashed};
 ghost use Rattle.filters.specs.Refused.{Limiting};
 ghost use Rattle.nearby.specs.Ready.{Held, Listed, Kept, usedIn};
 ghost use Rattle.seed.specs.Judged.{NoSeed, Judged};
-ghost use Rattle.seed.specs.Seedless.{Seedless, SeedlessAfter, AllSeedless, SeedlessFrom, SeedlessBetween, isOther, isLeft, Left, AllLeftSeedless};
+ghost use Rattle.seed.specs.Seedless.{Seedless, SeedlessAfter, AllSeedless, SeedlessFrom, SeedlessBetween};
+ghost use Rattle.seed.specs.Seedless.{isOther, isLeft, Left, AllLeftSeedless};
 
 // What it takes to measure three points, where it takes 1 to refuse them.
 const MEASURED: usize = 24;
 
-// Whether points i, j and k make no seed, whichever of them comes first: 0 if they may, else what it took to tell. Limits are asked first, since they need no root.
+// Whether points i, j and k make no seed, whichever of them comes first: 0 if they may, else what it took to tell.
+// Limits are asked first, since they need no root.
 fn price_of(
     s: Scene,
     points: &[f32],
@@ -30,7 +33,8 @@ fn price_of(
     j: usize,
     k: usize,
 ) -> usize
-    requires { ⌜ (length (now points) ≡ 3 * s .n) × (i < s .n) × (j < s .n) × (k < s .n) × Judged s (now points) radius limits ⌝ }
+    requires { ⌜ (length (now points) ≡ 3 * s .n) × (i < s .n) × (j < s .n) × (k < s .n)
+        × Judged s (now points) radius limits ⌝ }
     ensures { λ r. ⌜ (0 < r → Seedless s (now (points .entry)) radius i j k) ⌝ }
 {
     let first = points::point_at(points, i);
@@ -54,7 +58,8 @@ fn price_of(
     MEASURED
 }
 
-// What is left of a purse once it is told that points i and j make no seed with any of the listed points from a place on; 0 if that was not told.
+// What is left of a purse once it is told that points i and j make no seed with any of the listed points from a place
+// on; 0 if that was not told.
 fn pay_beside(
     s: Scene,
     points: &[f32],
@@ -67,8 +72,10 @@ fn pay_beside(
     from: usize,
     purse: usize,
 ) -> usize
-    requires { ⌜ Held s (now points) (now w) × Listed s (now w) count × (i < s .n) × (j < s .n) × Judged s (now points) radius limits ⌝ }
-    ensures { λ r. ⌜ (0 < r → SeedlessAfter s (now (points .entry)) radius (now (w .entry)) (neighborsAt (s .n)) count i j from) ⌝ }
+    requires { ⌜ Held s (now points) (now w) × Listed s (now w) count × (i < s .n) × (j < s .n)
+        × Judged s (now points) radius limits ⌝ }
+    ensures { λ r. ⌜ (0 < r
+        → SeedlessAfter s (now (points .entry)) radius (now (w .entry)) (neighborsAt (s .n)) count i j from) ⌝ }
 {
     let at = 4 * s.n;
     let mut left = purse;
@@ -99,8 +106,10 @@ fn pay_all(
     i: usize,
     purse: usize,
 ) -> usize
-    requires { ⌜ Held s (now points) (now w) × Listed s (now w) count × (i < s .n) × Judged s (now points) radius limits ⌝ }
-    ensures { λ r. ⌜ (0 < r → AllSeedless s (now (points .entry)) radius (now (w .entry)) (neighborsAt (s .n)) count i) ⌝ }
+    requires { ⌜ Held s (now points) (now w) × Listed s (now w) count × (i < s .n)
+        × Judged s (now points) radius limits ⌝ }
+    ensures { λ r. ⌜ (0 < r
+        → AllSeedless s (now (points .entry)) radius (now (w .entry)) (neighborsAt (s .n)) count i) ⌝ }
 {
     let at = 4 * s.n;
     let mut left = purse;
@@ -137,7 +146,8 @@ fn is_left(s: Scene, w: &[u32], lo: usize, i: usize, k: usize) -> bool
     nearby::is_unused(s, w, k)
 }
 
-// Leaves those of the listed points that are unused and come after point i or before point lo, in no order, and returns how many they are.
+// Leaves those of the listed points that are unused and come after point i or before point lo, in no order, and returns
+// how many they are.
 fn keep_left(s: Scene, w: &mut [u32], found: usize, lo: usize, i: usize) -> usize
     requires { ⌜ (s .n ≤ 4096) × (24 * s .n + 64 ≤ length (now w)) × Listed s (now w) found ⌝ }
     ensures { λ r. ⌜ Left s lo i (now (w .entry)) (now (w .exit)) found r ⌝ }
@@ -187,14 +197,16 @@ fn added(purse: usize, amount: usize) -> usize {
     purse + amount
 }
 
-// What a search in the definition's order takes at a first point with so many neighbours, where so many of half as many pairs are near each other.
+// What a search in the definition's order takes at a first point with so many neighbours, where so many of half as many
+// pairs are near each other.
 fn work_of(count: usize, near: usize) -> usize
     requires { ⌜ (count ≤ 4096) × (near ≤ 4096) ⌝ }
 {
     count * (count + 16 * near)
 }
 
-// What a purse has to hold before a point with so many neighbours is looked at: more for the first, since each that follows costs less.
+// What a purse has to hold before a point with so many neighbours is looked at: more for the first, since each that
+// follows costs less.
 fn least_purse(count: usize, begun: bool) -> usize
     requires { ⌜ count ≤ 4096 ⌝ }
 {
@@ -210,7 +222,8 @@ pub struct Checked {
     pub purse: usize,
 }
 
-// What is left of a purse once it is told that no two of the `found` points that are unused and come after point i or before point lo make a seed with it; 0 if that was not told.
+// What is left of a purse once it is told that no two of the `found` points that are unused and come after point i or
+// before point lo make a seed with it; 0 if that was not told.
 fn pay_found(
     s: Scene,
     points: &[f32],
@@ -222,8 +235,10 @@ fn pay_found(
     limits: Limits,
     purse: usize,
 ) -> usize
-    requires { ⌜ Held s (now points) (now w) × Listed s (now w) found × (i < s .n) × Judged s (now points) radius limits ⌝ }
-    ensures { λ r. ⌜ (0 < r → AllLeftSeedless s (now (points .entry)) radius lo i (now (w .entry)) found) × Kept s (now (w .entry)) (now (w .exit)) ⌝ }
+    requires { ⌜ Held s (now points) (now w) × Listed s (now w) found × (i < s .n)
+        × Judged s (now points) radius limits ⌝ }
+    ensures { λ r. ⌜ (0 < r → AllLeftSeedless s (now (points .entry)) radius lo i (now (w .entry)) found)
+        × Kept s (now (w .entry)) (now (w .exit)) ⌝ }
 {
     let count = keep_left(s, w, found, lo, i);
     pay_all(s, points, w, count, radius, limits, i, purse)
@@ -241,8 +256,11 @@ pub fn check_first(
     limits: Limits,
     purse: usize,
 ) -> Checked
-    requires { ⌜ Held s (now points) (now w) × Hashed hash (now points) (s .n) (now w) × (i < s .n) × Limiting s radius limits ⌝ }
-    ensures { λ r. ⌜ (r .seedless ≡ true → SeedlessFrom s (now (points .entry)) radius (usedIn s (now (w .entry))) lo i) × Kept s (now (w .entry)) (now (w .exit)) ⌝ }
+    requires { ⌜ Held s (now points) (now w) × Hashed hash (now points) (s .n) (now w) × (i < s .n)
+        × Limiting s radius limits ⌝ }
+    ensures { λ r. ⌜ (r .seedless ≡ true
+        → SeedlessFrom s (now (points .entry)) radius (usedIn s (now (w .entry))) lo i)
+        × Kept s (now (w .entry)) (now (w .exit)) ⌝ }
 {
     let place = points::point_at(points, i);
     let found = spatial_hash::gather_within(
@@ -276,7 +294,8 @@ pub fn check_first(
     }
 }
 
-// What is left of a purse once it is told that no two unused points after point i make a seed with it, if it is unused; 0 if that was not told.
+// What is left of a purse once it is told that no two unused points after point i make a seed with it, if it is unused;
+// 0 if that was not told.
 fn pay_unused(
     s: Scene,
     points: &[f32],
@@ -287,8 +306,11 @@ fn pay_unused(
     limits: Limits,
     purse: usize,
 ) -> usize
-    requires { ⌜ Held s (now points) (now w) × Hashed hash (now points) (s .n) (now w) × (i < s .n) × Limiting s radius limits ⌝ }
-    ensures { λ r. ⌜ (0 < r → unused (usedIn s (now (w .entry))) i ≡ true → SeedlessFrom s (now (points .entry)) radius (usedIn s (now (w .entry))) 0 i) × Kept s (now (w .entry)) (now (w .exit)) ⌝ }
+    requires { ⌜ Held s (now points) (now w) × Hashed hash (now points) (s .n) (now w) × (i < s .n)
+        × Limiting s radius limits ⌝ }
+    ensures { λ r. ⌜ (0 < r → unused (usedIn s (now (w .entry))) i ≡ true
+        → SeedlessFrom s (now (points .entry)) radius (usedIn s (now (w .entry))) 0 i)
+        × Kept s (now (w .entry)) (now (w .exit)) ⌝ }
 {
     if !nearby::is_unused(s, w, i) {
         return purse;
@@ -306,7 +328,8 @@ fn pay_unused(
     pay_found(s, points, w, found, radius, 0, i, limits, purse)
 }
 
-// Whether what is left after a point will do for so many more, each of which costs less than the one before; if nothing is left it won't.
+// Whether what is left after a point will do for so many more, each of which costs less than the one before; if nothing
+// is left it won't.
 fn is_enough(before: usize, left: usize, more: usize) -> bool
     requires { ⌜ more ≤ 4096 ⌝ }
     ensures { λ r. ⌜ (r ≡ true → 0 < left) ⌝ }
@@ -331,7 +354,8 @@ pub fn is_exhausted(
     purse: usize,
 ) -> bool
     requires { ⌜ Held s (now points) (now w) × Hashed hash (now points) (s .n) (now w) × Limiting s radius limits ⌝ }
-    ensures { λ r. ⌜ (r ≡ true → SeedlessBetween s (now (points .entry)) radius (usedIn s (now (w .entry))) 0 (s .n)) × Kept s (now (w .entry)) (now (w .exit)) ⌝ }
+    ensures { λ r. ⌜ (r ≡ true → SeedlessBetween s (now (points .entry)) radius (usedIn s (now (w .entry))) 0 (s .n))
+        × Kept s (now (w .entry)) (now (w .exit)) ⌝ }
 {
     let n = s.n;
     let mut left = purse;

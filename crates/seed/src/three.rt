@@ -6,7 +6,8 @@ ghost use Rattle.quality.specs.Shape.{qualityOf};
 ghost use Rattle.decisions.specs.Decisions.{accepts};
 ghost use Rattle.seed.specs.Judged.{RefusedBoth};
 
-// Whether the settings accept a triangle with edges of lengths a, b and c at a radius. The bound is asked first, since it needs no angle.
+// Whether the settings accept a triangle with edges of lengths a, b and c at a radius. The bound is asked first, since
+// it needs no angle.
 fn is_accepted(s: Scene, radius: f32, a: f32, b: f32, c: f32, area: f32) -> bool
     ensures { λ r. ⌜ r ≡ accepts s radius (qualityOf a b c area) ⌝ }
 {

@@ -44,7 +44,8 @@ fn is_third(
     j: usize,
     k: usize,
 ) -> bool
-    requires { ⌜ Held s (now points) (now w) × (i < s .n) × (j < s .n) × (k < s .n) × Judged s (now points) radius limits × (isClose (now points) radius i j ≡ true) ⌝ }
+    requires { ⌜ Held s (now points) (now w) × (i < s .n) × (j < s .n) × (k < s .n)
+        × Judged s (now points) radius limits × (isClose (now points) radius i j ≡ true) ⌝ }
     ensures { λ r. ⌜ r ≡ isThird (floatsOf s (now (points .entry))) radius (usedIn s (now (w .entry))) i j k ⌝ }
 {
     if i == k {
@@ -75,8 +76,11 @@ fn find_third(
     i: usize,
     j: usize,
 ) -> Seed
-    requires { ⌜ Held s (now points) (now w) × Listed s (now w) count × (i < s .n) × (j < s .n) × Judged s (now points) radius limits × (isClose (now points) radius i j ≡ true) ⌝ }
-    ensures { λ r. ⌜ r ≡ seedFound (thirdOf (floatsOf s (now (points .entry))) radius (usedIn s (now (w .entry))) i j (listed s (now (w .entry)) count)) ⌝ }
+    requires { ⌜ Held s (now points) (now w) × Listed s (now w) count × (i < s .n) × (j < s .n)
+        × Judged s (now points) radius limits × (isClose (now points) radius i j ≡ true) ⌝ }
+    ensures { λ r. ⌜ r
+        ≡ seedFound (thirdOf (floatsOf s (now (points .entry))) radius (usedIn s (now (w .entry))) i j
+        (listed s (now (w .entry)) count)) ⌝ }
 {
     let at = 4 * s.n;
     let mut m: usize = 0;
@@ -101,8 +105,11 @@ fn try_second(
     i: usize,
     j: usize,
 ) -> Seed
-    requires { ⌜ Held s (now points) (now w) × Listed s (now w) count × (i < s .n) × (j < s .n) × Judged s (now points) radius limits ⌝ }
-    ensures { λ r. ⌜ r ≡ seedFound (withSecond (floatsOf s (now (points .entry))) radius (usedIn s (now (w .entry))) i (listed s (now (w .entry)) count) j) ⌝ }
+    requires { ⌜ Held s (now points) (now w) × Listed s (now w) count × (i < s .n) × (j < s .n)
+        × Judged s (now points) radius limits ⌝ }
+    ensures { λ r. ⌜ r
+        ≡ seedFound (withSecond (floatsOf s (now (points .entry))) radius (usedIn s (now (w .entry))) i
+        (listed s (now (w .entry)) count) j) ⌝ }
 {
     if !is_second(s, points, w, radius, i, j) {
         return Seed::Nothing;
@@ -120,8 +127,11 @@ fn find_second(
     limits: Limits,
     i: usize,
 ) -> Seed
-    requires { ⌜ Held s (now points) (now w) × Listed s (now w) count × (i < s .n) × Judged s (now points) radius limits ⌝ }
-    ensures { λ r. ⌜ r ≡ seedFound (secondOf (floatsOf s (now (points .entry))) radius (usedIn s (now (w .entry))) i (listed s (now (w .entry)) count) (listed s (now (w .entry)) count)) ⌝ }
+    requires { ⌜ Held s (now points) (now w) × Listed s (now w) count × (i < s .n)
+        × Judged s (now points) radius limits ⌝ }
+    ensures { λ r. ⌜ r
+        ≡ seedFound (secondOf (floatsOf s (now (points .entry))) radius (usedIn s (now (w .entry))) i
+        (listed s (now (w .entry)) count) (listed s (now (w .entry)) count)) ⌝ }
 {
     let at = 4 * s.n;
     let mut m: usize = 0;
@@ -146,8 +156,11 @@ fn try_first(
     hash: Hash,
     limits: Limits,
 ) -> Seed
-    requires { ⌜ Held s (now points) (now w) × Indexed (s .grid) (now points) (s .n) (now w) × Hashed hash (now points) (s .n) (now w) × (i < s .n) × Limiting s radius limits ⌝ }
-    ensures { λ r. ⌜ (r ≡ seedFound (withFirst (floatsOf s (now (points .entry))) radius (usedIn s (now (w .entry))) i)) × Kept s (now (w .entry)) (now (w .exit)) ⌝ }
+    requires { ⌜ Held s (now points) (now w) × Indexed (s .grid) (now points) (s .n) (now w)
+        × Hashed hash (now points) (s .n) (now w) × (i < s .n) × Limiting s radius limits ⌝ }
+    ensures { λ r. ⌜ (r
+        ≡ seedFound (withFirst (floatsOf s (now (points .entry))) radius (usedIn s (now (w .entry))) i))
+        × Kept s (now (w .entry)) (now (w .exit)) ⌝ }
 {
     let place = points::point_at(points, i);
     let f = nearby::filter_of(s, place, place, radius * 2.0);
@@ -167,9 +180,12 @@ fn try_unless_seedless(
     limits: Limits,
     seedless: bool,
 ) -> Seed
-    requires { ⌜ Held s (now points) (now w) × Indexed (s .grid) (now points) (s .n) (now w) × Hashed hash (now points) (s .n) (now w) × (i < s .n) × Limiting s radius limits
+    requires { ⌜ Held s (now points) (now w) × Indexed (s .grid) (now points) (s .n) (now w)
+        × Hashed hash (now points) (s .n) (now w) × (i < s .n) × Limiting s radius limits
         × (seedless ≡ true → withFirst (floatsOf s (now points)) radius (usedIn s (now w)) i ≡ none) ⌝ }
-    ensures { λ r. ⌜ (r ≡ seedFound (withFirst (floatsOf s (now (points .entry))) radius (usedIn s (now (w .entry))) i)) × Kept s (now (w .entry)) (now (w .exit)) ⌝ }
+    ensures { λ r. ⌜ (r
+        ≡ seedFound (withFirst (floatsOf s (now (points .entry))) radius (usedIn s (now (w .entry))) i))
+        × Kept s (now (w .entry)) (now (w .exit)) ⌝ }
 {
     if seedless {
         return Seed::Nothing;
@@ -188,7 +204,8 @@ fn known_from(lo: usize, i: usize, seedless: bool) -> usize
     i + 1
 }
 
-// The first seed; only the first 1,000 unused points are tried as i. No three points make a seed of which one is from lo to i, whichever comes first.
+// The first seed; only the first 1,000 unused points are tried as i. No three points make a seed of which one is from
+// lo to i, whichever comes first.
 pub fn find_from(
     s: Scene,
     points: &[f32],
@@ -197,8 +214,11 @@ pub fn find_from(
     hash: Hash,
     limits: Limits,
 ) -> Search
-    requires { ⌜ Held s (now points) (now w) × Indexed (s .grid) (now points) (s .n) (now w) × Hashed hash (now points) (s .n) (now w) × Limiting s radius limits ⌝ }
-    ensures { λ r. ⌜ (r .seed ≡ seedFound (firstOf (floatsOf s (now (points .entry))) radius (usedIn s (now (w .entry))) (upFrom 0 (s .n)) 1000)) × Kept s (now (w .entry)) (now (w .exit)) ⌝ }
+    requires { ⌜ Held s (now points) (now w) × Indexed (s .grid) (now points) (s .n) (now w)
+        × Hashed hash (now points) (s .n) (now w) × Limiting s radius limits ⌝ }
+    ensures { λ r. ⌜ (r .seed
+        ≡ seedFound (firstOf (floatsOf s (now (points .entry))) radius (usedIn s (now (w .entry))) (upFrom 0 (s .n))
+        1000)) × Kept s (now (w .entry)) (now (w .exit)) ⌝ }
 {
     let n = s.n;
     let mut left: usize = 1000;

@@ -29,7 +29,8 @@ cellFactorInside x = inside (f32 0x3f000000) (f32 0x41800000) x
 
 -- `quality_threshold`, `max_edge_factor`, `min_triangle_area`, `spatial_cell_factor`
 abbrev pub lastTests : Float → Float → Float → Float → List Bool
-lastTests quality edge area cell = thresholdInside quality ∷ thresholdInside edge ∷ thresholdInside area ∷ cellFactorInside cell ∷ []
+lastTests quality edge area cell = thresholdInside quality ∷ thresholdInside edge ∷ thresholdInside area
+    ∷ cellFactorInside cell ∷ []
 
 -- the settings' tests, in the scope's order
 unfoldable pub settingTests : BallPivotingConfig → List Bool
@@ -50,7 +51,8 @@ defaults radius = record {
   «additional_radii» = f32 0x3d4ccccd ∷ f32 0x3e19999a ∷ f32 0x3e4ccccd ∷ f32 0 ∷ f32 0 ∷ f32 0 ∷ f32 0 ∷ f32 0 ∷ [];
   «additional_count» = 3;
   «adaptive_radius» = true;
-  «adaptive_percentiles» = f32 0x3e800000 ∷ f32 0x3f000000 ∷ f32 0x3f400000 ∷ f32 0x3f666666 ∷ f32 0 ∷ f32 0 ∷ f32 0 ∷ f32 0 ∷ [];
+  «adaptive_percentiles» = f32 0x3e800000 ∷ f32 0x3f000000 ∷ f32 0x3f400000 ∷ f32 0x3f666666 ∷ f32 0 ∷ f32 0 ∷ f32 0
+      ∷ f32 0 ∷ [];
   «percentile_count» = 4;
   «quality_threshold» = f32 0x3dcccccd;
   «max_edge_factor» = f32 0x40400000;

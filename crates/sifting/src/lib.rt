@@ -1,4 +1,5 @@
-// Of the points that are listed those near a place. Each is written where it would stay before it is asked, so that no branch has to be foretold.
+// Of the points that are listed those near a place. Each is written where it would stay before it is asked, so that no
+// branch has to be foretold.
 use vector::Point3f;
 ghost use mathlib.Core.Path.{_≡_};
 ghost use Prim.Native.Nat.{_+_, _*_, _<_};
@@ -13,7 +14,8 @@ fn is_within(points: &[f32], k: usize, place: Point3f, limit: f32) -> bool
     !(vector::distance_squared(points::point_at(points, k), place) > limit)
 }
 
-// Leaves those of the `found` points that are listed whose squared distance from a place is not above a limit, in their order, and returns how many they are.
+// Leaves those of the `found` points that are listed whose squared distance from a place is not above a limit, in their
+// order, and returns how many they are.
 pub fn keep_within(
     points: &[f32],
     w: &mut [u32],

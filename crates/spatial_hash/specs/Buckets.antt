@@ -66,7 +66,8 @@ unfoldable pub chain : (ℕ → ℕ) → ℕ → ℕ → List ℕ
 chain f b zero = []
 chain f b (suc j) = elim (eqb (f j) b) [ true ↦ j ∷ chain f b j | false ↦ chain f b j ]
 
--- the n points' words when the first j are chained into m buckets: each bucket has its last point, and each point in one of them the one before it there
+-- the n points' words when the first j are chained into m buckets: each bucket has its last point, and each point in
+-- one of them the one before it there
 pub record Chained (f : ℕ → ℕ) (n m : ℕ) (w : List ℕ) (j : ℕ) : Type 0 where
   pub heads : (b : ℕ) → b < m → getD w (startsAt n + b) 0 ≡ lastIn f b j
   pub links : (i : ℕ) → i < j → f i < m → getD w (linksAt n + i) 0 ≡ lastIn f (f i) i
@@ -101,7 +102,8 @@ unfoldable pub rows : ℕ → List ℕ → List ℕ → List ℕ
 rows m [] qs = []
 rows m (p ∷ ps) qs = row m p qs ++ rows m ps qs
 
--- the buckets of row p that have one of a span; of the rows with x and one of a span; of those with one of each of two spans
+-- the buckets of row p that have one of a span; of the rows with x and one of a span; of those with one of each of two
+-- spans
 abbrev pub rowOf : ℕ → ℕ → Span → List ℕ
 rowOf m p zs = row (m + 1) p (spanned m zs)
 

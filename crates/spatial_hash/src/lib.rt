@@ -1,6 +1,8 @@
-// The points near a place: a spatial hash over the cloud, in the words of the work slice from 9n on. How its cells are sized is a guess that decides nothing;
+// The points near a place: a spatial hash over the cloud, in the words of the work slice from 9n on. How its cells are
+// sized is a guess that decides nothing;
 // what is promised is that no point within the distance asked for is left out, but those that were removed.
-// The points of a row of buckets, those with the same remainders on the first two axes, lie one after another, so that a walk goes from row to row and passes no empty bucket.
+// The points of a row of buckets, those with the same remainders on the first two axes, lie one after another, so that
+// a walk goes from row to row and passes no empty bucket.
 mod cells;
 mod leave;
 mod links;
@@ -45,7 +47,8 @@ pub fn build(points: &[f32], n: usize, size: f32, w: &mut [u32]) -> Hash
     hash
 }
 
-// Writes the numbers of points into the region of the neighbours, those within the bounds that are not out among them, and returns how many they are.
+// Writes the numbers of points into the region of the neighbours, those within the bounds that are not out among them,
+// and returns how many they are.
 fn gather(points: &[f32], w: &mut [u32], n: usize, hash: Hash, bounds: Bounds) -> usize
     requires { ⌜ Linked hash (now points) n (now w) ⌝ }
     ensures { λ r. ⌜ Gathered (now (points .entry)) n bounds (now (w .entry)) (now (w .exit)) r ⌝ }
@@ -56,7 +59,8 @@ fn gather(points: &[f32], w: &mut [u32], n: usize, hash: Hash, bounds: Bounds) -
     walk::visit_planes(points, w, n, hash, xs, ys, zs)
 }
 
-// The same of the points whose squared distance from a place is not above a limit. The reach is a guess at how far they are.
+// The same of the points whose squared distance from a place is not above a limit. The reach is a guess at how far they
+// are.
 pub fn gather_within(
     points: &[f32],
     w: &mut [u32],

@@ -60,7 +60,8 @@ pub fn clear_heads(w: &mut [u32], n: usize, side: usize)
 // Puts point j at the head of bucket b.
 fn link_point(w: &mut [u32], n: usize, b: usize, j: usize)
     requires { ⌜ (n ≤ 4096) × (j < n) × (b < 6 * n + 64) × (24 * n + 64 ≤ length (now w)) ⌝ }
-    ensures { λ _. ⌜ now (w .exit) ≡ set (set (now (w .entry)) (9 * n + j) (getD (now (w .entry)) (10 * n + b) 0)) (10 * n + b) (j + 1) ⌝ }
+    ensures { λ _. ⌜ now (w .exit) ≡ set (set (now (w .entry)) (9 * n + j) (getD (now (w .entry)) (10 * n + b) 0))
+        (10 * n + b) (j + 1) ⌝ }
 {
     w[9 * n + j] = w[10 * n + b];
     w[10 * n + b] = (j + 1) as u32;

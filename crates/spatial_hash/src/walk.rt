@@ -1,4 +1,5 @@
-// Walks through rows of buckets. Each appends the points there to the neighbours, of which there are `count`, and returns how many there are then.
+// Walks through rows of buckets. Each appends the points there to the neighbours, of which there are `count`, and
+// returns how many there are then.
 // The coordinates are there for the contracts alone.
 use super::cells;
 use crate::Hash;
@@ -13,7 +14,8 @@ ghost use Rattle.spatial_hash.specs.Near.{Room};
 // The points at some places of the order, one after another.
 fn copy_points(w: &mut [u32], n: usize, from: usize, to: usize, count: usize) -> usize
     requires { ⌜ (n ≤ 4096) × (24 * n + 64 ≤ length (now w)) × (from ≤ to) × (to ≤ n) × (count + (to - from) ≤ n) ⌝ }
-    ensures { λ r. ⌜ Appended n (now (w .entry)) (now (w .exit)) count r (reads (now (w .entry)) (orderAt n + from) (to - from)) ⌝ }
+    ensures { λ r. ⌜ Appended n (now (w .entry)) (now (w .exit)) count r
+        (reads (now (w .entry)) (orderAt n + from) (to - from)) ⌝ }
 {
     let mut total = count;
     let mut i = from;
@@ -37,8 +39,12 @@ fn visit_run(
     count: usize,
 ) -> usize
     requires { ⌜ (at < hash .side * hash .side) × (first ≤ end) × (end ≤ hash .side)
-        × Room hash (now points) n (now w) count (pointsIn hash (now points) n (linksOf n (now w)) (row (hash .side + 1) at (residues (hash .side) first (end - first)))) ⌝ }
-    ensures { λ r. ⌜ Appended n (now (w .entry)) (now (w .exit)) count r (pointsIn hash (now (points .entry)) n (linksOf n (now (w .entry))) (row (hash .side + 1) at (residues (hash .side) first (end - first)))) ⌝ }
+        × Room hash (now points) n (now w) count
+        (pointsIn hash (now points) n (linksOf n (now w))
+        (row (hash .side + 1) at (residues (hash .side) first (end - first)))) ⌝ }
+    ensures { λ r. ⌜ Appended n (now (w .entry)) (now (w .exit)) count r
+        (pointsIn hash (now (points .entry)) n (linksOf n (now (w .entry)))
+        (row (hash .side + 1) at (residues (hash .side) first (end - first)))) ⌝ }
 {
     let side = hash.side;
     let starts = 10 * n + at * (side + 1);
@@ -58,8 +64,10 @@ fn visit_row(
     count: usize,
 ) -> usize
     requires { ⌜ (at < hash .side * hash .side) × (zs .first < hash .side) × (zs .count ≤ hash .side)
-        × Room hash (now points) n (now w) count (pointsIn hash (now points) n (linksOf n (now w)) (rowOf (hash .side) at zs)) ⌝ }
-    ensures { λ r. ⌜ Appended n (now (w .entry)) (now (w .exit)) count r (pointsIn hash (now (points .entry)) n (linksOf n (now (w .entry))) (rowOf (hash .side) at zs)) ⌝ }
+        × Room hash (now points) n (now w) count
+        (pointsIn hash (now points) n (linksOf n (now w)) (rowOf (hash .side) at zs)) ⌝ }
+    ensures { λ r. ⌜ Appended n (now (w .entry)) (now (w .exit)) count r
+        (pointsIn hash (now (points .entry)) n (linksOf n (now (w .entry))) (rowOf (hash .side) at zs)) ⌝ }
 {
     let side = hash.side;
     let first = zs.first;
@@ -84,8 +92,10 @@ fn visit_plane(
     count: usize,
 ) -> usize
     requires { ⌜ (x < hash .side) × (ys .first < hash .side) × (zs .first < hash .side) × (zs .count ≤ hash .side)
-        × Room hash (now points) n (now w) count (pointsIn hash (now points) n (linksOf n (now w)) (planeOf (hash .side) x ys zs)) ⌝ }
-    ensures { λ r. ⌜ Appended n (now (w .entry)) (now (w .exit)) count r (pointsIn hash (now (points .entry)) n (linksOf n (now (w .entry))) (planeOf (hash .side) x ys zs)) ⌝ }
+        × Room hash (now points) n (now w) count
+        (pointsIn hash (now points) n (linksOf n (now w)) (planeOf (hash .side) x ys zs)) ⌝ }
+    ensures { λ r. ⌜ Appended n (now (w .entry)) (now (w .exit)) count r
+        (pointsIn hash (now (points .entry)) n (linksOf n (now (w .entry))) (planeOf (hash .side) x ys zs)) ⌝ }
 {
     let mut total = count;
     let mut y = ys.first;
@@ -108,9 +118,12 @@ pub fn visit_planes(
     ys: Span,
     zs: Span,
 ) -> usize
-    requires { ⌜ (xs .first < hash .side) × (ys .first < hash .side) × (zs .first < hash .side) × (zs .count ≤ hash .side)
-        × Room hash (now points) n (now w) 0 (pointsIn hash (now points) n (linksOf n (now w)) (boxOf (hash .side) xs ys zs)) ⌝ }
-    ensures { λ r. ⌜ Appended n (now (w .entry)) (now (w .exit)) 0 r (pointsIn hash (now (points .entry)) n (linksOf n (now (w .entry))) (boxOf (hash .side) xs ys zs)) ⌝ }
+    requires { ⌜ (xs .first < hash .side) × (ys .first < hash .side) × (zs .first < hash .side)
+        × (zs .count ≤ hash .side)
+        × Room hash (now points) n (now w) 0
+        (pointsIn hash (now points) n (linksOf n (now w)) (boxOf (hash .side) xs ys zs)) ⌝ }
+    ensures { λ r. ⌜ Appended n (now (w .entry)) (now (w .exit)) 0 r
+        (pointsIn hash (now (points .entry)) n (linksOf n (now (w .entry))) (boxOf (hash .side) xs ys zs)) ⌝ }
 {
     let mut total: usize = 0;
     let mut x = xs.first;

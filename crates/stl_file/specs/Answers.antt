@@ -32,13 +32,14 @@ judged points faces room =
     cond (not (eqb (length points % 3) 0)) (notWritten wrongLengths 0)
     (cond (not (eqb (length faces % 3) 0)) (notWritten wrongLengths 0)
     (cond (ltb 1000000 (length faces / 3)) (notWritten tooManyPoints 0)
-    (cond (ltb (firstOutside farthest points) (length points / 3)) (notWritten outsidePoint (firstOutside farthest points))
+    (cond (ltb (firstOutside farthest points) (length points / 3))
+    (notWritten outsidePoint (firstOutside farthest points))
     (cond (not (allBelow (length points / 3) faces)) (notWritten missingPoint 0)
     (cond (ltb room (fileLength (length faces / 3))) (notWritten shortOutput 0)
     (record { answer = 0; detail = 0; length = fileLength (length faces / 3) }))))))
 
--- every coordinate is an f32, as a slice of them has it; the answer; and what the output holds then: the file in front of
--- what it held, or at a refusal what it held
+-- every coordinate is an f32, as a slice of them has it; the answer; and what the output holds then: the file in front
+-- of what it held, or at a refusal what it held
 pub record Wrote (points : List Float) (faces bytes : List ℕ) (told : StlWritten) (after : List ℕ) : Type 0 where
   pub coordinates : (k : ℕ) → T (fits binary32 (getD points k nan))
   pub answer-is : told ≡ judged points faces (length bytes)

@@ -1,5 +1,5 @@
--- Binary STL: 80 header bytes, the number of facets, then 50 bytes a facet: normal, three corners and a u16, all with the
--- lowest byte first. Definitions only.
+-- Binary STL: 80 header bytes, the number of facets, then 50 bytes a facet: normal, three corners and a u16, all with
+-- the lowest byte first. Definitions only.
 use Prim.Native.Nat.{ℕ, _+_, _*_, _/_}
 use mathlib.Core.Bool.{Bool, cond, _&&_}
 use mathlib.Core.List.{List, [], _∷_, _++_}

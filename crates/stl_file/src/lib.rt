@@ -10,7 +10,8 @@ use crate::read::read_facets;
 use crate::write::names_points;
 use crate::write::put_file;
 
-// The answer's number, 0 where the file was written; the detail, the first bad point at refusal 4; and the file's length.
+// The answer's number, 0 where the file was written; the detail, the first bad point at refusal 4; and the file's
+// length.
 #[repr(C)]
 pub struct StlWritten {
     pub answer: u32,

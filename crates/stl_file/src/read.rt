@@ -30,7 +30,8 @@ fn read_vertex(bytes: &[u8], at: usize, corners: &mut [f32], to: usize)
 
 pub fn read_facets(bytes: &[u8], corners: &mut [f32], n: usize)
     requires { ⌜ (84 + 50 * n ≤ length (now bytes)) × (9 * n ≤ length (now corners)) ⌝ }
-    ensures { λ _. ⌜ now (corners .exit) ≡ sets (now (corners .entry)) 0 (chunks (cornersOf (now (bytes .entry))) 0 n) ⌝ }
+    ensures { λ _. ⌜ now (corners .exit)
+        ≡ sets (now (corners .entry)) 0 (chunks (cornersOf (now (bytes .entry))) 0 n) ⌝ }
 {
     let mut i: usize = 0;
     while i < n {

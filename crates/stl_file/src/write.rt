@@ -59,7 +59,8 @@ fn put_facet(out: &mut [u8], at: usize, p: Point3f, q: Point3f, r: Point3f)
 // The facets of the first n faces, behind header and count.
 fn put_facets(out: &mut [u8], points: &[f32], faces: &[u32], n: usize)
     requires { ⌜ (84 + 50 * n ≤ length (now out)) × (3 * n ≤ length (now faces)) × Known (now points) (now faces) ⌝ }
-    ensures { λ _. ⌜ now (out .exit) ≡ sets (now (out .entry)) 84 (chunks (facetOf (cornerAt (now (points .entry)) (now (faces .entry)))) 0 n) ⌝ }
+    ensures { λ _. ⌜ now (out .exit)
+        ≡ sets (now (out .entry)) 84 (chunks (facetOf (cornerAt (now (points .entry)) (now (faces .entry)))) 0 n) ⌝ }
 {
     let mut i: usize = 0;
     while i < n {
@@ -73,7 +74,8 @@ fn put_facets(out: &mut [u8], points: &[f32], faces: &[u32], n: usize)
 }
 
 pub fn put_file(out: &mut [u8], points: &[f32], faces: &[u32])
-    requires { ⌜ (84 + 50 * (length (now faces) / 3) ≤ length (now out)) × (length (now faces) / 3 ≤ 1000000) × Known (now points) (now faces) ⌝ }
+    requires { ⌜ (84 + 50 * (length (now faces) / 3) ≤ length (now out)) × (length (now faces) / 3 ≤ 1000000)
+        × Known (now points) (now faces) ⌝ }
     ensures { λ _. ⌜ now (out .exit) ≡ sets (now (out .entry)) 0 (stl (now (points .entry)) (now (faces .entry))) ⌝ }
 {
     let n = faces.len() / 3;

@@ -1,4 +1,5 @@
--- When the aspect ratio is at most a bound, by the squares of the lengths: the test, the limit that it takes, and what it says. Definitions only.
+-- When the aspect ratio is at most a bound, by the squares of the lengths: the test, the limit that it takes, and what
+-- it says. Definitions only.
 use Prim.Native.Nat.{_*_, _^_, _-_, _≤_}
 use mathlib.Core.Bool.{Bool, not, _&&_}
 use lib.Dec.{T}
@@ -17,7 +18,8 @@ between x lo hi = le lo x && le x hi
 unfoldable pub isPlain : Float → Float → Float → Float → Bool
 isPlain a b c cross =
     between a (f32 0x32800000) (f32 0x4c800000)
-    && (between b (f32 0x32800000) (f32 0x4c800000) && (between c (f32 0x32800000) (f32 0x4c800000) && between cross (f32 0x21800000) (f32 0x5d800000)))
+    && (between b (f32 0x32800000) (f32 0x4c800000)
+    && (between c (f32 0x32800000) (f32 0x4c800000) && between cross (f32 0x21800000) (f32 0x5d800000)))
 
 -- at most the square of the sum of the lengths whose squares are a, b and c, but for rounding
 unfoldable pub spread : Float → Float → Float → Float
@@ -37,7 +39,8 @@ pub record ThinLimit (α t : Float) : Type 0 where
 
 -- the aspect ratio of a triangle with lengths whose squares are a, b and c is at most every bound that the limit is for
 pub record Thin (limit a b c cross : Float) : Type 0 where
-  pub below : (α : Float) → ThinLimit α limit → T (le (shapeOf (root a) (root b) (root c) (root cross ⊗ half) .«aspect_ratio») α)
+  pub below : (α : Float) → ThinLimit α limit
+      → T (le (shapeOf (root a) (root b) (root c) (root cross ⊗ half) .«aspect_ratio») α)
 
 -- the same in each order of the lengths
 pub record AllThin (limit a b c cross : Float) : Type 0 where

@@ -36,7 +36,8 @@ fn spread(a: f32, b: f32, c: f32) -> f32
     (a + b + c) + 2.0 * (numbers::min(a, b) + numbers::min(b, c) + numbers::min(c, a))
 }
 
-// Whether the aspect ratio is surely at most the bound that the limit is for; from the squares of the edges' lengths and of the cross product's, or one that is not below it.
+// Whether the aspect ratio is surely at most the bound that the limit is for; from the squares of the edges' lengths
+// and of the cross product's, or one that is not below it.
 pub fn is_thin(a: f32, b: f32, c: f32, cross: f32, limit: f32) -> bool
     ensures { λ r. ⌜ (r ≡ true → ThinUpTo limit a b c cross) ⌝ }
 {

@@ -1,4 +1,5 @@
--- A triangle's area, circumradius and quality, from its points, and the test on it, each operation rounded once, in the Rust's order. Definitions only.
+-- A triangle's area, circumradius and quality, from its points, and the test on it, each operation rounded once, in the
+-- Rust's order. Definitions only.
 use mathlib.Core.Bool.{Bool, false, not, cond}
 use lib.Ieee.{Float, inf, lt, eq}
 use Rattle.numbers.specs.Rounded.{f32, _⊗_}
@@ -15,7 +16,8 @@ area p1 p2 p3 = magnitude (cross (difference p2 p1) (difference p3 p1)) ⊗ half
 -- `compute_circumradius`
 unfoldable pub circumradius : Point3f → Point3f → Point3f → Float
 circumradius p1 p2 p3 =
-    cond (lt (area p1 p2 p3) tiny) (inf false) (radiusOf (distance p2 p1) (distance p3 p2) (distance p1 p3) (area p1 p2 p3))
+    cond (lt (area p1 p2 p3) tiny) (inf false)
+    (radiusOf (distance p2 p1) (distance p3 p2) (distance p1 p3) (area p1 p2 p3))
 
 -- `compute_triangle_quality`
 unfoldable pub quality : Point3f → Point3f → Point3f → TriangleQuality
