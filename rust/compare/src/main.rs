@@ -25,7 +25,7 @@ const USAGE: &str = "usage:
   compare reconstruct COUNT SEED [FIRST]  the reconstruction on generated clouds
   compare refused COUNT SEED [FIRST]      clouds without a triangle, for each of the reasons
   compare shrink NUMBER SEED              the smallest cloud left of a case on which the two differ
-  compare oracle COUNT SEED [FIRST]       needs no port: what must hold of the oracle's counts
+  compare oracle COUNT SEED [FIRST]       needs no port: what must hold of the oracle's counts, and of the amended one
   compare selftest                        needs no port: a turned bit is found";
 
 fn main() {

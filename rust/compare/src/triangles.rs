@@ -7,12 +7,13 @@ use generate::numbers::{just_passed, limits, number, radius, triangle};
 use generate::Random;
 use port::Quality;
 
-/// The measures of the triangle, or now and then numbers that no triangle has.
+/// The measures of the triangle, or now and then numbers that no triangle has, minus zero as the area among them.
 fn judged(random: &mut Random, quality: Quality) -> Quality {
-    if random.percent(90) {
-        return quality;
+    match random.below(100) {
+        0..=89 => quality,
+        90 => Quality { area: -0.0, ..quality },
+        _ => Quality { area: number(random), edge_ratio: number(random), quality_score: number(random), ..quality },
     }
-    Quality { area: number(random), edge_ratio: number(random), quality_score: number(random), ..quality }
 }
 
 pub fn triangles(side: &dyn Side, count: u64, seed: u64, first: u64) -> Report {
