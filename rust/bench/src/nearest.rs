@@ -2,9 +2,9 @@
 //! against nanoflann's tree, on the same clouds and spots. The check that the index is the cloud's is made once a call, and
 //! counts among the spots' times.
 
+use crate::clock;
 use generate::{clouds, Random};
 use std::hint::black_box;
-use std::time::Instant;
 use yarrowbleat::sys;
 
 const POINTS: usize = 4_096;
@@ -36,9 +36,9 @@ fn scan(points: &[f32], spot: &[f32]) -> u32 {
 /// Nanoseconds an item, the best of so many rounds.
 fn best(rounds: usize, items: usize, mut run: impl FnMut()) -> f64 {
     let times = (0..rounds).map(|_| {
-        let start = Instant::now();
+        let start = clock::now();
         run();
-        start.elapsed().as_nanos() as f64 / items as f64
+        (clock::now() - start).as_nanos() as f64 / items as f64
     });
     times.fold(f64::INFINITY, f64::min)
 }

@@ -100,7 +100,7 @@ fn spoil(random: &mut Random, case: &mut Case) {
         1 => drop(case.points.pop()),
         2 => drop(case.spots.pop()),
         3 => case.points = vec![1.0; 3 * random.pick(&[4_097, 4_098])],
-        4 => {
+        4 if !case.points.is_empty() => {
             let at = random.below(case.points.len());
             case.points[at] = wrong(random);
         }
