@@ -17,7 +17,9 @@ fn main() {
     let mut compiler = Command::new("c++");
     compiler.args(["-O3", "-std=c++17", "-fPIC", "-c", "src/nanoflann.cpp", "-I"]).arg(&folder).arg("-o").arg(&object);
     let compiled = compiler.status().is_ok_and(|status| status.success());
-    if compiled && Command::new("ar").arg("rcs").arg(&library).arg(&object).status().is_ok_and(|status| status.success()) {
+    if compiled
+        && Command::new("ar").arg("rcs").arg(&library).arg(&object).status().is_ok_and(|status| status.success())
+    {
         println!("cargo:rustc-cfg=nanoflann");
         println!("cargo:rustc-link-search=native={}", out.display());
         println!("cargo:rustc-link-lib=static=nanoflannside");

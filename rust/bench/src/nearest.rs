@@ -112,7 +112,9 @@ fn build(name: &str, points: &[f32], work: &mut Work) -> bool {
     match their_build(points) {
         Some(nano) => {
             let ratio = ours / nano;
-            println!("building {name}: port {ours:.0} us, nanoflann {nano:.0} us, ratio {ratio:.2} (to reach: at most 1)");
+            println!(
+                "building {name}: port {ours:.0} us, nanoflann {nano:.0} us, ratio {ratio:.2} (to reach: at most 1)"
+            );
             ratio <= 1.0
         }
         None => {
@@ -126,11 +128,8 @@ pub fn bench() -> bool {
     let random = &mut Random::new(1, 0);
     let wall = clouds::wall(random, 128, 32, 0.2).points;
     let lattice: Vec<f32> = (0..POINTS).flat_map(|i| [i % 16, i / 16 % 16, i / 256].map(|k| k as f32)).collect();
-    let mut work = Work {
-        index: vec![0; 8 * POINTS + 64],
-        words: vec![0; 24 * POINTS + 64],
-        floats: vec![0.0; 4 * POINTS + 64],
-    };
+    let mut work =
+        Work { index: vec![0; 8 * POINTS + 64], words: vec![0; 24 * POINTS + 64], floats: vec![0.0; 4 * POINTS + 64] };
     let on = |points: &[f32], random: &mut Random| -> Vec<f32> {
         (0..SPOTS).flat_map(|_| points.chunks_exact(3).nth(random.below(POINTS)).expect("a point").to_vec()).collect()
     };

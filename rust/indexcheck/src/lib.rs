@@ -126,7 +126,8 @@ fn words_told(call: &str, what: &str, expected: &[u32], got: &[u32]) -> Result<(
 /// A call with work slices full of rubbish: what it answers, and what it leaves in them.
 fn run<T>(lent: Lent, call: impl FnOnce(&mut [u32], &mut [f32]) -> T) -> (T, Vec<u32>, Vec<u32>) {
     let mut words: Vec<u32> = (0..lent.words as u32).map(|k| k.wrapping_mul(2_654_435_761)).collect();
-    let mut floats: Vec<f32> = words.iter().map(|w| f32::from_bits(w & 0x7f7f_ffff)).cycle().take(lent.floats).collect();
+    let mut floats: Vec<f32> =
+        words.iter().map(|w| f32::from_bits(w & 0x7f7f_ffff)).cycle().take(lent.floats).collect();
     let answer = call(&mut words, &mut floats);
     (answer, words, floats.iter().map(|x| x.to_bits()).collect())
 }
@@ -164,8 +165,12 @@ fn compared(case: &Case, side: &impl Side, counts: &mut Counts) -> Result<(), St
     note("build", answer.to_string());
     let taken = reference::refused(points, &[], lent).is_none();
     let index = cases::index(case, taken.then(|| reference::build(points)));
-    let (answer, _, own) =
-        both("belongs", lent, |w, f| reference.belongs(points, &index, w, f), |w, f| side.belongs(points, &index, w, f))?;
+    let (answer, _, own) = both(
+        "belongs",
+        lent,
+        |w, f| reference.belongs(points, &index, w, f),
+        |w, f| side.belongs(points, &index, w, f),
+    )?;
     let damage = if case.damage == Damage::None || !taken { String::new() } else { format!(" {:?}", case.damage) };
     note("belongs", if answer == 0 { format!("{own}{damage}") } else { answer.to_string() });
     let mut first: Vec<u32> = (0..case.found as u32).map(|k| !k).collect();
@@ -196,7 +201,20 @@ const KINDS: [(&str, &[&str]); 4] = [
     ("build", &["0", "1", "2", "3", "4", "7"]),
     (
         "belongs",
-        &["true", "false Order", "false Box", "false Zeros", "true PastEnd", "false Moved", "true Moved", "1", "2", "3", "4", "7"],
+        &[
+            "true",
+            "false Order",
+            "false Box",
+            "false Zeros",
+            "true PastEnd",
+            "false Moved",
+            "true Moved",
+            "1",
+            "2",
+            "3",
+            "4",
+            "7",
+        ],
     ),
     ("points", &["0", "1", "2", "3", "4", "7", "13", "22"]),
     ("point", &["0", "1", "2", "3", "4", "7", "22"]),
@@ -219,7 +237,11 @@ pub fn compare(name: &str, count: u64, seed: u64, spots: usize, side: &impl Side
     }
     let told: Vec<String> = counts.iter().map(|((call, answer), n)| format!("{call}/{answer} {n}")).collect();
     let kinds: Vec<String> = kinds.iter().map(|(kind, n)| format!("{kind} {n}")).collect();
-    println!("{name}: {count} clouds with {spots} spots, {different} different ({}; {})", kinds.join(", "), told.join(", "));
+    println!(
+        "{name}: {count} clouds with {spots} spots, {different} different ({}; {})",
+        kinds.join(", "),
+        told.join(", ")
+    );
     let missing: Vec<String> = KINDS
         .iter()
         .flat_map(|(call, answers)| answers.iter().map(move |answer| (*call, answer.to_string())))

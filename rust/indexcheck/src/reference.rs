@@ -31,7 +31,8 @@ pub fn room(n: usize) -> (usize, usize) {
 
 /// The least box of a list of points: least coordinates, then greatest, minus zero as zero.
 fn box_of(points: &[f32], list: &[u32]) -> [f32; 6] {
-    let mut sides = [f32::INFINITY, f32::INFINITY, f32::INFINITY, f32::NEG_INFINITY, f32::NEG_INFINITY, f32::NEG_INFINITY];
+    let mut sides =
+        [f32::INFINITY, f32::INFINITY, f32::INFINITY, f32::NEG_INFINITY, f32::NEG_INFINITY, f32::NEG_INFINITY];
     for number in list {
         for (axis, x) in point(points, *number as usize).into_iter().enumerate() {
             sides[axis] = if x < sides[axis] { x } else { sides[axis] };
