@@ -60,7 +60,7 @@ extern "C" {
 
 /* The version, 0.2.0, and the layout of the structs below as one number: see yb_version and yb_layout. */
 #define YB_VERSION 2000u
-#define YB_LAYOUT 609736451u
+#define YB_LAYOUT 2827189271u
 
 /* The answers. */
 typedef enum {

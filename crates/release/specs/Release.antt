@@ -8,4 +8,4 @@ version = 1000000 * 0 + 1000 * 2 + 0
 -- the layout of the structs that go in and out: FNV-1a of their names, sizes, fields and offsets, which a test of
 -- rust/yarrowbleat works out from the sources
 abbrev pub layout : ℕ
-layout = 609736451
+layout = 2827189271

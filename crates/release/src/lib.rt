@@ -11,5 +11,5 @@ pub fn version() -> u32
 pub fn layout() -> u32
     ensures { λ r. ⌜ r ≡ layout ⌝ }
 {
-    609736451
+    2827189271
 }

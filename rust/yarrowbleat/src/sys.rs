@@ -293,8 +293,6 @@ layouts! {
     Figures 128: answer 0, patches 8, mean 16, variance 32, coverage 48, best 64, worst 80, best_coverage 96,
         worst_coverage 112;
     Verdict 16: answer 0, detail 4, kind 8, measured 12;
-}
-
     Indexed 8: answer 0, detail 4;
     Belongs 12: answer 0, detail 4, belongs 8;
     Nearest 16: answer 0, detail 4, point 8, distance 12;
@@ -649,6 +647,10 @@ pub fn write_stl(points: &[f32], faces: &[u32], bytes: &mut [u8]) -> StlWritten 
             faces.len(),
             bytes.as_mut_ptr(),
             bytes.len(),
+        )
+    }
+}
+
 /// Whether the faces of a file of lines could be a patch's, and in what order, over a lent slice for the order and lent
 /// work slices.
 pub fn order_patch(
