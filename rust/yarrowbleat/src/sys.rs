@@ -103,10 +103,6 @@ pub struct CloudRead {
 #[repr(C)]
 #[derive(Clone, Copy, Debug, Default, PartialEq, Eq)]
 pub struct StlWritten {
-/// The answer about faces of another program.
-#[repr(C)]
-#[derive(Clone, Copy, Debug, PartialEq, Eq)]
-pub struct Ordered {
     /// The answer's number, 0 where the call accepts.
     pub answer: u32,
     /// The answer's detail, 0 where none is named.
@@ -141,6 +137,14 @@ pub struct Verdict {
     pub measured: f32,
 }
 
+/// The answer about faces of another program.
+#[repr(C)]
+#[derive(Clone, Copy, Debug, PartialEq, Eq)]
+pub struct Ordered {
+    /// The answer's number, 0 where the call accepts.
+    pub answer: u32,
+    /// The answer's detail, 0 where none is named.
+    pub detail: usize,
     /// The faces.
     pub faces: usize,
     /// Of these, the ones that share no edge with an earlier one in the order.
