@@ -1,5 +1,5 @@
 -- The whole call beside the source's: the same where the source finds no face of area zero; where its call is accepted with one, the result or the face slice differs. So the claim holds (`arealess`). Assumes nothing.
-use Prim.Native.Nat.{ℕ, _*_, _/_, _≤_}
+use Prim.Native.Nat.{ℕ, _*_, _/_, _≤_, _<_}
 use mathlib.Core.Path.{_≡_, refl, sym, ap, _∙_}
 use mathlib.Core.Logic.{_≢_}
 use mathlib.Core.Bool.{Bool, true, false, cond}
@@ -15,7 +15,7 @@ use Rattle.domain.specs.Refusals.{reconstructRefusal}
 use Rattle.patch.specs.Lay.{Face, face}
 use Rattle.patch.specs.View.{flat, written}
 use Rattle.patch.proofs.View.{length-flat}
-use Rattle.ball_pivoting.specs.Reconstruct.{radiiOf, Found, found, refused, accepted, delivered, reconstructed, facesAfter}
+use Rattle.ball_pivoting.specs.Reconstruct.{radiiOf, Found, found, refused, accepted, delivered, reconstructed, facesAfter, pointCount, judgedAt, reasonBy, reason}
 use Rattle.ball_pivoting.specs.declared.Patch.{Patch}
 use Rattle.arealess.specs.Source.{sourceFound, sourceReconstructed}
 use Rattle.arealess.specs.Arealess.{sourceZeros, CallBeside, Arealess}
@@ -62,11 +62,21 @@ record Taken (f : Found) (p : Patch) (room : ℕ) : Type 0 where
   fit : length (f .faces) ≤ room / 3
   as-many : p .faces ≡ length (f .faces)
 
-delivered-taken : (f : Found) (rs : List Float) (room : ℕ) → delivered f rs room .answer ≡ 0 → Taken f (delivered f rs room) room
-unfolding delivered refused accepted
-delivered-taken f rs room h = go (eqb (length (f .faces)) 0) (ltb (room / 3) (length (f .faces))) refl h
+-- a reason is never 0
+reason-some : (c : BallPivotingConfig) (pts : List Float) → 0 < reason c pts
+unfolding reason reasonBy
+reason-some c pts = go (ltb (pointCount pts) 3) (judgedAt c pts (radiiOf c pts))
   where
-    go : (s t : Bool) → ltb (room / 3) (length (f .faces)) ≡ t → cond s (refused 8 0) (cond t (refused 9 0) (accepted f rs)) .answer ≡ 0 → Taken f (cond s (refused 8 0) (cond t (refused 9 0) (accepted f rs))) room
+    go : (few judged : Bool) → 0 < cond few 8 (cond judged 16 15)
+    go true j = omega arith
+    go false true = omega arith
+    go false false = omega arith
+
+delivered-taken : (why : ℕ) (f : Found) (rs : List Float) (room : ℕ) → 0 < why → delivered why f rs room .answer ≡ 0 → Taken f (delivered why f rs room) room
+unfolding delivered refused accepted
+delivered-taken why f rs room some h = go (eqb (length (f .faces)) 0) (ltb (room / 3) (length (f .faces))) refl h
+  where
+    go : (s t : Bool) → ltb (room / 3) (length (f .faces)) ≡ t → cond s (refused why 0) (cond t (refused 9 0) (accepted f rs)) .answer ≡ 0 → Taken f (cond s (refused why 0) (cond t (refused 9 0) (accepted f rs))) room
     go true t e h = absurd (omega arith)
     go false true e h = absurd (omega arith)
     go false false e h = record { fit = ltb-false (room / 3) (length (f .faces)) e; as-many = refl }
@@ -80,14 +90,14 @@ module _ (pts normals : List Float) (c : BallPivotingConfig) (words floats : ℕ
 
   -- the call, by what is found and whether the checks pass
   abbrev called : Found → Bool → Patch
-  called f s = cond s (delivered f (radiiOf c pts) (length slice)) (refused (reconstructRefusal pts normals c words floats .answer) (reconstructRefusal pts normals c words floats .detail))
+  called f s = cond s (delivered (reason c pts) f (radiiOf c pts) (length slice)) (refused (reconstructRefusal pts normals c words floats .answer) (reconstructRefusal pts normals c words floats .detail))
 
   taken : (f : Found) → called f (eqb (reconstructRefusal pts normals c words floats .answer) 0) .answer ≡ 0 → Taken f (called f (eqb (reconstructRefusal pts normals c words floats .answer) 0)) (length slice)
   unfolding refused
   taken f h = go (eqb (reconstructRefusal pts normals c words floats .answer) 0) refl h
     where
       go : (s : Bool) → eqb (reconstructRefusal pts normals c words floats .answer) 0 ≡ s → called f s .answer ≡ 0 → Taken f (called f s) (length slice)
-      go true q k = delivered-taken f (radiiOf c pts) (length slice) k
+      go true q k = delivered-taken (reason c pts) f (radiiOf c pts) (length slice) (reason-some c pts) k
       go false q k = absurd (eqb-false (reconstructRefusal pts normals c words floats .answer) 0 q k)
 
   after : (f : Found) (p : Patch) → p .answer ≡ 0 → facesAfter p f slice ≡ written (f .faces) slice

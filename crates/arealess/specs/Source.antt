@@ -17,7 +17,7 @@ use Rattle.patch.specs.Search.{Floats, searching}
 use Rattle.patch.specs.Frontier.{heapOf}
 use Rattle.decisions.specs.Decisions.{reach, apart, qualityAt, isClose, middle, around, pivotable}
 use Rattle.decisions.specs.declared.Scene.{Scene}
-use Rattle.ball_pivoting.specs.Reconstruct.{pointCount, sceneOf, radiiOf, Found, laid, plainly, refused, delivered}
+use Rattle.ball_pivoting.specs.Reconstruct.{pointCount, sceneOf, radiiOf, Found, laid, plainly, refused, delivered, reason}
 use Rattle.ball_pivoting.specs.declared.Patch.{Patch}
 
 -- `is_triangle_acceptable` as published, under the settings
@@ -55,9 +55,9 @@ sourceFoundAt c pts (r ∷ rs) = laid (sourceLaid c pts)
 unfoldable pub sourceFound : BallPivotingConfig → List Float → Found
 sourceFound c pts = sourceFoundAt c pts (radiiOf c pts)
 
--- the call's answer, detail, counts and radii
+-- the call's answer, detail, counts and radii; why nothing was found goes by closeness alone, so it is the same
 unfoldable pub sourceReconstructed : List Float → List Float → BallPivotingConfig → ℕ → ℕ → ℕ → Patch
 sourceReconstructed pts normals c room words floats =
     let refusal = reconstructRefusal pts normals c words floats in
-    cond (eqb (refusal .answer) 0) (delivered (sourceFound c pts) (radiiOf c pts) room)
+    cond (eqb (refusal .answer) 0) (delivered (reason c pts) (sourceFound c pts) (radiiOf c pts) room)
     (refused (refusal .answer) (refusal .detail))

@@ -12,9 +12,9 @@ fn check_amended(report: &mut Report, case: &Case, found: &Found, differs: bool,
     if matches!(found, Found::Early(_)) {
         return;
     }
-    let faces = |run: oracle::Result<oracle::Laid>| run.map(|laid| laid.faces).unwrap_or_default();
+    let faces = |(run, _): (oracle::Result<oracle::Laid>, _)| run.map(|laid| laid.faces).unwrap_or_default();
     let lay = |amended: bool| {
-        let run = if amended { oracle::reconstruct_amended } else { oracle::reconstruct };
+        let run = if amended { oracle::reconstruct_amended } else { oracle::reconstruct_judged };
         run(&case.points, &case.normals, &case.settings, BUDGET).map(faces)
     };
     let (Ok(published), Ok(amended)) = (lay(false), lay(true)) else {
