@@ -5,7 +5,7 @@ use oracle::{estimate, lays_no_area, reconstruct, reconstruct_amended, Error, La
 const BUDGET: u64 = 1_000_000;
 
 fn lay_amended(points: &[f32], settings: &Settings) -> oracle::Result<Laid> {
-    reconstruct_amended(points, &vec![1.0; points.len()], settings, BUDGET).expect("within the limits")
+    reconstruct_amended(points, &vec![1.0; points.len()], settings, BUDGET).expect("within the limits").0
 }
 
 fn lay(points: &[f32], settings: &Settings) -> oracle::Result<Laid> {
