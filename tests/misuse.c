@@ -170,7 +170,7 @@ static void choices(void) {
     YbPatch r = lay(c);
     CHECK(r.answer == 0 && r.faces == 1 && r.seeds == 0 && r.radii_count == 0 && faces[0] == 2 && faces[1] == 0);
     c = good(), c.settings.radius = 0.01f;
-    CHECK(lay(c).answer == 8);
+    CHECK(lay(c).answer == 15);
     c.settings.use_spatial_index = false;
     CHECK(lay(c).answer == 0);
 }
