@@ -17,7 +17,8 @@ use Rattle.patch.specs.Search.{Floats, searching}
 use Rattle.patch.specs.Frontier.{heapOf}
 use Rattle.decisions.specs.Decisions.{reach, apart, qualityAt, isClose, middle, around, pivotable}
 use Rattle.decisions.specs.declared.Scene.{Scene}
-use Rattle.ball_pivoting.specs.Reconstruct.{pointCount, sceneOf, radiiOf, Found, laid, plainly, refused, delivered, reason}
+use Rattle.ball_pivoting.specs.Reconstruct.{pointCount, sceneOf, radiiOf, Found, laid, plainly, refused, delivered}
+use Rattle.ball_pivoting.specs.Reconstruct.{reason}
 use Rattle.ball_pivoting.specs.declared.Patch.{Patch}
 
 -- `is_triangle_acceptable` as published, under the settings
