@@ -58,9 +58,9 @@ extern "C" {
 #define YB_ASSERT _Static_assert
 #endif
 
-/* The version, 0.2.0, and the layout of the structs below as one number: see yb_version and yb_layout. */
-#define YB_VERSION 2000u
-#define YB_LAYOUT 2827189271u
+/* The version, 0.3.0, and the layout of the structs below as one number: see yb_version and yb_layout. */
+#define YB_VERSION 3000u
+#define YB_LAYOUT 1298813845u
 
 /* The answers. */
 typedef enum {
@@ -154,7 +154,16 @@ typedef struct {
     float radius;
 } YbEstimate;
 
-/* The settings, each with its number and bounds. Slots past a list's count are never read; a count may be 0. */
+/*
+ * The settings, each with its number and bounds. Slots past a list's count are never read; a count may be 0.
+ *
+ * frontier_rule is the order in which the edges that wait are pivoted over: 1 the old program's, which is that of its
+ * heap; 2 first come, first pivoted, so that a surface spreads evenly from its seed. It decides nothing on the plain
+ * path, nor where no triangle is found. Anything else is answer 5 with detail 8, tried after all other settings, and 0
+ * is neither: who fills the fields one by one has to set it, and yb_default_config gives 1.
+ *
+ * The field came with version 0.3.0, and the struct grew from 100 to 104 bytes: callers must be recompiled.
+ */
 typedef struct {
     float radius;                  /* 1: 0.001 to 1,000 */
     float additional_radii[8];     /* 2: each 0.001 to 1,000 */
@@ -167,6 +176,7 @@ typedef struct {
     float min_triangle_area;       /* 6: 0 to 1,000,000 */
     bool use_spatial_index;
     float spatial_cell_factor;     /* 7: 0.5 to 16 */
+    uint32_t frontier_rule;        /* 8: 1 or 2 */
 } YbBallPivotingConfig;
 
 /* The answer of a reconstruction. */
@@ -346,7 +356,7 @@ bool yb_is_triangle_acceptable(YbTriangleQuality quality, float radius, float mi
 
 /* ---- Clouds ---- */
 
-/* The default settings at a radius: those of ball_pivoting_from_normals. Slots past a list's count are 0. */
+/* The default settings at a radius: those of ball_pivoting_from_normals, rule 1. Slots past a list's count are 0. */
 YbBallPivotingConfig yb_default_config(float radius);
 
 /*
@@ -550,7 +560,7 @@ YB_AT(YbEstimate, answer, 0);
 YB_AT(YbEstimate, detail, 4);
 YB_AT(YbEstimate, radius, 8);
 
-YB_SIZE(YbBallPivotingConfig, 100);
+YB_SIZE(YbBallPivotingConfig, 104);
 YB_AT(YbBallPivotingConfig, radius, 0);
 YB_AT(YbBallPivotingConfig, additional_radii, 4);
 YB_AT(YbBallPivotingConfig, additional_count, 36);
@@ -562,6 +572,7 @@ YB_AT(YbBallPivotingConfig, max_edge_factor, 84);
 YB_AT(YbBallPivotingConfig, min_triangle_area, 88);
 YB_AT(YbBallPivotingConfig, use_spatial_index, 92);
 YB_AT(YbBallPivotingConfig, spatial_cell_factor, 96);
+YB_AT(YbBallPivotingConfig, frontier_rule, 100);
 
 YB_SIZE(YbPatch, 96);
 YB_AT(YbPatch, answer, 0);

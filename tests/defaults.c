@@ -26,6 +26,7 @@ int main(void) {
         words(&c.min_triangle_area, 1);
         printf("%08x ", (unsigned)c.use_spatial_index);
         words(&c.spatial_cell_factor, 1);
+        printf("%08x ", (unsigned)c.frontier_rule);
         printf("\n");
     }
     return 0;

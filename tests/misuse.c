@@ -112,7 +112,8 @@ static void defaults(void) {
     CHECK(memcmp(d.additional_radii, radii, sizeof radii) == 0);
     CHECK(memcmp(d.adaptive_percentiles, percentiles, sizeof percentiles) == 0);
     CHECK(d.quality_threshold == 0.1f && d.max_edge_factor == 3 && d.min_triangle_area == 1e-8f);
-    CHECK(d.use_spatial_index && d.spatial_cell_factor == 2 && isnan(yb_default_config(NAN).radius));
+    CHECK(d.use_spatial_index && d.spatial_cell_factor == 2 && d.frontier_rule == 1);
+    CHECK(isnan(yb_default_config(NAN).radius));
 }
 
 /* Each setting has its own place in the struct: a bad one is told by its number. */
@@ -142,6 +143,12 @@ static void settings(void) {
     CHECK(refuses(c, 5, 6));
     c = good(), c.settings.spatial_cell_factor = 17;
     CHECK(refuses(c, 5, 7));
+    c = good(), c.settings.frontier_rule = 0;
+    CHECK(refuses(c, 5, 8));
+    c = good(), c.settings.frontier_rule = 3;
+    CHECK(refuses(c, 5, 8));
+    c = good(), c.settings.frontier_rule = 2;
+    CHECK(lay(c).answer == 0);
 }
 
 /* Face slices of length 0, 1 and 2 have no room for the one face; 3 have, and past the face nothing is written. */

@@ -96,7 +96,7 @@ fn asked(archive: &Path, out: &Path) -> (u32, u32) {
     }
 }
 
-/// A version as the library has it: 0.2.0 is 2000.
+/// A version as the library has it: 0.3.0 is 3000.
 fn number(version: &str) -> u32 {
     version.split('.').map(|part| part.parse::<u32>().expect("a number")).fold(0, |sum, part| 1000 * sum + part)
 }

@@ -14,7 +14,7 @@ use Rattle.points.specs.Points.{pointAt}
 use Rattle.lists.specs.Lists.{count}
 use Rattle.patch.specs.Lay.{State, Rules, patch}
 use Rattle.patch.specs.Search.{Floats, searching}
-use Rattle.patch.specs.Frontier.{heapOf}
+use Rattle.patch.specs.Frontier.{popOf}
 use Rattle.decisions.specs.Decisions.{qualityAt, accepts, floatsOf}
 use Rattle.decisions.specs.Found.{areaAt}
 use Rattle.ball_pivoting.specs.Reconstruct.{pointCount, sceneOf, radiiOf, laidOf, Found, laid, plainly, foundAt, found}
@@ -44,11 +44,11 @@ module _ (c : BallPivotingConfig) (pts : List Float) where
 
   laid-none : count (areaZero pts) (laidOf c pts .faces) ≡ 0
   unfolding laidOf
-  laid-none = amended-none (areaZero pts) source ours amends heapOf n (radiiOf c pts)
+  laid-none = amended-none (areaZero pts) source ours amends (popOf (c .«frontier_rule»)) n (radiiOf c pts)
 
   laid-same : count (areaZero pts) (sourceLaid c pts .faces) ≡ 0 → laidOf c pts ≡ sourceLaid c pts
   unfolding laidOf sourceLaid
-  laid-same h = amended-same (areaZero pts) source ours amends heapOf n (radiiOf c pts) h
+  laid-same h = amended-same (areaZero pts) source ours amends (popOf (c .«frontier_rule»)) n (radiiOf c pts) h
 
   -- ---- on either path
   found-at : (rs : List Float) → count (areaZero pts) (sourceFoundAt c pts rs .faces) ≡ 0 → foundAt c pts rs ≡ sourceFoundAt c pts rs
@@ -84,7 +84,7 @@ module _ (c : BallPivotingConfig) (pts : List Float) where
   pub from-seeds : OnlyFromSeeds c pts
   unfolding sourceLaid
   from-seeds = record {
-    only-seeds = only-seeds (areaZero pts) source heapOf (amends .pivots-good) n (radiiOf c pts);
+    only-seeds = only-seeds (areaZero pts) source (popOf (c .«frontier_rule»)) (amends .pivots-good) n (radiiOf c pts);
     plain-none = plain-none pts (c .radius);
     seeds = amends .seeds-good;
     pivots = λ r used e k q. amends .pivots-good r used e k (sym (amends .pivots-same r used e) ∙ q);

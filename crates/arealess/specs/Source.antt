@@ -14,7 +14,7 @@ use Rattle.settings.specs.declared.BallPivotingConfig.{BallPivotingConfig}
 use Rattle.domain.specs.Refusals.{reconstructRefusal}
 use Rattle.patch.specs.Lay.{Edge, State, patch}
 use Rattle.patch.specs.Search.{Floats, searching}
-use Rattle.patch.specs.Frontier.{heapOf}
+use Rattle.patch.specs.Frontier.{popOf}
 use Rattle.decisions.specs.Decisions.{reach, apart, qualityAt, isClose, middle, around, pivotable}
 use Rattle.decisions.specs.declared.Scene.{Scene}
 use Rattle.ball_pivoting.specs.Reconstruct.{pointCount, sceneOf, radiiOf, Found, laid, plainly, refused, delivered}
@@ -43,10 +43,12 @@ sourceFloats s pts = record {
   score = λ r e k. sourceScore s pts r e k;
 }
 
--- `advanced_ball_pivoting`: the state when all radii are done
+-- `advanced_ball_pivoting`: the state when all radii are done; the source's order of popping is rule 1, and what is
+-- claimed of it holds under rule 2 as well
 unfoldable pub sourceLaid : BallPivotingConfig → List Float → State
 sourceLaid c pts =
-    patch (searching (sourceFloats (sceneOf c pts) pts) (pointCount pts)) heapOf (pointCount pts) (radiiOf c pts)
+    patch (searching (sourceFloats (sceneOf c pts) pts) (pointCount pts)) (popOf (c .«frontier_rule»)) (pointCount pts)
+    (radiiOf c pts)
 
 -- the multi-radius path, or the plain one if there are no radii, which asks for no acceptance
 unfoldable pub sourceFoundAt : BallPivotingConfig → List Float → List Float → Found

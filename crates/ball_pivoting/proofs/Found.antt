@@ -13,7 +13,7 @@ use Rattle.grid.specs.Index.{Indexed}
 use Rattle.grid.proofs.Near.{indexed-kept}
 use Rattle.lists.specs.Lists.{any}
 use Rattle.patch.specs.Lay.{patch, blank}
-use Rattle.patch.specs.Frontier.{heapOf}
+use Rattle.patch.specs.Frontier.{popOf}
 use Rattle.patch.specs.Search.{searching}
 use Rattle.patch.specs.Shape.{touches}
 use Rattle.patch.specs.Fair.{Shaped}
@@ -21,7 +21,7 @@ use Rattle.lists.proofs.Counts.{any-true}
 use Rattle.patch.proofs.Inv.{touched-used}
 use Rattle.patch.specs.Invariant.{Rest}
 use Rattle.patch.proofs.Laying.{layAll-rest, blank-rest}
-use Rattle.patch.proofs.Pops.{heapOf-keeps}
+use Rattle.patch.proofs.Pops.{popOf-keeps}
 use Rattle.patch.proofs.Searching.{searching-fair}
 use Rattle.spatial_hash.specs.declared.Hash.{Hash}
 use Rattle.spatial_hash.specs.Near.{Built}
@@ -44,7 +44,7 @@ use Rattle.ball_pivoting.proofs.Judged.{reason-laid, reason-plain}
 -- the patch of the multi-radius path has the shape, for every cloud and all settings
 pub shape-of : (c : BallPivotingConfig) (pts : List Float) → Shaped (laidOf c pts)
 unfolding laidOf sceneOf
-shape-of c pts = laid-shape (sceneOf c pts) pts (radiiOf c pts)
+shape-of c pts = laid-shape (c .«frontier_rule») (sceneOf c pts) pts (radiiOf c pts)
 
 -- and its faces touch only points of the cloud
 pub touched-inside : (c : BallPivotingConfig) (pts : List Float) (x : ℕ) → any (touches x) (laidOf c pts .faces) ≡ true → x < pointCount pts
@@ -52,7 +52,7 @@ unfolding laidOf sceneOf patch
 touched-inside c pts x t =
     let n : ℕ = pointCount pts in
     let floats = floatsOf (sceneOf c pts) pts in
-    let rest : Rest n (laidOf c pts) = layAll-rest n (searching floats n) heapOf (searching-fair n floats (within (sceneOf c pts) pts)) heapOf-keeps (radiiOf c pts) (blank n) (blank-rest n) in
+    let rest : Rest n (laidOf c pts) = layAll-rest n (searching floats n) (popOf (c .«frontier_rule»)) (searching-fair n floats (within (sceneOf c pts) pts)) (popOf-keeps (c .«frontier_rule»)) (radiiOf c pts) (blank n) (blank-rest n) in
     let w = rest .inv .pointwise x in
     w .used-below (touched-used n x _ _ w (any-true (touches x) (laidOf c pts .faces) t))
 
@@ -118,7 +118,7 @@ found-most c pts few = go (radiiOf c pts)
   where
     go : (rs : List Float) → length (foundAt c pts rs .faces) ≤ 10000
     go [] = plain-most pts (c .radius)
-    go (r ∷ rs) = omega (arith, few, laid-few (sceneOf c pts) pts (radiiOf c pts))
+    go (r ∷ rs) = omega (arith, few, laid-few (c .«frontier_rule») (sceneOf c pts) pts (radiiOf c pts))
 
 module _ (c : BallPivotingConfig) (pts : List Float) (s : Scene) (g : Radii) (lent : List ℕ) (r : Finding) (slice : List ℕ) (e : s ≡ sceneOf c pts) where
   -- by way of the scene's own index and number of points
@@ -128,14 +128,14 @@ module _ (c : BallPivotingConfig) (pts : List Float) (s : Scene) (g : Radii) (le
       subst (λ (why : ℕ). Finds why (found c pts) (radiiOf c pts) lent r slice) (reason-plain c pts no) (rw (found-plain c pts no, no) f)
 
   pub finds-laid : Settled c → {w : List ℕ} → Sized pts w → radii.Listed (radiiOf c pts) g → (g .count ≡ 0 → ⊥)
-      → Finds (reasonBy (s .n) (reaches (floatsOf s pts) (s .n) (getD (g .list) (g .count - 1) nan))) (laid (patch (rulesOf s pts) heapOf (s .n) (take (g .count) (g .list)))) (take (g .count) (g .list)) lent r slice
+      → Finds (reasonBy (s .n) (reaches (floatsOf s pts) (s .n) (getD (g .list) (g .count - 1) nan))) (laid (patch (rulesOf s pts) (popOf (c .«frontier_rule»)) (s .n) (take (g .count) (g .list)))) (take (g .count) (g .list)) lent r slice
       → Finds (reason c pts) (found c pts) (radiiOf c pts) lent r slice
   unfolding laidOf sceneOf
   finds-laid settled z h some f =
       let why = reason c pts in
       let there : radiiOf c pts ≡ [] → ⊥ = λ q. some (h .counted ∙ ap length q) in
-      let told : Finds why (laid (patch (rulesOf s pts) heapOf (s .n) (take (g .count) (g .list)))) (take (g .count) (g .list)) lent r slice =
-      subst (λ (y : ℕ). Finds y (laid (patch (rulesOf s pts) heapOf (s .n) (take (g .count) (g .list)))) (take (g .count) (g .list)) lent r slice) (reason-laid c pts settled (z .some) (z .numbers) s g e h some) f in
-      let one : Finds why (laid (patch (rulesOf s pts) heapOf (s .n) (radiiOf c pts))) (radiiOf c pts) lent r slice = subst (λ (xs : List Float). Finds why (laid (patch (rulesOf s pts) heapOf (s .n) xs)) xs lent r slice) (h .kept) told in
-      let two : Finds why (laid (laidOf c pts)) (radiiOf c pts) lent r slice = subst (λ (t : Scene). Finds why (laid (patch (rulesOf t pts) heapOf (t .n) (radiiOf c pts))) (radiiOf c pts) lent r slice) e one in
+      let told : Finds why (laid (patch (rulesOf s pts) (popOf (c .«frontier_rule»)) (s .n) (take (g .count) (g .list)))) (take (g .count) (g .list)) lent r slice =
+      subst (λ (y : ℕ). Finds y (laid (patch (rulesOf s pts) (popOf (c .«frontier_rule»)) (s .n) (take (g .count) (g .list)))) (take (g .count) (g .list)) lent r slice) (reason-laid c pts settled (z .some) (z .numbers) s g e h some) f in
+      let one : Finds why (laid (patch (rulesOf s pts) (popOf (c .«frontier_rule»)) (s .n) (radiiOf c pts))) (radiiOf c pts) lent r slice = subst (λ (xs : List Float). Finds why (laid (patch (rulesOf s pts) (popOf (c .«frontier_rule»)) (s .n) xs)) xs lent r slice) (h .kept) told in
+      let two : Finds why (laid (laidOf c pts)) (radiiOf c pts) lent r slice = subst (λ (t : Scene). Finds why (laid (patch (rulesOf t pts) (popOf (c .«frontier_rule»)) (t .n) (radiiOf c pts))) (radiiOf c pts) lent r slice) e one in
       subst (λ (x : Found). Finds why x (radiiOf c pts) lent r slice) (sym (found-laid c pts (radiiOf c pts) refl there)) two

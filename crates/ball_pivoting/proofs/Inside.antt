@@ -115,7 +115,7 @@ module _ (c : BallPivotingConfig) (pts : List Float) where
       go [] = record { seeds = omega arith; looks = omega arith; pivots = omega arith }
       go (r ∷ rs) =
           let s = shape-of c pts in
-          let few = laid-few (sceneOf c pts) pts (radiiOf c pts) in
+          let few = laid-few (c .«frontier_rule») (sceneOf c pts) pts (radiiOf c pts) in
           record { seeds = omega (arith, few); looks = omega (arith, s .looks-count); pivots = omega (arith, s .pivots-count, few) }
 
 -- the numbers in a slice that holds such faces

@@ -16,11 +16,11 @@ use Rattle.settings.specs.Settled.{Settled}
 use Rattle.sorting.specs.Sorted.{All, Rising}
 use Rattle.lists.specs.Lists.{count, any, unused}
 use Rattle.patch.specs.Lay.{Face, State, blank, patch}
-use Rattle.patch.specs.Frontier.{heapOf}
+use Rattle.patch.specs.Frontier.{popOf}
 use Rattle.patch.specs.Shape.{touches}
 use Rattle.patch.specs.Invariant.{Rest}
 use Rattle.patch.proofs.Laying.{layAll-rest, blank-rest}
-use Rattle.patch.proofs.Pops.{heapOf-keeps}
+use Rattle.patch.proofs.Pops.{popOf-keeps}
 use Rattle.patch.proofs.Searching.{searching-fair}
 use Rattle.frontier.specs.declared.Counts.{Counts}
 use Rattle.frontier.specs.Work.{Holds}
@@ -58,12 +58,12 @@ no-faces-unused n t rest e k =
     let none : count (eqb k) points ≡ 0 = not-some (count (eqb k) points) (λ h. omega (arith, rest .inv .pointwise k .used-touched h)) in
     eq-eqb (getD (t .used) k 0) 0 (rest .inv .flags k ∙ none)
 
-pub fresh-after : {s : Scene} {hash : Hash} {pts : List Float} {lent : List ℕ} {c : Counts} {w slice : List ℕ} (rs : List Float) → Holds (s .n) lent (patch (rulesOf s pts) heapOf (s .n) rs) c w slice
+pub fresh-after : {s : Scene} {hash : Hash} {pts : List Float} {lent : List ℕ} {c : Counts} {w slice : List ℕ} (rule : ℕ) (rs : List Float) → Holds (s .n) lent (patch (rulesOf s pts) (popOf rule) (s .n) rs) c w slice
     → Searchable s hash pts w → c .faces ≡ 0 → Fresh s hash pts w
 unfolding patch
-fresh-after {s} {pts = pts} rs h g z =
+fresh-after {s} {pts = pts} rule rs h g z =
     let n = s .n in
-    let rest = layAll-rest n (rulesOf s pts) heapOf (searching-fair n (floatsOf s pts) (within s pts)) heapOf-keeps rs (blank n) (blank-rest n) in
+    let rest = layAll-rest n (rulesOf s pts) (popOf rule) (searching-fair n (floatsOf s pts) (within s pts)) (popOf-keeps rule) rs (blank n) (blank-rest n) in
     record {
       held = g .held;
       cells = g .indexed .cells;
@@ -130,7 +130,7 @@ reason-plain c pts e = sym (ap (λ (rs : List Float). reasonBy (pointCount pts) 
 module _ (c : BallPivotingConfig) (pts : List Float) where
   laid-judged : 1 ≤ length (laidOf c pts .faces) → any (reachedAt c pts) (radiiOf c pts) ≡ true
   unfolding laidOf reachedAt
-  laid-judged h = faces-reached (floatsOf (sceneOf c pts) pts) (pointCount pts) heapOf (radiiOf c pts) h
+  laid-judged h = faces-reached (floatsOf (sceneOf c pts) pts) (pointCount pts) (popOf (c .«frontier_rule»)) (radiiOf c pts) h
 
   judged-at : (rs : List Float) → radiiOf c pts ≡ rs → 1 ≤ length (foundAt c pts rs .faces) → judgedAt c pts rs ≡ true
   unfolding foundAt judgedAt laid plainly

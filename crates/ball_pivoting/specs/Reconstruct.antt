@@ -15,7 +15,7 @@ use Rattle.grid.specs.declared.SpatialGrid.{SpatialGrid}
 use Rattle.radii.specs.Radii.{adaptiveRadii}
 use Rattle.patch.specs.Lay.{Face, State, seedsOf, patch}
 use Rattle.patch.specs.Search.{searching}
-use Rattle.patch.specs.Frontier.{heapOf}
+use Rattle.patch.specs.Frontier.{popOf}
 use Rattle.patch.specs.View.{written}
 use Rattle.decisions.specs.Decisions.{floatsOf}
 use Rattle.decisions.specs.declared.Scene.{Scene}
@@ -46,9 +46,12 @@ sceneOf c pts = record {
 unfoldable pub radiiOf : BallPivotingConfig → List Float → List Float
 radiiOf c pts = adaptiveRadii c (indexOf c pts) pts (pointCount pts)
 
--- the multi-radius path: the state when all radii are done
+-- the multi-radius path: the state when all radii are done; under rule 1 it is the source's, under rule 2 a queue
+-- takes the place of its heap
 unfoldable pub laidOf : BallPivotingConfig → List Float → State
-laidOf c pts = patch (searching (floatsOf (sceneOf c pts) pts) (pointCount pts)) heapOf (pointCount pts) (radiiOf c pts)
+laidOf c pts =
+    patch (searching (floatsOf (sceneOf c pts) pts) (pointCount pts)) (popOf (c .«frontier_rule»)) (pointCount pts)
+    (radiiOf c pts)
 
 -- what is found: the faces in their order, and the counts
 pub record Found : Type 0 where

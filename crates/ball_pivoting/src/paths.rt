@@ -10,7 +10,7 @@ ghost use Prim.Native.Nat.{_-_, _/_, _≤_, _<_};
 ghost use lib.ListN.{length, take, getD};
 ghost use lib.Ieee.{nan};
 ghost use Rattle.patch.specs.Lay.{patch};
-ghost use Rattle.patch.specs.Frontier.{heapOf};
+ghost use Rattle.patch.specs.Frontier.{popOf};
 ghost use Rattle.laying.specs.Laying.{AllSearchable, rulesOf};
 ghost use Rattle.radii.specs.Steps.{Listed};
 ghost use Rattle.decisions.specs.Decisions.{floatsOf};
@@ -121,18 +121,28 @@ fn find_pivoting(
     faces: &mut [u32],
     words: &mut [u32],
     hash: Hash,
+    rule: u32,
 ) -> Finding
     requires { ⌜ AllSearchable scene hash (now points) (now words) × Listed (take (radii .count) (radii .list)) radii
         × (0 < radii .count) ⌝ }
     ensures { λ r. ⌜ Finds
         (reasonBy (scene .n)
         (reaches (floatsOf scene (now (points .entry))) (scene .n) (getD (radii .list) (radii .count - 1) nan)))
-        (laid (patch (rulesOf scene (now (points .entry))) heapOf (scene .n) (take (radii .count) (radii .list))))
+        (laid (patch (rulesOf scene (now (points .entry))) (popOf rule) (scene .n) (take (radii .count) (radii .list))))
         (take (radii .count) (radii .list)) (now (faces .entry)) r (now (faces .exit)) ⌝ }
 {
     let list = radii.list;
     let count = radii.count as usize;
-    let counts = laying::advanced_ball_pivoting(scene, points, list, count, faces, words, hash);
+    let counts = laying::advanced_ball_pivoting(
+        scene,
+        points,
+        list,
+        count,
+        faces,
+        words,
+        hash,
+        rule,
+    );
     let reason = reason_after(scene, points, words, hash, list[count - 1], counts.faces);
     Finding {
         faces: counts.faces,
@@ -171,5 +181,13 @@ pub fn find(
     if radii.count == 0 {
         return find_plain(points, settings, radii, faces, words, floats);
     }
-    find_pivoting(scene, points, radii, faces, words, hash)
+    find_pivoting(
+        scene,
+        points,
+        radii,
+        faces,
+        words,
+        hash,
+        settings.frontier_rule,
+    )
 }

@@ -4,3 +4,4 @@ pub mod Starred
 pub mod Tries
 pub mod Texts
 pub mod Stl
+pub mod Rules

@@ -2,3 +2,4 @@
 pub mod Starred
 pub mod Tries
 pub mod Texts
+pub mod Rules

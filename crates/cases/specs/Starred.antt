@@ -43,6 +43,7 @@ with-area least = record {
   «min_triangle_area» = least;
   «use_spatial_index» = true;
   «spatial_cell_factor» = f32 0x40000000;
+  «frontier_rule» = 1;
 }
 
 -- three points at one place

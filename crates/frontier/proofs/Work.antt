@@ -1,16 +1,20 @@
 -- What each part of a step does to the state that the slices and the counts hold. Assumes nothing.
 use Prim.Native.Nat.{ℕ, zero, suc, _+_, _-_, _*_, _≤_, _<_}
 use mathlib.Core.Path.{_≡_, refl, sym, ap, ap₂, _∙_}
+use mathlib.Core.Logic.{⊎-elim, _≢_}
 use mathlib.Core.Bool.{Bool, true, false}
 use mathlib.Core.List.{List, [], _∷_, _++_, map, append-assoc}
 use mathlib.Core.Option.{some}
 use native.Mathlib.Omega.{arith}
+use lib.Dec.{eqb}
+use borrow.Author.Tests.{eqb-true}
 use lib.ListN.{length, getD, take, drop, set, replicate, length-set, length-drop, length-append}
-use lib.Seq.{getD-take, drop-set-add, take-set-lt, take-suc-set}
+use lib.Seq.{getD-take, getD-drop, drop-drop, drop-set-add, take-set-lt, take-suc-set}
 use borrow.Rule.Slice.PartMut.{putMid}
 use Rattle.lists.specs.Lists.{bit, count}
 use Rattle.patch.specs.Lay.{Edge, edge, Face, face, edgesOf, State, push, marked, withFace, cleared, popped, met, seeded, pivoted}
-use Rattle.patch.specs.Frontier.{noEdge, afterPop}
+use Rattle.patch.specs.Frontier.{noEdge, afterPop, heapOf, queueOf, waitingAfter, popOf}
+use Rattle.lists.proofs.Bools.{either}
 use Rattle.lists.proofs.Counts.{count-append, count-all}
 use Rattle.patch.proofs.Pops.{heapOf-keeps}
 use Rattle.patch.proofs.Laying.{Room as Fits}
@@ -22,35 +26,42 @@ use Rattle.frontier.proofs.Slices.{before-same, after-same, only-none, 
 use Rattle.frontier.proofs.Flags.{entries-kept, Fresh, fresh-pushed, fresh-words, seed-fresh, pivot-fresh}
 
 -- ---- the parts
-module _ (n count : ℕ) (w ys : List ℕ) (r : ℕ) (sized : Sized n w) (some-wait : 0 < count) (few : count ≤ 3 * n) where
-  pub taken : r ≡ getD (take (length w - 6 * n) (drop (6 * n) w)) 0 0 → take (count - 1) ys ≡ afterPop 0 (take count (take (length w - 6 * n) (drop (6 * n) w))) → drop count ys ≡ drop count (take (length w - 6 * n) (drop (6 * n) w)) → length ys ≡ length (take (length w - 6 * n) (drop (6 * n) w))
-      → Taken n count w (putMid (6 * n) (length w - 6 * n) w ys) r
+module _ (n first count : ℕ) (w ys : List ℕ) (r : ℕ) (sized : Sized n w) (some-wait : 0 < count) (few : first + count ≤ 3 * n) where
+  pub taken : let at = 6 * n + first in
+      r ≡ getD (take (length w - at) (drop at w)) 0 0 → take (count - 1) ys ≡ afterPop 0 (take count (take (length w - at) (drop at w)))
+      → drop count ys ≡ drop count (take (length w - at) (drop at w)) → length ys ≡ length (take (length w - at) (drop at w))
+      → Taken n first count w (putMid at (length w - at) w ys) r
   taken top rest same long =
-      let inside : 6 * n ≤ length w = omega arith in
-      let t = tail-is (6 * n) w inside in
+      let at : ℕ = 6 * n + first in
+      let inside : 6 * n + first ≤ length w = omega (arith, sized .long) in
+      let t = tail-is (6 * n + first) w inside in
       record {
-        first = top ∙ ap (λ (l : List ℕ). getD l 0 0) t ∙ sym (getD-take count (drop (6 * n) w) 0 0 some-wait);
-        rest = ap (λ (l : List ℕ). take (count - 1) l) (back (6 * n) w inside ys) ∙ rest ∙ ap (λ (l : List ℕ). afterPop 0 (take count l)) t;
-        only = only-tail (6 * n) w inside count (9 * n) ys (omega arith) (long ∙ ap length t ∙ length-drop (6 * n) w) (same ∙ ap (λ (l : List ℕ). drop count l) t);
+        top = top ∙ ap (λ (l : List ℕ). getD l 0 0) t ∙ sym (getD-take count (drop (6 * n + first) w) 0 0 some-wait);
+        rest = ap (λ (l : List ℕ). take (count - 1) l) (back (6 * n + first) w inside ys) ∙ rest ∙ ap (λ (l : List ℕ). afterPop 0 (take count l)) t;
+        only = only-wider (6 * n) (9 * n) (omega arith) (omega arith)
+            (only-tail (6 * n + first) w inside count (9 * n) ys (omega arith) (long ∙ ap length t ∙ length-drop (6 * n + first) w) (same ∙ ap (λ (l : List ℕ). drop count l) t));
       }
 
-pub pushed-one : (n count entry : ℕ) (w : List ℕ) → Sized n w → count + 1 ≤ 3 * n → Pushed n count (entry ∷ []) w (set w (6 * n + count) entry)
-pushed-one n count entry w sized few = record {
-  entries = word-stored w (6 * n) count entry (omega (arith, sized .long));
-  only = only-set (6 * n) (9 * n) w (6 * n + count) entry (omega arith) (omega arith);
+pub pushed-one : (n end entry : ℕ) (w : List ℕ) → Sized n w → end + 1 ≤ 3 * n → Pushed n end (entry ∷ []) w (set w (6 * n + end) entry)
+pushed-one n end entry w sized few = record {
+  entries = λ first count e.
+      let at : 6 * n + end ≡ 6 * n + first + count = omega arith in
+      ap (λ (i : ℕ). entriesIn n first (count + 1) (set w i entry)) at ∙ word-stored w (6 * n + first) count entry (omega (arith, sized .long));
+  only = only-set (6 * n) (9 * n) w (6 * n + end) entry (omega arith) (omega arith);
 }
 
-pub pushed-three : (n count x y z : ℕ) (w w1 w2 w3 : List ℕ) → Pushed n count (x ∷ []) w w1 → Pushed n (count + 1) (y ∷ []) w1 w2 → Pushed n (count + 2) (z ∷ []) w2 w3 → Pushed n count (x ∷ y ∷ z ∷ []) w w3
-pushed-three n count x y z w w1 w2 w3 p q r =
-    let two : count + 2 ≡ count + 1 + 1 = omega arith in
-    let three : count + 3 ≡ count + 2 + 1 = omega arith in
-    let old : List ℕ = entriesIn n count w in
-    record {
-      entries = ap (λ (m : ℕ). entriesIn n m w3) three ∙ r .entries
-          ∙ ap (λ (l : List ℕ). l ++ (z ∷ [])) (ap (λ (m : ℕ). entriesIn n m w2) two ∙ q .entries ∙ ap (λ (l : List ℕ). l ++ (y ∷ [])) (p .entries))
-          ∙ append-assoc (old ++ (x ∷ [])) (y ∷ []) (z ∷ []) ∙ append-assoc old (x ∷ []) (y ∷ z ∷ []);
-      only = only-both (only-both (p .only) (q .only)) (r .only);
-    }
+pub pushed-three : (n end x y z : ℕ) (w w1 w2 w3 : List ℕ) → Pushed n end (x ∷ []) w w1 → Pushed n (end + 1) (y ∷ []) w1 w2 → Pushed n (end + 2) (z ∷ []) w2 w3 → Pushed n end (x ∷ y ∷ z ∷ []) w w3
+pushed-three n end x y z w w1 w2 w3 p q r = record {
+  entries = λ first count e.
+      let two : count + 2 ≡ count + 1 + 1 = omega arith in
+      let three : count + 3 ≡ count + 2 + 1 = omega arith in
+      let old : List ℕ = entriesIn n first count w in
+      ap (λ (m : ℕ). entriesIn n first m w3) three ∙ r .entries first (count + 2) (omega arith)
+      ∙ ap (λ (l : List ℕ). l ++ (z ∷ []))
+      (ap (λ (m : ℕ). entriesIn n first m w2) two ∙ q .entries first (count + 1) (omega arith) ∙ ap (λ (l : List ℕ). l ++ (y ∷ [])) (p .entries first count e))
+      ∙ append-assoc (old ++ (x ∷ [])) (y ∷ []) (z ∷ []) ∙ append-assoc old (x ∷ []) (y ∷ z ∷ []);
+  only = only-both (only-both (p .only) (q .only)) (r .only);
+}
 
 pub marked-one : (n k : ℕ) (w : List ℕ) → k < n → Marked n (k ∷ []) w (set w (5 * n + k) 1)
 unfolding marked
@@ -106,7 +117,7 @@ clearing-end n w₀ w i c h =
     (ap (λ (j : ℕ). take j (drop (5 * n) w)) (sym e) ∙ c .zeros ∙ ap (λ (j : ℕ). replicate j 0) e, c .only)
 
 -- ---- the steps
-pub begin-holds : (n : ℕ) (u : List ℕ) → usedIn n u ≡ replicate n 0 → Begins n (record { faces = 0; seeds = 0; frontier = 0; looks = 0; pivots = 0 }) u
+pub begin-holds : (n : ℕ) (u : List ℕ) → usedIn n u ≡ replicate n 0 → Begins n (record { faces = 0; seeds = 0; first = 0; frontier = 0; looks = 0; pivots = 0 }) u
 begin-holds n u h lent = record {
   faces-count = refl;
   seeds-count = refl;
@@ -115,31 +126,36 @@ begin-holds n u h lent = record {
   pivots = refl;
   used = h;
   frontier = refl;
+  first-most = omega arith;
   faces = sym (written-none lent);
 }
 
-pub clear-takes : (c : Counts) → Clears c (record { faces = c .faces; seeds = c .seeds; frontier = 0; looks = c .looks; pivots = c .pivots })
+pub clear-takes : (c : Counts) → Clears c (record { faces = c .faces; seeds = c .seeds; first = 0; frontier = 0; looks = c .looks; pivots = c .pivots })
 unfolding cleared
-clear-takes c n w slice lent s h = record {
-  faces-count = h .faces-count;
-  seeds-count = h .seeds-count;
-  frontier-count = refl;
-  looks = h .looks;
-  pivots = h .pivots;
-  used = h .used;
-  frontier = refl;
-  faces = h .faces;
-}
+clear-takes c = (
+  refl,
+  λ n w slice lent s h. record {
+    faces-count = h .faces-count;
+    seeds-count = h .seeds-count;
+    frontier-count = refl;
+    looks = h .looks;
+    pivots = h .pivots;
+    used = h .used;
+    frontier = refl;
+    first-most = omega arith;
+    faces = h .faces;
+  },
+)
 
 length-afterPop : (x : Edge) (xs : List Edge) → length (afterPop noEdge (x ∷ xs)) ≡ length xs
 length-afterPop x xs = let k = heapOf-keeps x xs (λ e. true) in omega (arith, count-all xs, count-all (afterPop noEdge (x ∷ xs)))
 
-pub pop-takes : (n : ℕ) (c : Counts) (w u : List ℕ) (entry : ℕ) → Taken n (c .frontier) w u entry
-    → Pops n c w entry (record { faces = c .faces; seeds = c .seeds; frontier = c .frontier - 1; looks = c .looks + 1; pivots = c .pivots }) u
+pub pop-takes : (n : ℕ) (c : Counts) (w u : List ℕ) (entry : ℕ) → Taken n (c .first) (c .frontier) w u entry
+    → Pops heapOf n c w entry (record { faces = c .faces; seeds = c .seeds; first = c .first; frontier = c .frontier - 1; looks = c .looks + 1; pivots = c .pivots }) u
 unfolding popped
 pop-takes n c w u entry t lent slice s x xs h wait =
-    let words : entriesIn n (c .frontier) w ≡ map (entryOf (s .processed)) (x ∷ xs) = h .frontier ∙ ap (λ (l : List Edge). map (entryOf (s .processed)) l) wait in (
-      t .first ∙ ap (λ (l : List ℕ). getD l 0 0) words,
+    let words : entriesIn n (c .first) (c .frontier) w ≡ map (entryOf (s .processed)) (x ∷ xs) = h .frontier ∙ ap (λ (l : List Edge). map (entryOf (s .processed)) l) wait in (
+      t .top ∙ ap (λ (l : List ℕ). getD l 0 0) words,
       record {
         faces-count = h .faces-count;
         seeds-count = h .seeds-count;
@@ -148,11 +164,54 @@ pop-takes n c w u entry t lent slice s x xs h wait =
         pivots = h .pivots;
         used = before-same (t .only) (5 * n) n (omega arith) ∙ h .used;
         frontier = t .rest ∙ ap (λ (l : List ℕ). afterPop 0 l) words ∙ sym (map-afterPop (entryOf (s .processed)) noEdge 0 (x ∷ xs));
+        first-most = omega (arith, h .first-most);
         faces = h .faces;
       },
     )
 
-pub miss-takes : (c : Counts) → Misses c (record { faces = c .faces; seeds = c .seeds; frontier = c .frontier; looks = c .looks; pivots = c .pivots + 1 })
+next : (k : ℕ) (l : List ℕ) (y : ℕ) (ys : List ℕ) → take (suc k) l ≡ y ∷ ys → take k (drop 1 l) ≡ ys
+next k [] y ys e = absurd (omega (arith, ap length e))
+next k (x ∷ l) y ys e = ap (λ (m : List ℕ). drop 1 m) e
+
+-- the words after the first of those from `at` on
+drop-next : (k at : ℕ) (w : List ℕ) (y : ℕ) (ys : List ℕ) → take k (drop at w) ≡ y ∷ ys → take (k - 1) (drop (at + 1) w) ≡ ys
+drop-next zero at w y ys e = absurd (omega (arith, ap length e))
+drop-next (suc k) at w y ys e =
+    let less : suc k - 1 ≡ k = omega arith in
+    ap₂ (λ (m : ℕ) (l : List ℕ). take m l) less (sym (drop-drop 1 at w)) ∙ next k (drop at w) y ys e
+
+pub queue-takes : (n : ℕ) (c : Counts) (w : List ℕ) (entry : ℕ) → 0 < c .frontier → entry ≡ getD w (6 * n + c .first) 0
+    → Pops queueOf n c w entry (record { faces = c .faces; seeds = c .seeds; first = c .first + 1; frontier = c .frontier - 1; looks = c .looks + 1; pivots = c .pivots }) w
+unfolding popped
+queue-takes n c w entry some-wait top lent slice s x xs h wait =
+    let words : entriesIn n (c .first) (c .frontier) w ≡ map (entryOf (s .processed)) (x ∷ xs) = h .frontier ∙ ap (λ (l : List Edge). map (entryOf (s .processed)) l) wait in
+    let none : 6 * n + c .first + 0 ≡ 6 * n + c .first = omega arith in
+    let further-on : 6 * n + (c .first + 1) ≡ 6 * n + c .first + 1 = omega arith in (
+      top ∙ sym (getD-drop (6 * n + c .first) w 0 0 ∙ ap (λ (i : ℕ). getD w i 0) none) ∙ sym (getD-take (c .frontier) (drop (6 * n + c .first) w) 0 0 some-wait) ∙ ap (λ (l : List ℕ). getD l 0 0) words,
+      record {
+        faces-count = h .faces-count;
+        seeds-count = h .seeds-count;
+        frontier-count = omega (arith, h .frontier-count, ap length wait);
+        looks = omega (arith, h .looks);
+        pivots = h .pivots;
+        used = h .used;
+        frontier = ap (λ (i : ℕ). take (c .frontier - 1) (drop i w)) further-on ∙ drop-next (c .frontier) (6 * n + c .first) w (entryOf (s .processed) x) (map (entryOf (s .processed)) xs) words;
+        first-most = omega (arith, h .first-most);
+        faces = h .faces;
+      },
+    )
+
+-- which of the two a rule asks for
+module _ {n : ℕ} {c : Counts} {w u : List ℕ} {entry : ℕ} {r : Counts} (rule : ℕ) where
+  pub by-queue : rule ≡ 2 → Pops queueOf n c w entry r u → Pops (popOf rule) n c w entry r u
+  unfolding waitingAfter
+  by-queue h p = rw h p
+
+  pub by-heap : rule ≢ 2 → Pops heapOf n c w entry r u → Pops (popOf rule) n c w entry r u
+  unfolding waitingAfter
+  by-heap h p = ⊎-elim (λ (t : eqb rule 2 ≡ true). absurd (h (eqb-true rule 2 t))) (λ (t : eqb rule 2 ≡ false). rw t p) (either (eqb rule 2))
+
+pub miss-takes : (c : Counts) → Misses c (record { faces = c .faces; seeds = c .seeds; first = c .first; frontier = c .frontier; looks = c .looks; pivots = c .pivots + 1 })
 unfolding pivoted
 miss-takes c n w slice lent e s a h = record {
   faces-count = h .faces-count;
@@ -162,17 +221,18 @@ miss-takes c n w slice lent e s a h = record {
   pivots = omega (arith, h .pivots);
   used = h .used;
   frontier = h .frontier ∙ sym (entries-kept (s .processed) e (s .frontier) (a .none-waits));
+  first-most = h .first-most;
   faces = h .faces;
 }
 
 -- a face is laid, as a seed or not: written, its free points ks marked, its edges pushed; `processed` are the processed edges then
-module _ (n : ℕ) (c : Counts) (w w1 w2 slice back : List ℕ) (seed : Bool) (ks : List ℕ) (f : Face) (mark seeds pivots : ℕ) (wrote : Wrote (c .faces) f slice back) (m : Marked n ks w w1) (p : Pushed n (c .frontier) (wordsOf mark f) w1 w2) (more : seeds ≡ c .seeds + bit seed) where
+module _ (n : ℕ) (c : Counts) (w w1 w2 slice back : List ℕ) (seed : Bool) (ks : List ℕ) (f : Face) (mark seeds pivots : ℕ) (wrote : Wrote (c .faces) f slice back) (m : Marked n ks w w1) (p : Pushed n (c .first + c .frontier) (wordsOf mark f) w1 w2) (more : seeds ≡ c .seeds + bit seed) where
   face-holds : (lent : List ℕ) (s : State) (processed : List Edge) (pivots′ : ℕ) → pivots ≡ pivots′ → Fresh s processed mark f → Holds n lent s c w slice
       → Holds n lent (record { faces = s .faces ++ (f ∷ []); seedFlags = s .seedFlags ++ (seed ∷ []); used = marked (s .used) ks; frontier = push (s .processed) (s .frontier) (edgesOf f); processed = processed; looks = s .looks; pivots = pivots′ })
-      (record { faces = c .faces + 1; seeds = seeds; frontier = c .frontier + 3; looks = c .looks; pivots = pivots }) w2 back
+      (record { faces = c .faces + 1; seeds = seeds; first = c .first; frontier = c .frontier + 3; looks = c .looks; pivots = pivots }) w2 back
   face-holds lent s processed pivots′ same-pivots fresh h =
       let all = fresh-pushed fresh in
-      let waiting : entriesIn n (c .frontier) w1 ≡ map (entryOf (s .processed)) (s .frontier) = after-same (m .only) (6 * n) (c .frontier) (omega arith) ∙ h .frontier in
+      let waiting : entriesIn n (c .first) (c .frontier) w1 ≡ map (entryOf (s .processed)) (s .frontier) = after-same (m .only) (6 * n + c .first) (c .frontier) (omega arith) ∙ h .frontier in
       record {
         faces-count = omega (arith, h .faces-count, length-append (s .faces) (f ∷ []));
         seeds-count = omega (arith, h .seeds-count, count-append (λ (b : Bool). b) (s .seedFlags) (seed ∷ []));
@@ -180,7 +240,8 @@ module _ (n : ℕ) (c : Counts) (w w1 w2 slice back : List ℕ) (seed : Bool) (k
         looks = h .looks;
         pivots = same-pivots;
         used = before-same (p .only) (5 * n) n (omega arith) ∙ m .flags ∙ ap (λ (l : List ℕ). marked l ks) (h .used);
-        frontier = p .entries ∙ ap (λ (l : List ℕ). l ++ wordsOf mark f) waiting ∙ sym (ap (λ (l : List Edge). map (entryOf processed) l) all ∙ fresh-words fresh);
+        frontier = p .entries (c .first) (c .frontier) refl ∙ ap (λ (l : List ℕ). l ++ wordsOf mark f) waiting ∙ sym (ap (λ (l : List Edge). map (entryOf processed) l) all ∙ fresh-words fresh);
+        first-most = h .first-most;
         faces = wrote lent (s .faces) (sym (h .faces-count)) (h .faces);
       }
 
@@ -189,14 +250,14 @@ pub face-only : (n count : ℕ) (ks words w w1 w2 : List ℕ) → Marked n ks w 
 face-only n count ks words w w1 w2 m p = only-both (only-wider (5 * n) (9 * n) (omega arith) (omega arith) (m .only)) (only-wider (5 * n) (9 * n) (omega arith) (omega arith) (p .only))
 
 module _ (n : ℕ) (c : Counts) (w w1 w2 slice back : List ℕ) (a b k : ℕ) (wrote : Wrote (c .faces) (face a b k) slice back) where
-  pub pivot-takes : Marked n (k ∷ []) w w1 → Pushed n (c .frontier) (wordsOf flag (face a b k)) w1 w2
-      → Takes n (Open (edge a b) k) (λ s. pivoted (edge a b) (met (edge a b) (some k) s)) c w slice (record { faces = c .faces + 1; seeds = c .seeds; frontier = c .frontier + 3; looks = c .looks; pivots = c .pivots + 1 }) w2 back
+  pub pivot-takes : Marked n (k ∷ []) w w1 → Pushed n (c .first + c .frontier) (wordsOf flag (face a b k)) w1 w2
+      → Takes n (Open (edge a b) k) (λ s. pivoted (edge a b) (met (edge a b) (some k) s)) c w slice (record { faces = c .faces + 1; seeds = c .seeds; first = c .first; frontier = c .frontier + 3; looks = c .looks; pivots = c .pivots + 1 }) w2 back
   unfolding pivoted met withFace
   pivot-takes m p lent s o h =
       face-holds n c w w1 w2 slice back false (k ∷ []) (face a b k) flag (c .seeds) (c .pivots + 1) wrote m p (omega arith) lent s (s .processed ++ (edge a b ∷ [])) (suc (s .pivots)) (omega (arith, h .pivots)) (pivot-fresh (edge a b) k s o) h
 
-  pub seed-takes : Marked n (a ∷ b ∷ k ∷ []) w w1 → Pushed n (c .frontier) (wordsOf 0 (face a b k)) w1 w2
-      → Takes n NoneProcessed (seeded (a, b, k)) c w slice (record { faces = c .faces + 1; seeds = c .seeds + 1; frontier = c .frontier + 3; looks = c .looks; pivots = c .pivots }) w2 back
+  pub seed-takes : Marked n (a ∷ b ∷ k ∷ []) w w1 → Pushed n (c .first + c .frontier) (wordsOf 0 (face a b k)) w1 w2
+      → Takes n NoneProcessed (seeded (a, b, k)) c w slice (record { faces = c .faces + 1; seeds = c .seeds + 1; first = c .first; frontier = c .frontier + 3; looks = c .looks; pivots = c .pivots }) w2 back
   unfolding seeded withFace
   seed-takes m p lent s none h =
       face-holds n c w w1 w2 slice back true (a ∷ b ∷ k ∷ []) (face a b k) 0 (c .seeds + 1) (c .pivots) wrote m p refl lent s (s .processed) (s .pivots) (h .pivots) (seed-fresh s (face a b k) none) h
@@ -207,7 +268,7 @@ ready n lent s c w slice sized h fits = record {
   sized = sized;
   faces = omega (arith, h .faces-count, fits .faces);
   seeds = omega (arith, h .seeds-count, fits .faces);
-  frontier = omega (arith, h .frontier-count, fits .frontier);
+  frontier = omega (arith, h .frontier-count, h .first-most, h .looks, fits .entries);
   looks = omega (arith, h .looks, fits .looks);
   pivots = omega (arith, h .pivots, fits .pivots);
 }

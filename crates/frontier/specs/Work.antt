@@ -8,15 +8,15 @@ use mathlib.Core.List.{List, [], _∷_, _++_, map}
 use lib.ListN.{length, getD, take, drop}
 use Rattle.regions.specs.Regions.{usedAt, usedIn, frontierAt, frontierEnd}
 use Rattle.lists.specs.Lists.{bit, any}
-use Rattle.patch.specs.Lay.{Edge, edge, same, Face, State, seedsOf, marked, popped, cleared, pivoted, blank}
-use Rattle.patch.specs.Frontier.{afterPop, heapOf}
+use Rattle.patch.specs.Lay.{Edge, edge, same, Face, State, Pop, seedsOf, marked, popped, cleared, pivoted, blank}
+use Rattle.patch.specs.Frontier.{afterPop}
 use Rattle.patch.specs.Entries.{encode}
 use Rattle.patch.specs.View.{written}
 use Rattle.frontier.specs.declared.Counts.{Counts}
 
 -- ---- the lists in the work slice w, for n points
-abbrev pub entriesIn : ℕ → ℕ → List ℕ → List ℕ
-entriesIn n count w = take count (drop (frontierAt n) w)
+abbrev pub entriesIn : ℕ → ℕ → ℕ → List ℕ → List ℕ
+entriesIn n first count w = take count (drop (frontierAt n + first) w)
 
 -- what the word of an entry has above its edge, if the edge is processed: an edge's number is less, its points
 -- being below 4096
@@ -35,7 +35,9 @@ pub record Holds (n : ℕ) (lent : List ℕ) (s : State) (c : Counts) (w slice :
   pub looks : c .looks ≡ s .looks
   pub pivots : c .pivots ≡ s .pivots
   pub used : usedIn n w ≡ s .used
-  pub frontier : entriesIn n (c .frontier) w ≡ map (entryOf (s .processed)) (s .frontier)
+  pub frontier : entriesIn n (c .first) (c .frontier) w ≡ map (entryOf (s .processed)) (s .frontier)
+  -- no more entries stand before the first than were popped
+  pub first-most : c .first ≤ c .looks
   pub faces : slice ≡ written (s .faces) lent
 
 -- a function that turns c, w and slice into r, u and back takes the step, from each held state of which `asked` holds
@@ -47,15 +49,16 @@ Takes n asked step c w slice r u back = (lent : List ℕ) (s : State) → asked 
 abbrev pub Begins : ℕ → Counts → List ℕ → Type 0
 Begins n r u = (lent : List ℕ) → Holds n lent (blank n) r u lent
 
--- the step that begins a radius changes the counts alone
+-- the step that begins a radius changes the counts alone, and entries stand from the front on
 abbrev pub Clears : Counts → Counts → Type 0
-Clears c r = (n : ℕ) (w slice lent : List ℕ) (s : State) → Holds n lent s c w slice → Holds n lent (cleared s) r w slice
+Clears c r = (r .first ≡ 0) × ((n : ℕ) (w slice lent : List ℕ) (s : State) → Holds n lent s c w slice
+    → Holds n lent (cleared s) r w slice)
 
 -- an entry comes out as the order of popping says
-abbrev pub Pops : ℕ → Counts → List ℕ → ℕ → Counts → List ℕ → Type 0
-Pops n c w entry r u = (lent slice : List ℕ) (s : State) (x : Edge) (xs : List Edge) → Holds n lent s c w slice
+abbrev pub Pops : Pop → ℕ → Counts → List ℕ → ℕ → Counts → List ℕ → Type 0
+Pops pop n c w entry r u = (lent slice : List ℕ) (s : State) (x : Edge) (xs : List Edge) → Holds n lent s c w slice
     → s .frontier ≡ x ∷ xs
-    → (entry ≡ entryOf (s .processed) (heapOf x xs .0)) × Holds n lent (popped (heapOf x xs .1) s) r u slice
+    → (entry ≡ entryOf (s .processed) (pop x xs .0)) × Holds n lent (popped (pop x xs .1) s) r u slice
 
 -- r tells of an entry's word whether its edge is processed
 abbrev pub Tells : ℕ → Bool → Type 0
@@ -96,14 +99,14 @@ pub record Ready (n : ℕ) (c : Counts) (w : List ℕ) : Type 0 where
   pub sized : Sized n w
   pub faces : c .faces ≤ n
   pub seeds : c .seeds ≤ n
-  pub frontier : c .frontier ≤ 3 * n
+  pub frontier : c .first + c .frontier ≤ 3 * n
   pub looks : c .looks ≤ 3 * n
   pub pivots : c .pivots ≤ 2 * n
 
 -- room for a face of three of the points
 pub record Room (n : ℕ) (c : Counts) (w : List ℕ) (a b k : ℕ) : Type 0 where
   pub ready : Ready n c w
-  pub entries : c .frontier + 3 ≤ 3 * n
+  pub entries : c .first + c .frontier + 3 ≤ 3 * n
   pub first : a < n
   pub second : b < n
   pub third : k < n
@@ -116,13 +119,16 @@ pub record OnlyIn (lo hi : ℕ) (w u : List ℕ) : Type 0 where
   pub after : drop hi u ≡ drop hi w
   pub length-same : length u ≡ length w
 
-pub record Taken (n count : ℕ) (w u : List ℕ) (entry : ℕ) : Type 0 where
-  pub first : entry ≡ getD (entriesIn n count w) 0 0
-  pub rest : entriesIn n (count - 1) u ≡ afterPop 0 (entriesIn n count w)
+-- an entry is taken out of the heap of `count` ones from `first` on
+pub record Taken (n first count : ℕ) (w u : List ℕ) (entry : ℕ) : Type 0 where
+  pub top : entry ≡ getD (entriesIn n first count w) 0 0
+  pub rest : entriesIn n first (count - 1) u ≡ afterPop 0 (entriesIn n first count w)
   pub only : OnlyIn (frontierAt n) (frontierEnd n) w u
 
-pub record Pushed (n count : ℕ) (words w u : List ℕ) : Type 0 where
-  pub entries : entriesIn n (count + length words) u ≡ entriesIn n count w ++ words
+-- words go to the end of the frontier, wherever it begins
+pub record Pushed (n end : ℕ) (words w u : List ℕ) : Type 0 where
+  pub entries : (first count : ℕ) → first + count ≡ end
+      → entriesIn n first (count + length words) u ≡ entriesIn n first count w ++ words
   pub only : OnlyIn (frontierAt n) (frontierEnd n) w u
 
 -- the word of an edge with a mark above it

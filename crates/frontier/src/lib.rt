@@ -9,6 +9,7 @@ ghost use lib.ListN.{replicate};
 ghost use Prim.Native.Nat.{_+_, _*_, _≤_, _<_};
 ghost use Rattle.regions.specs.Regions.{usedAt, frontierAt, frontierEnd, usedIn};
 ghost use Rattle.patch.specs.Lay.{edge, face, met, seeded, pivoted};
+ghost use Rattle.patch.specs.Frontier.{heapOf, queueOf, popOf};
 ghost use Rattle.frontier.specs.Work.{flag, wordOf, wordsOf, Takes, Begins, Clears, Pops, Tells, Open};
 ghost use Rattle.frontier.specs.Work.{NoneProcessed, Misses, Sized, Ready, Room, OnlyIn, Taken, Pushed, Marked};
 ghost use Rattle.frontier.specs.Work.{Wrote};
@@ -16,10 +17,11 @@ ghost use Rattle.frontier.specs.Work.{Wrote};
 // What an entry has above its edge if the edge is processed.
 const FLAG: u32 = 16777216;
 
-// How many faces, seeds, looks and pivots there were, and how many entries wait.
+// How many faces, seeds, looks and pivots there were, how many entries wait, and where the first of them stands.
 pub struct Counts {
     pub faces: usize,
     pub seeds: u32,
+    pub first: usize,
     pub frontier: usize,
     pub looks: u32,
     pub pivots: u32,
@@ -54,6 +56,7 @@ pub fn begin(w: &mut [u32], n: usize) -> Counts
     Counts {
         faces: 0,
         seeds: 0,
+        first: 0,
         frontier: 0,
         looks: 0,
         pivots: 0,
@@ -65,27 +68,28 @@ pub fn clear(c: Counts) -> Counts
     ensures { λ r. ⌜ Clears c r ⌝ }
 {
     let mut r = c;
+    r.first = 0;
     r.frontier = 0;
     r
 }
 
-// Takes an entry out of the `count` ones that wait.
-fn pop_frontier(w: &mut [u32], n: usize, count: usize) -> u32
-    requires { ⌜ Sized n (now w) × (0 < count) × (count ≤ 3 * n) ⌝ }
-    ensures { λ r. ⌜ Taken n count (now (w .entry)) (now (w .exit)) r ⌝ }
+// Takes an entry out of the `count` ones that wait from `first` on, as a heap does.
+fn pop_frontier(w: &mut [u32], n: usize, first: usize, count: usize) -> u32
+    requires { ⌜ Sized n (now w) × (0 < count) × (first + count ≤ 3 * n) ⌝ }
+    ensures { λ r. ⌜ Taken n first count (now (w .entry)) (now (w .exit)) r ⌝ }
 {
-    let at = 6 * n;
+    let at = 6 * n + first;
     heap::pop(&mut w[at..], count)
 }
 
-// A look begins: an entry is popped.
-pub fn pop(w: &mut [u32], n: usize, c: Counts) -> Popped
+// A look begins under rule 1: an entry is popped from the heap.
+fn pop_heap(w: &mut [u32], n: usize, c: Counts) -> Popped
     requires { ⌜ Ready n c (now w) × (0 < c .frontier) ⌝ }
-    ensures { λ r. ⌜ Pops n c (now (w .entry)) (r .entry) (r .counts) (now (w .exit)) ⌝ }
+    ensures { λ r. ⌜ Pops heapOf n c (now (w .entry)) (r .entry) (r .counts) (now (w .exit)) ⌝ }
     ensures { λ _. ⌜ OnlyIn (usedAt n) (frontierEnd n) (now (w .entry)) (now (w .exit)) ⌝ }
 {
     let count = c.frontier;
-    let entry = pop_frontier(w, n, count);
+    let entry = pop_frontier(w, n, c.first, count);
     let mut r = c;
     r.frontier = count - 1;
     r.looks = c.looks + 1;
@@ -95,6 +99,36 @@ pub fn pop(w: &mut [u32], n: usize, c: Counts) -> Popped
     }
 }
 
+// A look begins under rule 2: the entry that was pushed first is popped, and the others stay where they are.
+fn pop_queue(w: &[u32], n: usize, c: Counts) -> Popped
+    requires { ⌜ Ready n c (now w) × (0 < c .frontier) ⌝ }
+    ensures { λ r. ⌜ Pops queueOf n c (now (w .entry)) (r .entry) (r .counts) (now (w .entry)) ⌝ }
+{
+    let front = c.first;
+    let left = c.frontier - 1;
+    let at = 6 * n + front;
+    let mut r = c;
+    r.first = front + 1;
+    r.frontier = left;
+    r.looks += 1;
+    Popped {
+        entry: w[at],
+        counts: r,
+    }
+}
+
+// A look begins: an entry is popped, by the rule.
+pub fn pop(w: &mut [u32], n: usize, c: Counts, rule: u32) -> Popped
+    requires { ⌜ Ready n c (now w) × (0 < c .frontier) ⌝ }
+    ensures { λ r. ⌜ Pops (popOf rule) n c (now (w .entry)) (r .entry) (r .counts) (now (w .exit)) ⌝ }
+    ensures { λ _. ⌜ OnlyIn (usedAt n) (frontierEnd n) (now (w .entry)) (now (w .exit)) ⌝ }
+{
+    if rule == 2 {
+        return pop_queue(w, n, c);
+    }
+    pop_heap(w, n, c)
+}
+
 // Whether the edge of an entry is processed.
 pub fn is_processed(entry: u32) -> bool
     ensures { λ r. ⌜ Tells entry r ⌝ }
@@ -102,12 +136,12 @@ pub fn is_processed(entry: u32) -> bool
     FLAG <= entry
 }
 
-// The edge a, b goes to the end of the `count` entries that wait, with `mark` above it.
-fn push_edge(w: &mut [u32], n: usize, count: usize, mark: u32, a: u32, b: u32)
-    requires { ⌜ Sized n (now w) × (count + 1 ≤ 3 * n) × (mark ≤ flag) × (a < 4096) × (b < 4096) ⌝ }
-    ensures { λ _. ⌜ Pushed n count (wordOf mark (edge a b) ∷ []) (now (w .entry)) (now (w .exit)) ⌝ }
+// The edge a, b goes to the end of the frontier, which is at `end`, with `mark` above it.
+fn push_edge(w: &mut [u32], n: usize, end: usize, mark: u32, a: u32, b: u32)
+    requires { ⌜ Sized n (now w) × (end + 1 ≤ 3 * n) × (mark ≤ flag) × (a < 4096) × (b < 4096) ⌝ }
+    ensures { λ _. ⌜ Pushed n end (wordOf mark (edge a b) ∷ []) (now (w .entry)) (now (w .exit)) ⌝ }
 {
-    let i = 6 * n + count;
+    let i = 6 * n + end;
     w[i] = a * 4096 + b + mark;
 }
 
@@ -116,18 +150,18 @@ fn push_edge(w: &mut [u32], n: usize, count: usize, mark: u32, a: u32, b: u32)
 pub fn add_triangle_edges_to_frontier(
     w: &mut [u32],
     n: usize,
-    count: usize,
+    end: usize,
     mark: u32,
     a: u32,
     b: u32,
     k: u32,
 )
-    requires { ⌜ Sized n (now w) × (count + 3 ≤ 3 * n) × (mark ≤ flag) × (a < 4096) × (b < 4096) × (k < 4096) ⌝ }
-    ensures { λ _. ⌜ Pushed n count (wordsOf mark (face a b k)) (now (w .entry)) (now (w .exit)) ⌝ }
+    requires { ⌜ Sized n (now w) × (end + 3 ≤ 3 * n) × (mark ≤ flag) × (a < 4096) × (b < 4096) × (k < 4096) ⌝ }
+    ensures { λ _. ⌜ Pushed n end (wordsOf mark (face a b k)) (now (w .entry)) (now (w .exit)) ⌝ }
 {
-    push_edge(w, n, count, mark, a, b);
-    push_edge(w, n, count + 1, 0, b, k);
-    push_edge(w, n, count + 2, 0, k, a);
+    push_edge(w, n, end, mark, a, b);
+    push_edge(w, n, end + 1, 0, b, k);
+    push_edge(w, n, end + 2, 0, k, a);
 }
 
 // Point k is used from now on.
@@ -191,7 +225,7 @@ pub fn lay_pivot(
     let waiting = c.frontier;
     put_face(faces, count, a, b, k);
     mark_used(w, n, k);
-    add_triangle_edges_to_frontier(w, n, waiting, FLAG, a, b, k);
+    add_triangle_edges_to_frontier(w, n, c.first + waiting, FLAG, a, b, k);
     let mut r = c;
     r.faces = count + 1;
     r.frontier = waiting + 3;
@@ -218,7 +252,7 @@ pub fn lay_seed(
     let waiting = c.frontier;
     put_face(faces, count, i, j, k);
     mark_seed(w, n, i, j, k);
-    add_triangle_edges_to_frontier(w, n, waiting, 0, i, j, k);
+    add_triangle_edges_to_frontier(w, n, c.first + waiting, 0, i, j, k);
     let mut r = c;
     r.faces = count + 1;
     r.seeds = c.seeds + 1;

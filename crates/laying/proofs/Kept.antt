@@ -62,7 +62,7 @@ beside-without {n = n} {w = w} u x l =
     } in
     record { index = before-same only 0 (4 * n) (omega arith); held = λ at k _ h. before-same only at k h; length-same = l }
 
-pub holds-beside : {n : ℕ} {w u lent : List ℕ} {t : State} {c : Counts} {slice : List ℕ} → Beside n w u → c .frontier ≤ 3 * n → Holds n lent t c w slice → Holds n lent t c u slice
+pub holds-beside : {n : ℕ} {w u lent : List ℕ} {t : State} {c : Counts} {slice : List ℕ} → Beside n w u → c .first + c .frontier ≤ 3 * n → Holds n lent t c w slice → Holds n lent t c u slice
 holds-beside {n} {c = c} b few h = record {
   faces-count = h .faces-count;
   seeds-count = h .seeds-count;
@@ -70,7 +70,8 @@ holds-beside {n} {c = c} b few h = record {
   looks = h .looks;
   pivots = h .pivots;
   used = b .held (5 * n) n (omega arith) (omega arith) ∙ h .used;
-  frontier = b .held (6 * n) (c .frontier) (omega arith) (omega arith) ∙ h .frontier;
+  frontier = b .held (6 * n + c .first) (c .frontier) (omega arith) (omega arith) ∙ h .frontier;
+  first-most = h .first-most;
   faces = h .faces;
 }
 

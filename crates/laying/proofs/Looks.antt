@@ -7,7 +7,7 @@ use native.Mathlib.Omega.{arith}
 use lib.Ieee.{Float}
 use Rattle.lists.specs.Lists.{any}
 use Rattle.patch.specs.Lay.{Edge, same, State, popped}
-use Rattle.patch.specs.Frontier.{heapOf}
+use Rattle.patch.specs.Frontier.{noEdge, waitingAfter, popOf}
 use Rattle.patch.specs.Entries.{decode}
 use Rattle.patch.specs.Invariant.{Inv}
 use Rattle.patch.proofs.Laying.{room}
@@ -20,9 +20,9 @@ use Rattle.frontier.proofs.Flags.{word-decoded}
 use Rattle.frontier.proofs.Work.{ready}
 use Rattle.laying.specs.Laying.{Searchable, pivotOver, looked, Lays, Opened, BetweenLooks, Pivoting}
 use Rattle.laying.proofs.Kept.{sized, searchable-same, Waiting, waiting}
-use Rattle.laying.proofs.Pivots.{entry-below, looked-skip, looked-open}
+use Rattle.laying.proofs.Pivots.{out, entry-below, looked-skip, looked-open}
 
-module _ {s : Scene} {hash : Hash} {pts : List Float} (r : Float) {c : Counts} {w slice : List ℕ} (st : BetweenLooks s hash pts c w slice) (some-wait : 0 < c .frontier) where
+module _ {s : Scene} {hash : Hash} {pts : List Float} (rule : ℕ) (r : Float) {c : Counts} {w slice : List ℕ} (st : BetweenLooks s hash pts c w slice) (some-wait : 0 < c .frontier) where
   pub pop-ready : Ready (s .n) c w
   pop-ready = ready (s .n) (st .lent) (st .state) c w slice (sized (st .searchable)) (st .holds) (room (s .n) (st .state) (st .inv))
 
@@ -30,7 +30,7 @@ module _ {s : Scene} {hash : Hash} {pts : List Float} (r : Float) {c : Counts} {
   waits lent t h = waiting (t .frontier) (omega (arith, h .frontier-count))
 
   -- an entry was popped, and it was told whether its edge is processed
-  module _ {entry : ℕ} {next : Counts} {u : List ℕ} {seen : Bool} (pops : Pops (s .n) c w entry next u) (only : OnlyIn (5 * s .n) (9 * s .n) w u) (tells : Tells entry seen) where
+  module _ {entry : ℕ} {next : Counts} {u : List ℕ} {seen : Bool} (pops : Pops (popOf rule) (s .n) c w entry next u) (only : OnlyIn (5 * s .n) (9 * s .n) w u) (tells : Tells entry seen) where
     module _ (lent : List ℕ) (t : State) (inv : Inv (s .n) t) (h : Holds (s .n) lent t c w slice) where
       abbrev first : Edge
       first = waits lent t h .first
@@ -58,10 +58,10 @@ module _ {s : Scene} {hash : Hash} {pts : List Float} (r : Float) {c : Counts} {
         fresh-is = ap (λ (e : Edge). any (same e) (t .processed)) top-is ∙ seen-is ∙ b
 
         abbrev open-state : State
-        open-state = popped (heapOf (decode entry) others .1) t
+        open-state = popped (waitingAfter noEdge rule (decode entry) others) t
 
         opened : Opened (s .n) (decode entry) open-state
-        opened = record { before = t; inv = inv; others = others; wait = wait-is; fresh = fresh-is; left = refl }
+        opened = record { before = t; inv = inv; rest = waitingAfter noEdge rule (decode entry) others; out = out rule (decode entry) others t wait-is; fresh = fresh-is; left = refl }
 
         open-holds : Holds (s .n) lent open-state next u slice
         open-holds = pops lent slice t (decode entry) others h wait-is .1
@@ -77,10 +77,10 @@ module _ {s : Scene} {hash : Hash} {pts : List Float} (r : Float) {c : Counts} {
     popped-searchable : Searchable s hash pts u
     popped-searchable = searchable-same u (st .searchable) only popped-used
 
-    pub skipped : seen ≡ true → Lays s hash pts (Inv (s .n)) (looked s pts r) c w slice next u slice
+    pub skipped : seen ≡ true → Lays s hash pts (Inv (s .n)) (looked rule s pts r) c w slice next u slice
     skipped b = record {
       takes = λ lent t inv h. subst (λ (z : State). Holds (s .n) lent z next u slice)
-          (sym (looked-skip s pts r (first lent t inv h) (others lent t inv h) t (waits lent t h .is) (seen-is lent t inv h ∙ b)))
+          (sym (looked-skip rule s pts r (first lent t inv h) (others lent t inv h) t (waits lent t h .is) (seen-is lent t inv h ∙ b)))
           (pops lent slice t (first lent t inv h) (others lent t inv h) h (waits lent t h .is) .1);
       searchable = popped-searchable;
       length-same = only .length-same;
@@ -96,10 +96,10 @@ module _ {s : Scene} {hash : Hash} {pts : List Float} (r : Float) {c : Counts} {
     }
 
     -- it was pivoted over
-    pub looked-over : seen ≡ false → {after : Counts} {v back : List ℕ} → Lays s hash pts (Opened (s .n) (decode entry)) (pivotOver s pts r (decode entry)) next u slice after v back → Lays s hash pts (Inv (s .n)) (looked s pts r) c w slice after v back
+    pub looked-over : seen ≡ false → {after : Counts} {v back : List ℕ} → Lays s hash pts (Opened (s .n) (decode entry)) (pivotOver s pts r (decode entry)) next u slice after v back → Lays s hash pts (Inv (s .n)) (looked rule s pts r) c w slice after v back
     looked-over b {after} {v} {back} lays = record {
       takes = λ lent t inv h. subst (λ (z : State). Holds (s .n) lent z after v back)
-          (sym (looked-open s pts r (decode entry) (others lent t inv h) t (wait-is lent t inv h b) (fresh-is lent t inv h b)))
+          (sym (looked-open rule s pts r (decode entry) (others lent t inv h) t (wait-is lent t inv h b) (fresh-is lent t inv h b)))
           (lays .takes lent (open-state lent t inv h b) (opened lent t inv h b) (open-holds lent t inv h b));
       searchable = lays .searchable;
       length-same = lays .length-same ∙ only .length-same;

@@ -1,5 +1,5 @@
 -- A pivot over an edge that was popped: what the search asks, and what is laid. Assumes nothing.
-use Prim.Native.Nat.{ℕ, _+_, _*_, _≤_, _<_}
+use Prim.Native.Nat.{ℕ, suc, _+_, _*_, _≤_, _<_}
 use mathlib.Core.Path.{_≡_, refl, sym, ap, _∙_, subst}
 use mathlib.Core.Bool.{Bool, true, false}
 use mathlib.Core.List.{List, [], _∷_}
@@ -12,13 +12,13 @@ use lib.Ieee.{Float}
 use Rattle.lists.specs.Lists.{bit, count, any}
 use Rattle.patch.specs.Lay.{Edge, edge, same, State, popped, met, pivoted, withFace, marked, look, next}
 use Rattle.patch.specs.Fair.{Free, Fair}
-use Rattle.patch.specs.Frontier.{heapOf}
+use Rattle.patch.specs.Frontier.{noEdge, waitingAfter, popOf}
 use Rattle.lists.proofs.Counts.{bit-true, count-all}
 use Rattle.patch.specs.Invariant.{Inv}
 use Rattle.patch.proofs.Looks.{Looked, distinct}
 use Rattle.patch.proofs.Laying.{Room as Fits, look-looked}
 use Rattle.patch.proofs.Look.{look-skip, look-pivot, free-v1, free-v2, face-room, popped-below, popped-room, popped-alone}
-use Rattle.patch.proofs.Pops.{heapOf-keeps}
+use Rattle.patch.proofs.Pops.{popOf-keeps}
 use Rattle.patch.proofs.Searching.{searching-fair}
 use Rattle.spatial_hash.specs.declared.Hash.{Hash}
 use Rattle.spatial_hash.specs.Near.{Removed}
@@ -47,35 +47,35 @@ met-used e k t = refl
 -- ---- an entry is popped
 
 -- once x is out, the rest waits
-out : (x : Edge) (xs : List Edge) (t : State) → t .frontier ≡ x ∷ xs → (p : Edge → Bool) → count p (t .frontier) ≡ bit (p x) + count p (heapOf x xs .1)
-out x xs t wait p = ap (count p) wait ∙ heapOf-keeps x xs p
+pub out : (rule : ℕ) (x : Edge) (xs : List Edge) (t : State) → t .frontier ≡ x ∷ xs → (p : Edge → Bool) → count p (t .frontier) ≡ bit (p x) + count p (waitingAfter noEdge rule x xs)
+out rule x xs t wait p = ap (count p) wait ∙ popOf-keeps rule x xs p
 
 pub entry-below : {n : ℕ} (x : Edge) (xs : List Edge) (t : State) → t .frontier ≡ x ∷ xs → Inv n t → (x .v1 < n) × (x .v2 < n)
-entry-below {n} x xs t wait inv = popped-below n t inv x (heapOf x xs .1) (out x xs t wait)
+entry-below {n} x xs t wait inv = popped-below n t inv x xs (λ p. ap (count p) wait)
 
 -- the definition's look
-module _ (s : Scene) (pts : List Float) (r : Float) (x : Edge) (xs : List Edge) (t : State) (wait : t .frontier ≡ x ∷ xs) where
-  looked-is : looked s pts r t ≡ look (rulesOf s pts) heapOf r x (heapOf x xs .1) t
+module _ (rule : ℕ) (s : Scene) (pts : List Float) (r : Float) (x : Edge) (xs : List Edge) (t : State) (wait : t .frontier ≡ x ∷ xs) where
+  looked-is : looked rule s pts r t ≡ look (rulesOf s pts) (popOf rule) r x (waitingAfter noEdge rule x xs) t
   unfolding next
-  looked-is = ap (λ (l : List Edge). next (rulesOf s pts) heapOf r l t) wait
+  looked-is = ap (λ (l : List Edge). next (rulesOf s pts) (popOf rule) r l t) wait
 
-  pub looked-skip : any (same x) (t .processed) ≡ true → looked s pts r t ≡ popped (heapOf x xs .1) t
-  looked-skip g = looked-is ∙ look-skip (rulesOf s pts) heapOf r x (heapOf x xs .1) t g
+  pub looked-skip : any (same x) (t .processed) ≡ true → looked rule s pts r t ≡ popped (waitingAfter noEdge rule x xs) t
+  looked-skip g = looked-is ∙ look-skip (rulesOf s pts) (popOf rule) r x (waitingAfter noEdge rule x xs) t g
 
-  pub looked-open : any (same x) (t .processed) ≡ false → looked s pts r t ≡ pivotOver s pts r x (popped (heapOf x xs .1) t)
+  pub looked-open : any (same x) (t .processed) ≡ false → looked rule s pts r t ≡ pivotOver s pts r x (popped (waitingAfter noEdge rule x xs) t)
   unfolding popped
-  looked-open g = looked-is ∙ look-pivot (rulesOf s pts) heapOf r x (heapOf x xs .1) t (rulesOf s pts .pivotOf r (t .used) x) g refl
+  looked-open g = looked-is ∙ look-pivot (rulesOf s pts) (popOf rule) r x (waitingAfter noEdge rule x xs) t (rulesOf s pts .pivotOf r (t .used) x) g refl
 
-  pub looked-looked : Inv (s .n) t → Looked (s .n) t (looked s pts r t)
-  looked-looked inv = subst (λ (z : State). Looked (s .n) t z) (sym looked-is) (look-looked (s .n) (rulesOf s pts) heapOf (fair s pts) heapOf-keeps r t inv x xs wait)
+  pub looked-looked : Inv (s .n) t → Looked (s .n) t (looked rule s pts r t)
+  looked-looked inv = subst (λ (z : State). Looked (s .n) t z) (sym looked-is) (look-looked (s .n) (rulesOf s pts) (popOf rule) (fair s pts) (popOf-keeps rule) r t inv x xs wait)
 
 -- ---- within a look
 module _ {n : ℕ} {e : Edge} {t : State} (o : Opened n e t) where
   abbrev rest : List Edge
-  rest = heapOf e (o .others) .1
+  rest = o .rest
 
   left-out : (p : Edge → Bool) → count p (o .before .frontier) ≡ bit (p e) + count p rest
-  left-out = out e (o .others) (o .before) (o .wait)
+  left-out = o .out
 
   used-same : o .before .used ≡ t .used
   unfolding popped
@@ -105,10 +105,11 @@ module _ {n : ℕ} {e : Edge} {t : State} (o : Opened n e t) where
           third = z (edge k (e .v1)) ∙ free-v1 n (o .before) (o .inv) (edge k (e .v1)) free-before;
         }
 
-    opened-room : length (t .frontier) + 3 ≤ 3 * n
+    opened-room : t .looks + length (t .frontier) + 3 ≤ 3 * n
     unfolding popped
     opened-room =
         let l : length (t .frontier) ≡ length rest = ap (λ (z : State). length (z .frontier)) (o .left) in
+        let m : t .looks ≡ suc (o .before .looks) = ap (λ (z : State). z .looks) (o .left) in
         omega (arith, left-out (λ g. true), count-all (o .before .frontier), count-all rest, face-room n (o .before) (o .inv) k free-before .1)
 
 -- ---- the pivot
@@ -131,7 +132,7 @@ without-three a b c = record {
 
 module _ {s : Scene} {hash : Hash} {pts : List Float} (r : Float) {c : Counts} {w slice : List ℕ} {a b : ℕ} (p : Pivoting s hash pts c w slice (edge a b)) where
   pub edge-below : (a < s .n) × (b < s .n)
-  edge-below = entry-below (edge a b) (p .opened .others) (p .opened .before) (p .opened .wait) (p .opened .inv)
+  edge-below = popped-below (s .n) (p .opened .before) (p .opened .inv) (edge a b) (p .opened .rest) (p .opened .out)
 
   pivot-ready : Ready (s .n) c w
   pivot-ready = ready (s .n) (p .lent) (p .state) c w slice (sized (p .searchable)) (p .holds) (opened-fits (p .opened))
@@ -173,7 +174,7 @@ module _ {s : Scene} {hash : Hash} {pts : List Float} (r : Float) {c : Counts} {
         ready = ready (s .n) (p .lent) (p .state) c v slice
             (record { some = p .searchable .some; few = p .searchable .held .few; long = omega (arith, p .searchable .held .work-long) })
             (holds-beside aside (pivot-ready .frontier) (p .holds)) (opened-fits (p .opened));
-        entries = omega (arith, p .holds .frontier-count, opened-room (p .opened) k (free-point f));
+        entries = omega (arith, p .holds .frontier-count, p .holds .first-most, p .holds .looks, opened-room (p .opened) k (free-point f));
         first = edge-below .0;
         second = edge-below .1;
         third = free-point f .below;

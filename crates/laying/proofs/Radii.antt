@@ -13,11 +13,11 @@ use lib.Ieee.{Float}
 use Rattle.lists.specs.Lists.{bit, count}
 use Rattle.patch.specs.Lay.{State, Rules, Pop, marked, withFace, cleared, seeded, run, begun, layOne, layAll, patch, blank}
 use Rattle.patch.specs.Fair.{FreeSeed}
-use Rattle.patch.specs.Frontier.{heapOf}
+use Rattle.patch.specs.Frontier.{popOf}
 use Rattle.patch.specs.Invariant.{Inv, Rest}
 use Rattle.patch.proofs.Looks.{clear-inv, seed-inv}
 use Rattle.patch.proofs.Laying.{room, layAll-rest, blank-rest}
-use Rattle.patch.proofs.Pops.{heapOf-keeps}
+use Rattle.patch.proofs.Pops.{popOf-keeps}
 use Rattle.spatial_hash.specs.declared.Hash.{Hash}
 use Rattle.decisions.specs.declared.Scene.{Scene}
 use Rattle.nearby.specs.Ready.{Kept, usedIn}
@@ -32,7 +32,7 @@ use Rattle.laying.proofs.Kept.{Beside, beside-both, beside-search, besi
 use Rattle.laying.proofs.Pivots.{fair}
 
 -- ---- one radius
-module _ {s : Scene} {hash : Hash} {pts : List Float} (r : Float) {c : Counts} {w slice : List ℕ} (st : BetweenRadii s hash pts c w slice) {blank-counts : Counts} (clears : Clears c blank-counts)
+module _ {s : Scene} {hash : Hash} {pts : List Float} (rule : ℕ) (r : Float) {c : Counts} {w slice : List ℕ} (st : BetweenRadii s hash pts c w slice) {blank-counts : Counts} (clears : Clears c blank-counts)
     {found : Seed} {u : List ℕ} (is : found ≡ seedFound (rulesOf s pts .seedOf r (usedIn s w))) (kept : Kept s w u) (long : length u ≡ length w) where
   abbrev state : State
   state = st .state
@@ -43,21 +43,21 @@ module _ {s : Scene} {hash : Hash} {pts : List Float} (r : Float) {c : Counts} {
       ∙ sym (seedIn-found (rulesOf s pts .seedOf r (usedIn s w))) ∙ ap seedIn (sym is ∙ f) ∙ seedIn-found o
 
   -- no entry waits once the counts are cleared
-  no-entries : blank-counts .frontier ≤ 3 * s .n
+  no-entries : blank-counts .first + blank-counts .frontier ≤ 3 * s .n
   unfolding cleared
-  no-entries = omega (arith, clears (s .n) w slice (st .lent) state (st .holds) .frontier-count)
+  no-entries = omega (arith, clears .0, clears .1 (s .n) w slice (st .lent) state (st .holds) .frontier-count)
 
   -- cleared, and searched for a seed
   begun-holds : {v : List ℕ} → Beside (s .n) w v → (lent : List ℕ) (t : State) → Holds (s .n) lent t c w slice → Holds (s .n) lent (cleared t) blank-counts v slice
-  begun-holds b lent t h = holds-beside b no-entries (clears (s .n) w slice lent t h)
+  begun-holds b lent t h = holds-beside b no-entries (clears .1 (s .n) w slice lent t h)
 
   pub searched : Searchable s hash pts u
   searched = searchable-searched u (st .searchable) kept long
 
-  pub no-seed : found ≡ Nothing → Lays s hash pts (Rest (s .n)) (layOne (rulesOf s pts) heapOf (s .n) r) c w slice blank-counts u slice
+  pub no-seed : found ≡ Nothing → Lays s hash pts (Rest (s .n)) (layOne (rulesOf s pts) (popOf rule) (s .n) r) c w slice blank-counts u slice
   unfolding layOne begun
   no-seed f = record {
-    takes = λ lent t rest h. subst (λ (o : Option (ℕ × ℕ × ℕ)). Holds (s .n) lent (begun (rulesOf s pts) heapOf r (s .n) o (cleared t)) blank-counts u slice) (sym (seed-is lent t none h f)) (begun-holds (beside-search u kept long) lent t h);
+    takes = λ lent t rest h. subst (λ (o : Option (ℕ × ℕ × ℕ)). Holds (s .n) lent (begun (rulesOf s pts) (popOf rule) r (s .n) o (cleared t)) blank-counts u slice) (sym (seed-is lent t none h f)) (begun-holds (beside-search u kept long) lent t h);
     searchable = searched;
     length-same = long;
   }
@@ -98,7 +98,7 @@ module _ {s : Scene} {hash : Hash} {pts : List Float} (r : Float) {c : Counts} {
             ready = ready (s .n) (st .lent) (cleared state) blank-counts v slice
                 (record { some = st .searchable .some; few = st .searchable .held .few; long = omega (arith, st .searchable .held .work-long) })
                 h (room (s .n) (cleared state) (clear-inv (s .n) state (st .rest .inv) (st .rest .idle)));
-            entries = omega (arith, h .frontier-count, no-entry, st .searchable .some);
+            entries = omega (arith, clears .0, h .frontier-count, no-entry, st .searchable .some);
             first = free-seed .first .below;
             second = free-seed .second .below;
             third = free-seed .third .below;
@@ -124,11 +124,11 @@ module _ {s : Scene} {hash : Hash} {pts : List Float} (r : Float) {c : Counts} {
           holds = seed-holds (st .lent) state (st .holds);
         }
 
-        pub seed-laid : {end : Counts} {z front : List ℕ} → Lays s hash pts (Inv (s .n)) (run (rulesOf s pts) heapOf r (3 * s .n)) after x back end z front → Lays s hash pts (Rest (s .n)) (layOne (rulesOf s pts) heapOf (s .n) r) c w slice end z front
+        pub seed-laid : {end : Counts} {z front : List ℕ} → Lays s hash pts (Inv (s .n)) (run (rulesOf s pts) (popOf rule) r (3 * s .n)) after x back end z front → Lays s hash pts (Rest (s .n)) (layOne (rulesOf s pts) (popOf rule) (s .n) r) c w slice end z front
         unfolding layOne begun
         seed-laid {end} {z} {front} lays = record {
           takes = λ lent t rest h.
-              subst (λ (o : Option (ℕ × ℕ × ℕ)). Holds (s .n) lent (begun (rulesOf s pts) heapOf r (s .n) o (cleared t)) end z front) (sym (seed-is lent t (some (i, j, k)) h f))
+              subst (λ (o : Option (ℕ × ℕ × ℕ)). Holds (s .n) lent (begun (rulesOf s pts) (popOf rule) r (s .n) o (cleared t)) end z front) (sym (seed-is lent t (some (i, j, k)) h f))
               (lays .takes lent (seeded (i, j, k) (cleared t)) (seed-inv (s .n) t (rest .inv) (rest .idle) (i, j, k) (free-found lent t h)) (seed-holds lent t h));
           searchable = lays .searchable;
           length-same = lays .length-same ∙ only .length-same ∙ same ∙ long;
@@ -148,15 +148,15 @@ layAll-more rules order n [] r t = refl
 layAll-more rules order n (x ∷ rs) r t = layAll-more rules order n rs r (layOne rules order n x t)
 
 -- the first i radii have been laid
-pub record Covering (s : Scene) (hash : Hash) (pts radii : List Float) (count : ℕ) (lent w₀ : List ℕ) (i : ℕ) (c : Counts) (w slice : List ℕ) : Type 0 where
+pub record Covering (rule : ℕ) (s : Scene) (hash : Hash) (pts radii : List Float) (count : ℕ) (lent w₀ : List ℕ) (i : ℕ) (c : Counts) (w slice : List ℕ) : Type 0 where
   pub inside : i ≤ count
   pub searchable : Searchable s hash pts w
-  pub holds : Holds (s .n) lent (layAll (rulesOf s pts) heapOf (s .n) (take i radii) (blank (s .n))) c w slice
+  pub holds : Holds (s .n) lent (layAll (rulesOf s pts) (popOf rule) (s .n) (take i radii) (blank (s .n))) c w slice
   pub words : length w ≡ length w₀
   pub face-words : length slice ≡ length lent
 
-module _ {s : Scene} {hash : Hash} {pts radii : List Float} {count : ℕ} {lent w₀ : List ℕ} where
-  pub cover-start : {w : List ℕ} {c : Counts} → AllSearchable s hash pts w → Begins (s .n) c w₀ → OnlyIn (5 * s .n) (6 * s .n) w w₀ → Covering s hash pts radii count lent w₀ 0 c w₀ lent
+module _ {rule : ℕ} {s : Scene} {hash : Hash} {pts radii : List Float} {count : ℕ} {lent w₀ : List ℕ} where
+  pub cover-start : {w : List ℕ} {c : Counts} → AllSearchable s hash pts w → Begins (s .n) c w₀ → OnlyIn (5 * s .n) (6 * s .n) w w₀ → Covering rule s hash pts radii count lent w₀ 0 c w₀ lent
   unfolding layAll
   cover-start {w} {c} g begins only = record {
     inside = omega arith;
@@ -166,24 +166,26 @@ module _ {s : Scene} {hash : Hash} {pts radii : List Float} {count : ℕ} {lent 
     face-words = refl;
   }
 
-  module _ {i : ℕ} {c : Counts} {w slice : List ℕ} (so-far : Covering s hash pts radii count lent w₀ i c w slice) where
-    at-rest : Rest (s .n) (layAll (rulesOf s pts) heapOf (s .n) (take i radii) (blank (s .n)))
-    at-rest = layAll-rest (s .n) (rulesOf s pts) heapOf (fair s pts) heapOf-keeps (take i radii) (blank (s .n)) (blank-rest (s .n))
+  module _ {i : ℕ} {c : Counts} {w slice : List ℕ} (so-far : Covering rule s hash pts radii count lent w₀ i c w slice) where
+    at-rest : Rest (s .n) (layAll (rulesOf s pts) (popOf rule) (s .n) (take i radii) (blank (s .n)))
+    at-rest = layAll-rest (s .n) (rulesOf s pts) (popOf rule) (fair s pts) (popOf-keeps rule) (take i radii) (blank (s .n)) (blank-rest (s .n))
 
     pub between-radii : BetweenRadii s hash pts c w slice
     between-radii = record {
       searchable = so-far .searchable;
       lent = lent;
-      state = layAll (rulesOf s pts) heapOf (s .n) (take i radii) (blank (s .n));
+      state = layAll (rulesOf s pts) (popOf rule) (s .n) (take i radii) (blank (s .n));
       rest = at-rest;
       holds = so-far .holds;
     }
 
-    no-more : c .frontier ≤ 3 * s .n
-    no-more = omega (arith, so-far .holds .frontier-count, ap length (at-rest .idle))
+    no-more : c .first + c .frontier ≤ 3 * s .n
+    no-more =
+        let h = so-far .holds in
+        omega (arith, h .frontier-count, h .first-most, h .looks, ap length (at-rest .idle), room (s .n) _ (at-rest .inv) .looks)
 
     -- after a search
-    pub cover-kept : (v : List ℕ) → Kept s w v → length v ≡ length w → Covering s hash pts radii count lent w₀ i c v slice
+    pub cover-kept : (v : List ℕ) → Kept s w v → length v ≡ length w → Covering rule s hash pts radii count lent w₀ i c v slice
     cover-kept v k l = record {
       inside = so-far .inside;
       searchable = searchable-searched v (so-far .searchable) k l;
@@ -192,21 +194,21 @@ module _ {s : Scene} {hash : Hash} {pts radii : List Float} {count : ℕ} {lent 
       face-words = so-far .face-words;
     }
 
-    pub cover-step : (d : Float) {after : Counts} {v back : List ℕ} → i < count → i < length radii → Lays s hash pts (Rest (s .n)) (layOne (rulesOf s pts) heapOf (s .n) (getD radii i d)) c w slice after v back → length back ≡ length slice
-        → Covering s hash pts radii count lent w₀ (i + 1) after v back
+    pub cover-step : (d : Float) {after : Counts} {v back : List ℕ} → i < count → i < length radii → Lays s hash pts (Rest (s .n)) (layOne (rulesOf s pts) (popOf rule) (s .n) (getD radii i d)) c w slice after v back → length back ≡ length slice
+        → Covering rule s hash pts radii count lent w₀ (i + 1) after v back
     cover-step d {after} {v} {back} h g lays face-long =
         let e : i + 1 ≡ suc i = omega arith in
         let one-more : take (i + 1) radii ≡ take i radii ++ (getD radii i d ∷ []) = ap (λ (m : ℕ). take m radii) e ∙ take-suc radii i d g in
-        let step : layAll (rulesOf s pts) heapOf (s .n) (take (i + 1) radii) (blank (s .n)) ≡ layOne (rulesOf s pts) heapOf (s .n) (getD radii i d) (layAll (rulesOf s pts) heapOf (s .n) (take i radii) (blank (s .n))) =
-        ap (λ (rs : List Float). layAll (rulesOf s pts) heapOf (s .n) rs (blank (s .n))) one-more ∙ layAll-more (rulesOf s pts) heapOf (s .n) (take i radii) (getD radii i d) (blank (s .n)) in
+        let step : layAll (rulesOf s pts) (popOf rule) (s .n) (take (i + 1) radii) (blank (s .n)) ≡ layOne (rulesOf s pts) (popOf rule) (s .n) (getD radii i d) (layAll (rulesOf s pts) (popOf rule) (s .n) (take i radii) (blank (s .n))) =
+        ap (λ (rs : List Float). layAll (rulesOf s pts) (popOf rule) (s .n) rs (blank (s .n))) one-more ∙ layAll-more (rulesOf s pts) (popOf rule) (s .n) (take i radii) (getD radii i d) (blank (s .n)) in
         record {
           inside = omega arith;
           searchable = lays .searchable;
-          holds = subst (λ (t : State). Holds (s .n) lent t after v back) (sym step) (lays .takes lent (layAll (rulesOf s pts) heapOf (s .n) (take i radii) (blank (s .n))) at-rest (so-far .holds));
+          holds = subst (λ (t : State). Holds (s .n) lent t after v back) (sym step) (lays .takes lent (layAll (rulesOf s pts) (popOf rule) (s .n) (take i radii) (blank (s .n))) at-rest (so-far .holds));
           words = lays .length-same ∙ so-far .words;
           face-words = face-long ∙ so-far .face-words;
         }
 
-    pub cover-end : count ≤ i → Holds (s .n) lent (patch (rulesOf s pts) heapOf (s .n) (take count radii)) c w slice
+    pub cover-end : count ≤ i → Holds (s .n) lent (patch (rulesOf s pts) (popOf rule) (s .n) (take count radii)) c w slice
     unfolding patch
-    cover-end h = let e : i ≡ count = omega (arith, so-far .inside) in subst (λ (m : ℕ). Holds (s .n) lent (layAll (rulesOf s pts) heapOf (s .n) (take m radii) (blank (s .n))) c w slice) e (so-far .holds)
+    cover-end h = let e : i ≡ count = omega (arith, so-far .inside) in subst (λ (m : ℕ). Holds (s .n) lent (layAll (rulesOf s pts) (popOf rule) (s .n) (take m radii) (blank (s .n))) c w slice) e (so-far .holds)

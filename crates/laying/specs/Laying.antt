@@ -1,17 +1,17 @@
 -- What the laying asks of the lent slices and the counts, and what each of its parts does to the state that they hold.
 -- Definitions only.
-use Prim.Native.Nat.{ℕ, _<_}
+use Prim.Native.Nat.{ℕ, _+_, _<_}
 use mathlib.Core.Path.{_≡_}
-use mathlib.Core.Bool.{false}
-use mathlib.Core.List.{List, _∷_}
+use mathlib.Core.Bool.{Bool, false}
+use mathlib.Core.List.{List}
 use lib.Dec.{eqb}
 use lib.ListN.{length, take}
 use lib.Ieee.{Float}
 use Rattle.regions.specs.Regions.{linksAt}
 use Rattle.grid.specs.Index.{Indexed}
-use Rattle.lists.specs.Lists.{count, any}
+use Rattle.lists.specs.Lists.{bit, count, any}
 use Rattle.patch.specs.Lay.{Edge, same, State, Rules, popped, met, pivoted, next}
-use Rattle.patch.specs.Frontier.{heapOf}
+use Rattle.patch.specs.Frontier.{popOf}
 use Rattle.patch.specs.Search.{searching}
 use Rattle.patch.specs.Invariant.{Inv, Rest}
 use Rattle.spatial_hash.specs.declared.Hash.{Hash}
@@ -54,9 +54,9 @@ rulesOf s pts = searching (floatsOf s pts) (s .n)
 abbrev pub pivotOver : Scene → List Float → Float → Edge → State → State
 pivotOver s pts r e t = pivoted e (met e (rulesOf s pts .pivotOf r (t .used) e) t)
 
--- a look, if an entry waits
-abbrev pub looked : Scene → List Float → Float → State → State
-looked s pts r t = next (rulesOf s pts) heapOf r (t .frontier) t
+-- a look under a rule, if an entry waits
+abbrev pub looked : ℕ → Scene → List Float → Float → State → State
+looked rule s pts r t = next (rulesOf s pts) (popOf rule) r (t .frontier) t
 
 -- a function that turns c, w and slice into r, u and back takes the step, from each held state of which `asked` holds,
 -- and leaves the index and the hash right
@@ -70,10 +70,10 @@ pub record Lays (s : Scene) (hash : Hash) (pts : List Float) (asked : State → 
 pub record Opened (n : ℕ) (e : Edge) (t : State) : Type 0 where
   pub before : State
   pub inv : Inv n before
-  pub others : List Edge
-  pub wait : before .frontier ≡ e ∷ others
+  pub rest : List Edge
+  pub out : (p : Edge → Bool) → count p (before .frontier) ≡ bit (p e) + count p rest
   pub fresh : any (same e) (before .processed) ≡ false
-  pub left : t ≡ popped (heapOf e others .1) before
+  pub left : t ≡ popped rest before
 
 -- ---- what is asked: the counts and the slices hold some state of a laying
 

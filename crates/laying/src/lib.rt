@@ -9,7 +9,7 @@ ghost use mathlib.Core.Bool.{true};
 ghost use Prim.Native.Nat.{_*_, _≤_, _<_};
 ghost use lib.ListN.{take};
 ghost use Rattle.patch.specs.Lay.{edge, run, layOne, patch};
-ghost use Rattle.patch.specs.Frontier.{heapOf};
+ghost use Rattle.patch.specs.Frontier.{popOf};
 ghost use Rattle.patch.specs.Invariant.{Inv, Rest};
 ghost use mathlib.Core.Option.{none};
 ghost use Rattle.nearby.specs.Ready.{usedIn};
@@ -55,12 +55,13 @@ fn look(
     radius: f32,
     c: Counts,
     hash: Hash,
+    rule: u32,
 ) -> Counts
     requires { ⌜ BetweenLooks s hash (now points) c (now w) (now faces) × (0 < c .frontier) ⌝ }
-    ensures { λ r. ⌜ Lays s hash (now (points .entry)) (Inv (s .n)) (looked s (now (points .entry)) radius) c
+    ensures { λ r. ⌜ Lays s hash (now (points .entry)) (Inv (s .n)) (looked rule s (now (points .entry)) radius) c
         (now (w .entry)) (now (faces .entry)) r (now (w .exit)) (now (faces .exit)) ⌝ }
 {
-    let top = frontier::pop(w, s.n, c);
+    let top = frontier::pop(w, s.n, c, rule);
     let left = top.counts;
     if frontier::is_processed(top.entry) {
         return left;
@@ -79,15 +80,16 @@ fn run(
     radius: f32,
     start: Counts,
     hash: Hash,
+    rule: u32,
 ) -> Counts
     requires { ⌜ BetweenLooks s hash (now points) start (now w) (now faces) ⌝ }
     ensures { λ r. ⌜ Lays s hash (now (points .entry)) (Inv (s .n))
-        (run (rulesOf s (now (points .entry))) heapOf radius (3 * s .n)) start (now (w .entry)) (now (faces .entry)) r
-        (now (w .exit)) (now (faces .exit)) ⌝ }
+        (run (rulesOf s (now (points .entry))) (popOf rule) radius (3 * s .n)) start (now (w .entry))
+        (now (faces .entry)) r (now (w .exit)) (now (faces .exit)) ⌝ }
 {
     let mut c = start;
     while 0 < c.frontier {
-        c = look(s, points, faces, w, radius, c, hash);
+        c = look(s, points, faces, w, radius, c, hash, rule);
     }
     c
 }
@@ -118,12 +120,13 @@ fn lay_one(
     before: Counts,
     hash: Hash,
     known: bool,
+    rule: u32,
 ) -> Laid
     requires { ⌜ BetweenRadii s hash (now points) before (now w) (now faces)
         × (known ≡ true → rulesOf s (now points) .seedOf radius (usedIn s (now w)) ≡ none) ⌝ }
     ensures { λ r. ⌜ Lays s hash (now (points .entry)) (Rest (s .n))
-        (layOne (rulesOf s (now (points .entry))) heapOf (s .n) radius) before (now (w .entry)) (now (faces .entry))
-        (r .counts) (now (w .exit)) (now (faces .exit))
+        (layOne (rulesOf s (now (points .entry))) (popOf rule) (s .n) radius) before (now (w .entry))
+        (now (faces .entry)) (r .counts) (now (w .exit)) (now (faces .exit))
         × (known ≡ true → usedIn s (now (w .exit)) ≡ usedIn s (now (w .entry))) ⌝ }
 {
     let c = frontier::clear(before);
@@ -133,7 +136,7 @@ fn lay_one(
         Seed::Triangle(i, j, k) => {
             remove_three(points, w, s.n, hash, i, j, k);
             let first = frontier::lay_seed(faces, w, s.n, c, i as u32, j as u32, k as u32);
-            let last = run(s, points, faces, w, radius, first, hash);
+            let last = run(s, points, faces, w, radius, first, hash, rule);
             Laid {
                 counts: last,
                 purse: 0,
@@ -165,10 +168,12 @@ pub fn advanced_ball_pivoting(
     faces: &mut [u32],
     w: &mut [u32],
     hash: Hash,
+    rule: u32,
 ) -> Counts
     requires { ⌜ AllSearchable s hash (now points) (now w) × (count ≤ 17) ⌝ }
     ensures { λ r. ⌜ Holds (s .n) (now (faces .entry))
-        (patch (rulesOf s (now (points .entry))) heapOf (s .n) (take count radii)) r (now (w .exit)) (now (faces .exit))
+        (patch (rulesOf s (now (points .entry))) (popOf rule) (s .n) (take count radii)) r (now (w .exit))
+        (now (faces .exit))
         × Searchable s hash (now (points .entry)) (now (w .exit)) ⌝ }
 {
     let flat = seed::flat::is_flat(s, points);
@@ -179,7 +184,7 @@ pub fn advanced_ball_pivoting(
     while i < count {
         let radius = radii[i];
         let known = seed::is_known(s, flat, radius, upto);
-        let laid = lay_one(s, points, faces, w, radius, c, hash, known);
+        let laid = lay_one(s, points, faces, w, radius, c, hash, known, rule);
         c = laid.counts;
         upto = seed::known_to(s, points, w, radius, largest, hash, known, upto, laid.purse);
         i += 1;

@@ -12,9 +12,8 @@ use lib.ListN.{getD}
 use Rattle.lists.specs.Lists.{any, upFrom}
 use Rattle.patch.specs.Lay.{edge, same, Face, face, Pop, push, marked, withFace, seeded, cleared, popped, met, pivoted, judged, look, next, run, begun, layOne, layAll, patch}
 use Rattle.patch.specs.Shape.{Shape, has, touches, newPoints}
-use Rattle.patch.specs.Frontier.{sift, afterPop, heapOf}
+use Rattle.patch.specs.Frontier.{sift, afterPop, heapOf, queueOf}
 use Rattle.patch.specs.Search.{Floats, isSecond, isThird, thirdOf, secondOf, firstOf, scoreOf, bestOf, searching}
-use Rattle.patch.proofs.Pops.{queueOf}
 
 abbrev toy : Floats ℕ
 toy = record {

@@ -24,7 +24,8 @@ use Rattle.patch.proofs.Looks.{Looked, skip-looked, miss-looked, grow-l
 pub record Room (n : ℕ) (s : State) : Type 0 where
   pub faces : length (s .faces) + 2 * seedsOf s ≤ n
   pub used : length (s .used) ≡ n
-  pub frontier : length (s .frontier) ≤ 3 * n
+  -- those that were popped and those that wait
+  pub entries : s .looks + length (s .frontier) ≤ 3 * n
   pub processed : length (s .processed) ≤ 2 * n
   pub looks : s .looks ≤ 3 * n
   pub pivots : s .pivots ≤ 2 * n
@@ -37,7 +38,7 @@ module _ (n : ℕ) (s : State) (inv : Inv n s) where
   room = record {
     faces = few;
     used = inv .wide;
-    frontier = omega (arith, few, inv .looked);
+    entries = omega (arith, few, inv .looked);
     processed = omega (arith, few, inv .processed-few, inv .pivoted);
     looks = omega (arith, few, inv .looked);
     pivots = omega (arith, few, inv .pivoted);

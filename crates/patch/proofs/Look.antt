@@ -57,7 +57,7 @@ module _ (n : ℕ) (s : State) (inv : Inv n s) where
         (λ (t : eqb x k ≡ false). let o : bit (eqb x k) ≡ 0 = ap bit t in inv .pointwise x .used-below (omega arith))
         (either (eqb x k))
 
-    pub face-room : (length (s .faces) + 2 * seedsOf s + 1 ≤ n) × (length (s .frontier) + 3 ≤ 3 * n)
+    pub face-room : (length (s .faces) + 2 * seedsOf s + 1 ≤ n) × (s .looks + length (s .frontier) + 3 ≤ 3 * n)
     face-room = let few = pigeons n (k ∷ inv .points) listed-once listed-below in omega (arith, inv .points-count, inv .looked)
 
   module _ (e : Edge) (rest : List Edge) (pop : (p : Edge → Bool) → count p (s .frontier) ≡ bit (p e) + count p rest) where
@@ -71,7 +71,7 @@ module _ (n : ℕ) (s : State) (inv : Inv n s) where
     popped-room =
         let r = room n s inv in
         let out : length (s .frontier) ≡ suc (length rest) = omega (arith, pop (λ x. true), count-all (s .frontier), count-all rest) in
-        record { faces = r .faces; used = r .used; frontier = omega arith; processed = r .processed; looks = omega (arith, inv .looked, r .faces); pivots = r .pivots }
+        record { faces = r .faces; used = r .used; entries = omega (arith, r .entries); processed = r .processed; looks = omega (arith, inv .looked, r .faces); pivots = r .pivots }
 
     -- if it is not processed, no other entry of its edge waits
     pub popped-alone : any (same e) (s .processed) ≡ false → any (same e) rest ≡ false

@@ -1,4 +1,4 @@
--- The frontier's order of popping loses and repeats no entry, and neither does first in, first out. Assumes nothing.
+-- Both orders of popping lose and repeat no entry. Assumes nothing.
 use Prim.Native.Nat.{ℕ, zero, suc, _+_, _-_, _<_}
 use mathlib.Core.Path.{_≡_, refl, sym, ap, _∙_}
 use mathlib.Core.Logic.{_⊎_, ⊎-elim, _≢_}
@@ -10,9 +10,8 @@ use borrow.Author.Tests.{eqb-true, eqb-false, ltb-true}
 use lib.ListN.{length, getD, set, take, length-set}
 use lib.Seq.{length-take-le, take-suc, take-length, getD-take, getD-set-other}
 use Rattle.lists.specs.Lists.{bit, count}
-use Rattle.patch.specs.Lay.{Pop}
 use Rattle.patch.specs.Fair.{Keeps}
-use Rattle.patch.specs.Frontier.{sift, afterPop, noEdge, heapOf}
+use Rattle.patch.specs.Frontier.{sift, afterPop, noEdge, heapOf, queueOf, waitingAfter, popOf}
 use Rattle.lists.proofs.Bools.{either}
 use Rattle.lists.proofs.Counts.{count-append}
 
@@ -77,9 +76,12 @@ module _ {A : Type 0} (d : A) (p : A → Bool) where
 pub heapOf-keeps : Keeps heapOf
 heapOf-keeps x xs p = pop-count noEdge p x xs
 
--- first in, first out: a second order costs one line
-abbrev pub queueOf : Pop
-queueOf x xs = (x, xs)
-
 pub queueOf-keeps : Keeps queueOf
 queueOf-keeps x xs p = refl
+
+pub popOf-keeps : (rule : ℕ) → Keeps (popOf rule)
+unfolding waitingAfter
+popOf-keeps rule x xs p = ⊎-elim
+    (λ (h : eqb rule 2 ≡ true). rw h (queueOf-keeps x xs p))
+    (λ (h : eqb rule 2 ≡ false). rw h (heapOf-keeps x xs p))
+    (either (eqb rule 2))

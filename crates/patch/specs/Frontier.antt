@@ -1,4 +1,5 @@
--- The order of popping that `BinaryHeap` has where all priorities are equal. Definitions only.
+-- The orders of popping: rule 1 is the one that `BinaryHeap` has where all priorities are equal, rule 2 is first in,
+-- first out. Definitions only.
 use Prim.Native.Nat.{ℕ, zero, suc, _+_, _-_}
 use mathlib.Core.Bool.{cond}
 use mathlib.Core.List.{List, [], _∷_}
@@ -22,8 +23,22 @@ module _ {A : Type 0} (d : A) where
   unfolding sift
   afterPop xs = let m = length xs - 1 in cond (eqb m 0) [] (sift m (take m xs) 0 (getD xs m d))
 
+  -- the entries that wait once the first is out: under rule 2 the others as they were pushed, under rule 1 the heap's;
+  -- a number that is neither rule never gets past the checks
+  unfoldable pub waitingAfter : ℕ → A → List A → List A
+  waitingAfter rule x xs = cond (eqb rule 2) xs (afterPop (x ∷ xs))
+
 abbrev pub noEdge : Edge
 noEdge = edge 0 0
 
+-- rule 1
 abbrev pub heapOf : Pop
 heapOf x xs = (x, afterPop noEdge (x ∷ xs))
+
+-- rule 2: entries come out in the order in which they were pushed
+abbrev pub queueOf : Pop
+queueOf x xs = (x, xs)
+
+-- the rule's order: under both the first entry comes out
+abbrev pub popOf : ℕ → Pop
+popOf rule x xs = (x, waitingAfter noEdge rule x xs)

@@ -52,7 +52,7 @@ failing-most n (t ∷ tests) = go (failing-most (suc n) tests) t
     go h true = omega arith
     go h false = omega arith
 
-bad-setting-most : (s : BallPivotingConfig) → firstBadSetting s ≤ 8
+bad-setting-most : (s : BallPivotingConfig) → firstBadSetting s ≤ 9
 unfolding firstBadSetting settingTests
 bad-setting-most s = failing-most 1 (settingTests s)
 

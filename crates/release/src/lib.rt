@@ -5,11 +5,11 @@ ghost use Rattle.release.specs.Release.{version, layout};
 pub fn version() -> u32
     ensures { λ r. ⌜ r ≡ version ⌝ }
 {
-    2000
+    3000
 }
 
 pub fn layout() -> u32
     ensures { λ r. ⌜ r ≡ layout ⌝ }
 {
-    2827189271
+    1298813845
 }

@@ -10,7 +10,7 @@ use lib.Ieee.{Float, binary32, ofBits, lt, le}
 use Rattle.settings.specs.declared.BallPivotingConfig.{BallPivotingConfig}
 use Rattle.patch.specs.Lay.{Edge, Rules, patch}
 use Rattle.patch.specs.Search.{Floats, scoreOf, bestOf, searching}
-use Rattle.patch.specs.Frontier.{heapOf}
+use Rattle.patch.specs.Frontier.{popOf}
 use Rattle.decisions.specs.Decisions.{apart, qualityAt, accepts, scoreAt, floatsOf}
 use Rattle.decisions.specs.declared.Scene.{Scene}
 use Rattle.ball_pivoting.specs.Reconstruct.{pointCount, sceneOf, radiiOf, laidOf}
@@ -106,5 +106,5 @@ module _ (c : BallPivotingConfig) (pts : List Float) where
   unfolding laidAgain laidOf
   second-look = record {
     passes = λ r used e k q. subst (All (λ (j : ℕ). acceptedAgain c pts r e j ≡ true)) q (pivot-accepted r used e);
-    same = ap (λ (rules : Rules Float). patch rules heapOf (pointCount pts) (radiiOf c pts)) rules-same;
+    same = ap (λ (rules : Rules Float). patch rules (popOf (c .«frontier_rule»)) (pointCount pts) (radiiOf c pts)) rules-same;
   }

@@ -12,7 +12,7 @@ use Rattle.points.specs.Points.{pointAt}
 use Rattle.settings.specs.declared.BallPivotingConfig.{BallPivotingConfig}
 use Rattle.patch.specs.Lay.{Edge, Rules, State, patch}
 use Rattle.patch.specs.Search.{searching}
-use Rattle.patch.specs.Frontier.{heapOf}
+use Rattle.patch.specs.Frontier.{popOf}
 use Rattle.decisions.specs.Decisions.{floatsOf}
 use Rattle.ball_pivoting.specs.Reconstruct.{pointCount, sceneOf, radiiOf, laidOf}
 
@@ -38,9 +38,9 @@ lookingAgain c pts = record {
   pivotOf = λ r used e. looked (acceptedAgain c pts r e) (rulesOf c pts .pivotOf r used e);
 }
 
--- the multi-radius path with the second look: the state when all radii are done
+-- the multi-radius path with the second look: the state when all radii are done, under rule 1, the source's, or rule 2
 unfoldable pub laidAgain : BallPivotingConfig → List Float → State
-laidAgain c pts = patch (lookingAgain c pts) heapOf (pointCount pts) (radiiOf c pts)
+laidAgain c pts = patch (lookingAgain c pts) (popOf (c .«frontier_rule»)) (pointCount pts) (radiiOf c pts)
 
 -- The claim, for all settings and points: whatever the ball meets makes an acceptable triangle, so that the second
 -- look passes; and the laying with it is the laying without it, in every field of the state. `second-look` proves it.

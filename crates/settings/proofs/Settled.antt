@@ -35,6 +35,7 @@ settled-of s e =
     let five = failing-none 5 _ _ (λ h. omega arith) (four .1) in
     let six = failing-none 6 _ _ (λ h. omega arith) (five .1) in
     let seven = failing-none 7 _ _ (λ h. omega arith) (six .1) in
+    let eight = failing-none 8 _ _ (λ h. omega arith) (seven .1) in
     record {
       main = one .0;
       additional = slots-of _ _ _ _ (two .0);
@@ -43,4 +44,5 @@ settled-of s e =
       edge = five .0;
       area = six .0;
       cell = seven .0;
+      rule = eight .0;
     }

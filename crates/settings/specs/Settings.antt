@@ -1,8 +1,8 @@
 -- The scope's settings, their ranges in its order, and those of `ball_pivoting_from_normals`. Definitions only.
 use Prim.Native.Nat.{ℕ, suc}
-use mathlib.Core.Bool.{Bool, true, cond, _&&_}
+use mathlib.Core.Bool.{Bool, true, cond, _&&_, _||_}
 use mathlib.Core.List.{List, [], _∷_}
-use lib.Dec.{leb}
+use lib.Dec.{leb, eqb}
 use lib.Ieee.{Float}
 use Rattle.numbers.specs.Rounded.{f32}
 use Rattle.ranges.specs.Range.{inside, leading}
@@ -27,10 +27,19 @@ thresholdInside x = inside (f32 0) (f32 0x49742400) x
 abbrev pub cellFactorInside : Float → Bool
 cellFactorInside x = inside (f32 0x3f000000) (f32 0x41800000) x
 
--- `quality_threshold`, `max_edge_factor`, `min_triangle_area`, `spatial_cell_factor`
-abbrev pub lastTests : Float → Float → Float → Float → List Bool
-lastTests quality edge area cell = thresholdInside quality ∷ thresholdInside edge ∷ thresholdInside area
-    ∷ cellFactorInside cell ∷ []
+-- 1 or 2
+abbrev pub ruleKnown : ℕ → Bool
+ruleKnown rule = eqb rule 1 || eqb rule 2
+
+-- `quality_threshold`, `max_edge_factor`, `min_triangle_area`, `spatial_cell_factor`, `frontier_rule`
+abbrev pub lastTests : Float → Float → Float → Float → ℕ → List Bool
+lastTests quality edge area cell rule =
+    thresholdInside quality
+    ∷ thresholdInside edge
+    ∷ thresholdInside area
+    ∷ cellFactorInside cell
+    ∷ ruleKnown rule
+    ∷ []
 
 -- the settings' tests, in the scope's order
 unfoldable pub settingTests : BallPivotingConfig → List Bool
@@ -39,6 +48,7 @@ settingTests s =
     ∷ listInside (f32 0x3a83126f) (f32 0x447a0000) (s .«additional_radii») (s .«additional_count»)
     ∷ listInside (f32 0) (f32 0x3f800000) (s .«adaptive_percentiles») (s .«percentile_count»)
     ∷ lastTests (s .«quality_threshold») (s .«max_edge_factor») (s .«min_triangle_area») (s .«spatial_cell_factor»)
+    (s .«frontier_rule»)
 
 -- the number, from 1, of the first setting outside its range; 0 if there is none
 unfoldable pub firstBadSetting : BallPivotingConfig → ℕ
@@ -59,4 +69,5 @@ defaults radius = record {
   «min_triangle_area» = f32 0x322bcc77;
   «use_spatial_index» = true;
   «spatial_cell_factor» = f32 0x40000000;
+  «frontier_rule» = 1;
 }

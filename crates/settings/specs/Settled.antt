@@ -7,7 +7,7 @@ use lib.ListN.{getD}
 use lib.Ieee.{Float, nan}
 use Rattle.numbers.specs.Rounded.{f32}
 use Rattle.ranges.specs.Range.{inside}
-use Rattle.settings.specs.Settings.{radiusInside, thresholdInside, cellFactorInside}
+use Rattle.settings.specs.Settings.{radiusInside, thresholdInside, cellFactorInside, ruleKnown}
 use Rattle.settings.specs.declared.BallPivotingConfig.{BallPivotingConfig}
 
 -- every one of the first `count` slots is inside lo to hi, and there are at most 8
@@ -24,3 +24,4 @@ pub record Settled (s : BallPivotingConfig) : Type 0 where
   pub edge : thresholdInside (s .«max_edge_factor») ≡ true
   pub area : thresholdInside (s .«min_triangle_area») ≡ true
   pub cell : cellFactorInside (s .«spatial_cell_factor») ≡ true
+  pub rule : ruleKnown (s .«frontier_rule») ≡ true

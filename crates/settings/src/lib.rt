@@ -1,6 +1,7 @@
 // The settings of a reconstruction: the defaults, and the first that is outside its range.
 ghost use mathlib.Core.Path.{_≡_};
-ghost use Rattle.settings.specs.Settings.{listInside, firstFailing, lastTests, firstBadSetting, defaults};
+ghost use Rattle.settings.specs.Settings.{listInside, firstFailing, ruleKnown, lastTests, firstBadSetting};
+ghost use Rattle.settings.specs.Settings.{defaults};
 
 // What a reconstruction is told. Of each array only as many slots as its count says are read.
 #[repr(C)]
@@ -16,6 +17,7 @@ pub struct BallPivotingConfig {
     pub min_triangle_area: f32,
     pub use_spatial_index: bool,
     pub spatial_cell_factor: f32,
+    pub frontier_rule: u32,
 }
 
 impl BallPivotingConfig {
@@ -35,6 +37,7 @@ impl BallPivotingConfig {
             min_triangle_area: 1e-8,
             use_spatial_index: true,
             spatial_cell_factor: 2.0,
+            frontier_rule: 1,
         }
     }
 }
@@ -57,9 +60,16 @@ fn all_in_range(lo: f32, hi: f32, xs: [f32; 8], count: u32) -> bool
     true
 }
 
-// The last four of the settings' tests: the number of the first that fails, or 0.
-fn first_bad_threshold(quality: f32, edge: f32, area: f32, cell: f32) -> u32
-    ensures { λ r. ⌜ r ≡ firstFailing 4 (lastTests quality edge area cell) ⌝ }
+// Whether a number names a rule.
+fn is_rule(rule: u32) -> bool
+    ensures { λ r. ⌜ r ≡ ruleKnown rule ⌝ }
+{
+    rule == 1 || rule == 2
+}
+
+// The last five of the settings' tests: the number of the first that fails, or 0.
+fn first_bad_threshold(quality: f32, edge: f32, area: f32, cell: f32, rule: u32) -> u32
+    ensures { λ r. ⌜ r ≡ firstFailing 4 (lastTests quality edge area cell rule) ⌝ }
 {
     if !ranges::in_range(0.0, 1000000.0, quality) {
         return 4;
@@ -72,6 +82,9 @@ fn first_bad_threshold(quality: f32, edge: f32, area: f32, cell: f32) -> u32
     }
     if !ranges::in_range(0.5, 16.0, cell) {
         return 7;
+    }
+    if !is_rule(rule) {
+        return 8;
     }
     0
 }
@@ -96,5 +109,6 @@ pub fn first_bad_setting(s: BallPivotingConfig) -> u32
         s.max_edge_factor,
         s.min_triangle_area,
         s.spatial_cell_factor,
+        s.frontier_rule,
     )
 }

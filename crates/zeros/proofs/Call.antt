@@ -18,7 +18,7 @@ use Rattle.domain.specs.Refusals.{reconstructRefusal}
 use Rattle.grid.specs.Grid.{leastFrom, boundsMin, cellOf}
 use Rattle.patch.specs.Lay.{Edge, patch}
 use Rattle.patch.specs.Search.{Floats, searching}
-use Rattle.patch.specs.Frontier.{heapOf}
+use Rattle.patch.specs.Frontier.{popOf}
 use Rattle.decisions.specs.Decisions.{reach, apart, qualityAt, isClose, accepts, middle, around, pivotable, scoreAt}
 use Rattle.decisions.specs.Decisions.{floatsOf}
 use Rattle.ball_pivoting.specs.Reconstruct.{pointCount, indexOf, sceneOf, radiiOf, laidOf, Found, laid, foundAt, found}
@@ -93,7 +93,7 @@ module _ (mins : ℕ → Float → Float → Float) (m M : Float → Float → F
   laid-same : laidBy mins m M c pts ≡ laidOf c pts
   unfolding laidBy laidOf
   laid-same =
-      ap₂ (λ (f : Floats Float) (rs : List Float). patch (searching f (pointCount pts)) heapOf
+      ap₂ (λ (f : Floats Float) (rs : List Float). patch (searching f (pointCount pts)) (popOf (c .«frontier_rule»))
       (pointCount pts) rs) floats-same radii-same
 
   at-radii : (rs : List Float) → foundAtBy mins m M c pts rs ≡ foundAt c pts rs

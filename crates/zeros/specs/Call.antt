@@ -21,7 +21,7 @@ use Rattle.grid.specs.declared.SpatialGrid.{SpatialGrid}
 use Rattle.radii.specs.Radii.{adaptiveRadii}
 use Rattle.patch.specs.Lay.{Edge, State, patch}
 use Rattle.patch.specs.Search.{Floats, searching}
-use Rattle.patch.specs.Frontier.{heapOf}
+use Rattle.patch.specs.Frontier.{popOf}
 use Rattle.decisions.specs.Decisions.{reach, apart, isClose, accepts, middle, around, pivotable}
 use Rattle.decisions.specs.declared.Scene.{Scene}
 use Rattle.ball_pivoting.specs.Reconstruct.{pointCount, Found, laid, plainly, found, refused, delivered}
@@ -87,9 +87,9 @@ module _ (mins : ℕ → Float → Float → Float) (m M : Float → Float → F
   unfoldable pub radiiBy : List Float
   radiiBy = adaptiveRadii c indexBy pts (pointCount pts)
 
-  -- `advanced_ball_pivoting`: the state when all radii are done
+  -- `advanced_ball_pivoting`: the state when all radii are done; under rule 1, which is the source's, and under rule 2
   unfoldable pub laidBy : State
-  laidBy = patch (searching floatsBy (pointCount pts)) heapOf (pointCount pts) radiiBy
+  laidBy = patch (searching floatsBy (pointCount pts)) (popOf (c .«frontier_rule»)) (pointCount pts) radiiBy
 
   -- the multi-radius path, or the plain one if there are no radii, which asks for no `min` and no `max`
   unfoldable pub foundAtBy : List Float → Found

@@ -20,13 +20,14 @@ const HEAD: &str = "\
 #  7 estimate          length of points, points, percentile, lengths of both work slices (u32, f32),
 #                      then answer, detail, radius
 #  8 reconstruct       length of points, points, length of normals (every component is 1.0, bits 1065353216),
-#                      settings (25 words: radius, 8 additional_radii, their count, adaptive_radius, 8
+#                      settings (26 words: radius, 8 additional_radii, their count, adaptive_radius, 8
 #                      adaptive_percentiles, their count, quality_threshold, max_edge_factor, min_triangle_area,
-#                      use_spatial_index, spatial_cell_factor), lengths of the face slice and of both work slices,
-#                      then answer, detail, faces, seeds, looks, pivots, count of radii, the radii, 3 words a face
+#                      use_spatial_index, spatial_cell_factor, frontier_rule), lengths of the face slice and of both
+#                      work slices, then answer, detail, faces, seeds, looks, pivots, count of radii, the radii, 3
+#                      words a face
 #  9 circumradius      9 coordinates, result
-# Before a call, word i of each lent slice is 2768240640 + i. After it a work slice is all zeros if the answer is 0, 8
-# or 9, and as before otherwise; the face slice is as before past the faces, or all zeros if the answer is 9.
+# Before a call, word i of each lent slice is 2768240640 + i. After it a work slice is all zeros if the answer is 0, 8,
+# 9, 15 or 16, and as before otherwise; the face slice is as before past the faces, or all zeros if the answer is 9.
 ";
 
 /// A not-a-number's payload is left open by the language: one pattern stands for all.

@@ -46,6 +46,7 @@ impl Words<'_> {
             min_triangle_area: self.float(),
             use_spatial_index: self.one() == 1,
             spatial_cell_factor: self.float(),
+            frontier_rule: self.one(),
         }
     }
 }

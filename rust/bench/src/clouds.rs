@@ -179,6 +179,33 @@ pub fn without_area() -> bool {
     reached
 }
 
+/// Rows of `bench clouds`, the port against itself: how many times as long it takes under rule 2 as under rule 1. What it
+/// lays under rule 2 is held to the Rust over a queue first.
+fn rules(races: &[Race]) -> bool {
+    const MOST: f64 = 1.1;
+    let mut reached = true;
+    for Race { name, points, settings, .. } in races {
+        let normals = vec![0.0; points.len()];
+        let [heap, queue] = [1, 2].map(|frontier_rule| Settings { frontier_rule, ..*settings });
+        let faces = reconstruct_times(0, points, &normals, &queue).0;
+        let (mut one, mut other) = (lend(points.len() / 3), lend(points.len() / 3));
+        let times = race(
+            100,
+            || _ = std::hint::black_box(port::reconstruct(points, &normals, &heap, &mut one)),
+            || _ = std::hint::black_box(port::reconstruct(points, &normals, &queue, &mut other)),
+        );
+        let (points, part) = (points.len() / 3, times.port / times.rust);
+        let short = if part > MOST { "  short" } else { "" };
+        let name = format!("{name}, rule 1 and 2");
+        println!(
+            "{name:<40} {points:>6} {faces:>6} {:>10.3} {:>10.3} {part:>8.2} most {MOST}{short}",
+            times.rust, times.port
+        );
+        reached &= short.is_empty();
+    }
+    reached
+}
+
 fn estimates() -> bool {
     let mut reached = true;
     for (size, reach) in [(WALLS[0], 2.0), (WALLS[2], 5.0), (WALLS[3], 10.0)] {
@@ -231,12 +258,14 @@ pub fn bench() -> bool {
     );
     let mut reached = true;
     let mut walls = Vec::new();
-    for Race { name, points, settings, reach } in races(random) {
+    let races = races(random);
+    for Race { name, points, settings, reach } in &races {
         let normals = vec![0.0; points.len()];
-        let (faces, times) = reconstruct(&points, &normals, &settings);
-        reached &= line(&name, points.len() / 3, &faces.to_string(), times, reach);
+        let (faces, times) = reconstruct(points, &normals, settings);
+        reached &= line(name, points.len() / 3, &faces.to_string(), times, *reach);
         walls.push(times.port);
     }
+    reached &= rules(&races);
     reached &= without_area();
     reached &= slow::rows(None, None);
     reached &= estimates();

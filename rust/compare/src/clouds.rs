@@ -101,6 +101,9 @@ pub fn estimate(side: &dyn Side, count: u64, seed: u64, first: u64) -> Report {
 /// The note of clouds on which the published code lays a face without area, so that the amended one is the reference.
 pub const AMENDED: &str = "held against the amended Rust";
 
+/// The note of patches laid under rule 2, by the published code over a queue.
+const QUEUED: &str = "laid under rule 2";
+
 /// What the reconstruction gives on one case.
 struct Called {
     answer: u32,
@@ -133,8 +136,9 @@ pub fn unlike_call(side: &dyn Side, case: &Case) -> Result<Option<String>, Skip>
 pub fn reconstruct(side: &dyn Side, count: u64, seed: u64, first: u64) -> Report {
     let mut report = Report::new("reconstruct");
     if first == 0 {
-        // One of the fixed clouds is of that kind.
+        // One of the fixed clouds is of that kind, and three have the other rule.
         report.want(AMENDED);
+        report.want(QUEUED);
     }
     for number in first..first + count {
         let case = case(seed, number);
@@ -149,6 +153,9 @@ pub fn reconstruct(side: &dyn Side, count: u64, seed: u64, first: u64) -> Report
         note_answer(&mut report, called.answer);
         if called.amended {
             report.note(AMENDED);
+        }
+        if called.answer == 0 && !called.plain && case.settings.frontier_rule == 2 {
+            report.note(QUEUED);
         }
         if let Some(text) = called.unlike {
             report.differs(|| format!("{text}\n{}", describe(&case, number, seed)));

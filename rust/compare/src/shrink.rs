@@ -32,6 +32,7 @@ fn plainer(case: &Case) -> Vec<Case> {
         change(&|c| c.settings.min_triangle_area = 0.0),
         change(&|c| c.settings.max_edge_factor = 3.0),
         change(&|c| c.settings.spatial_cell_factor = 2.0),
+        change(&|c| c.settings.frontier_rule = 1),
     ]
 }
 

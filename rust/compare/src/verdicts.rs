@@ -58,6 +58,9 @@ fn odd_number(random: &mut Random, case: &mut Case) {
         _ => &mut s.adaptive_percentiles[random.below(8)],
     };
     *place = odd;
+    if random.percent(8) {
+        s.frontier_rule = random.pick(&[0, 2, 3]);
+    }
 }
 
 /// The case of one triple: its cloud's, with one of the points moved onto another, limits and odd numbers now and then.

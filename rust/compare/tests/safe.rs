@@ -5,7 +5,7 @@ use expect::{Found, Lent, BUDGET};
 use generate::{case, work_lengths, Case};
 use oracle::Settings;
 use std::collections::HashSet;
-use yarrowbleat::{BallPivotingConfig, Error, Patch};
+use yarrowbleat::{BallPivotingConfig, Error, FrontierRule, Patch};
 
 /// Cases of a seed, those past the large fixed clouds, whose slices are whole points.
 fn cases(count: u64) -> impl Iterator<Item = Case> {
@@ -13,6 +13,7 @@ fn cases(count: u64) -> impl Iterator<Item = Case> {
     (first..first + count)
         .map(|number| case(11, number))
         .filter(|c| c.points.len() % 3 == 0 && c.normals.len() % 3 == 0)
+        .filter(|c| (1..=2).contains(&c.settings.frontier_rule))
 }
 
 fn threes(slice: &[f32]) -> Vec<[f32; 3]> {
@@ -35,6 +36,7 @@ fn config(s: &Settings) -> BallPivotingConfig {
         min_triangle_area: s.min_triangle_area,
         use_spatial_index: s.use_spatial_index,
         spatial_cell_factor: s.spatial_cell_factor,
+        frontier_rule: if s.frontier_rule == 2 { FrontierRule::Queue } else { FrontierRule::Heap },
     }
 }
 

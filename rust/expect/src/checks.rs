@@ -55,6 +55,7 @@ fn settings(s: &Settings) -> Result<(), Refusal> {
         within(s.max_edge_factor, 0.0, 1_000_000.0),
         within(s.min_triangle_area, 0.0, 1_000_000.0),
         within(s.spatial_cell_factor, 0.5, 16.0),
+        s.frontier_rule == 1 || s.frontier_rule == 2,
     ];
     match good.iter().position(|g| !g) {
         Some(i) => refuse(5, i + 1),

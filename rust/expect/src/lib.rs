@@ -3,7 +3,7 @@
 pub mod checks;
 pub mod verdicts;
 
-use oracle::{Error, Laid, Tried, Settings, Skip};
+use oracle::{Error, Laid, Settings, Skip, Tried};
 
 /// The steps of the published code that a case may take, about half a second; above it the case is skipped.
 pub const BUDGET: u64 = 16_000_000;
@@ -67,7 +67,10 @@ pub enum Found {
     /// Refused by a check up to 7; every lent slice is untouched.
     Early(Refusal),
     /// No triangle: the answer is 8, 15 or 16, on the plain path or the other.
-    NoTriangle { answer: u32, plain: bool },
+    NoTriangle {
+        answer: u32,
+        plain: bool,
+    },
     Laid(Laid),
 }
 

@@ -50,6 +50,10 @@ fn settings_in_their_order() {
     assert_eq!(with(&|s| s.quality_threshold = -0.0), [0, 0]);
     assert_eq!(with(&|s| (s.spatial_cell_factor, s.min_triangle_area) = (17.0, -1.0)), [5, 6]);
     assert_eq!(with(&|s| s.spatial_cell_factor = 0.499), [5, 7]);
+    assert_eq!(with(&|s| (s.spatial_cell_factor, s.frontier_rule) = (17.0, 0)), [5, 7]);
+    assert_eq!(with(&|s| s.frontier_rule = 0), [5, 8]);
+    assert_eq!(with(&|s| s.frontier_rule = 3), [5, 8]);
+    assert_eq!(with(&|s| s.frontier_rule = 2), [0, 0]);
 }
 
 #[test]

@@ -23,7 +23,7 @@ fn outside(random: &mut Random, low: f32, high: f32) -> f32 {
 
 fn bad_setting(random: &mut Random, case: &mut Case) {
     let settings = &mut case.settings;
-    match random.below(9) {
+    match random.below(10) {
         0 => settings.radius = outside(random, 0.001, 1_000.0),
         1 => settings.additional_count = random.pick(&[9, 10, u32::MAX, 1 << 31]),
         2 => settings.percentile_count = random.pick(&[9, 10, u32::MAX, 1 << 31]),
@@ -31,7 +31,8 @@ fn bad_setting(random: &mut Random, case: &mut Case) {
         4 => settings.max_edge_factor = outside(random, 0.0, 1_000_000.0),
         5 => settings.min_triangle_area = outside(random, 0.0, 1_000_000.0),
         6 => settings.spatial_cell_factor = outside(random, 0.5, 16.0),
-        7 => {
+        7 => settings.frontier_rule = random.pick(&[0, 3, 1 << 16, u32::MAX]),
+        8 => {
             let slot = random.below(8);
             settings.additional_radii[slot] = outside(random, 0.001, 1_000.0);
         }

@@ -79,5 +79,10 @@ pub fn cases() -> Vec<Case> {
     ];
     cases.extend(pins::cases());
     cases.extend([60, 150, 199, 200, 350, 1_999, 2_000, 4_096, 4_097].map(wall));
+    cases.extend([350, 4_096].map(|points| {
+        let mut case = wall(points);
+        case.settings.frontier_rule = 2;
+        case
+    }));
     cases
 }

@@ -80,7 +80,15 @@ fn drawn(seed: u64, number: u64) -> Case {
             damage::damage(random, &mut case);
         }
     }
+    if case.settings.frontier_rule == 1 {
+        case.settings.frontier_rule = rule(seed, number);
+    }
     case
+}
+
+/// The frontier's rule, 2 in every third case; a draw of its own, so that the rest of a case does not depend on it.
+fn rule(seed: u64, number: u64) -> u32 {
+    1 + u32::from(Random::new(seed, !number).below(3) == 0)
 }
 
 /// Words past the faces found, or below 0 words that are missing.

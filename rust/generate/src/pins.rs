@@ -147,8 +147,19 @@ fn plain_circle(points: usize) -> Case {
     plain("plain path", places.collect(), no_radii(1.0))
 }
 
+/// The fewest points on which the frontier's order shows: rule 1 ends with the face 3, 0, 4, rule 2 with 1, 3, 4.
+fn orders(frontier_rule: u32) -> Case {
+    let points = vec![0.0, 0.0, 1.0, 1.0, 0.0, 0.0, 3.0, 0.0, 1.0, 0.0, 1.0, 1.0, 1.0, 1.0, 0.0];
+    let mut settings = Settings { frontier_rule, ..Settings::at_radius(2.0) };
+    settings.set_additional(&[]);
+    settings.set_percentiles(&[]);
+    plain("orders", points, settings)
+}
+
 pub fn cases() -> Vec<Case> {
     vec![
+        orders(1),
+        orders(2),
         tries(999, false),
         tries(1_000, false),
         tries(999, true),

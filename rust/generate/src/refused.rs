@@ -3,7 +3,7 @@
 
 use crate::clouds::{bell, sheet, Cloud, LIMIT};
 use crate::random::Random;
-use crate::{normal, work_lengths, Case};
+use crate::{normal, rule, work_lengths, Case};
 use oracle::Settings;
 
 /// Turns every triangle down on the multi-radius path, in one of three ways; none of them keeps a triple from being judged.
@@ -139,8 +139,7 @@ fn thousandth(random: &mut Random) -> (Vec<f32>, Settings) {
 /// A cloud of the usual kinds whose triangles are all turned down, or laid.
 fn usual(random: &mut Random) -> (Vec<f32>, Settings) {
     let size = random.whole(4, 60);
-    let Cloud { points, spacing, .. } =
-        if random.percent(50) { bell(random, size) } else { sheet(random, size, 0.2) };
+    let Cloud { points, spacing, .. } = if random.percent(50) { bell(random, size) } else { sheet(random, size, 0.2) };
     let radius = (spacing * random.within(0.3, 1.6)) as f32;
     let mut settings = alone(random, radius);
     smaller(random, &mut settings);
@@ -187,7 +186,7 @@ fn no_neighbours() -> (Vec<f32>, Settings) {
 /// Refused case `number` of a seed; the first is fixed. One in forty has a thousand points, which takes the published code long.
 pub fn refused(seed: u64, number: u64) -> Case {
     let random = &mut Random::new(seed, number);
-    let (kind, (points, settings)) = match number {
+    let (kind, (points, mut settings)) = match number {
         0 => ("no neighbours", no_neighbours()),
         _ if number % 40 == 7 => (KINDS[7].0, KINDS[7].1(random)),
         _ => {
@@ -195,6 +194,7 @@ pub fn refused(seed: u64, number: u64) -> Case {
             (kind, make(random))
         }
     };
+    settings.frontier_rule = rule(seed, number);
     debug_assert!(points.iter().all(|x| x.abs() <= LIMIT));
     let (words, floats) = work_lengths(points.len() / 3);
     let normals = points.iter().map(|_| normal(random)).collect();

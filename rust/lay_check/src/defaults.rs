@@ -12,7 +12,7 @@ fn words(s: &Settings) -> Vec<u32> {
     words.extend(s.adaptive_percentiles.map(f32::to_bits));
     words.push(s.percentile_count);
     words.extend([s.quality_threshold, s.max_edge_factor, s.min_triangle_area].map(f32::to_bits));
-    words.extend([u32::from(s.use_spatial_index), s.spatial_cell_factor.to_bits()]);
+    words.extend([u32::from(s.use_spatial_index), s.spatial_cell_factor.to_bits(), s.frontier_rule]);
     words
 }
 

@@ -6,7 +6,7 @@
 use crate::parallel;
 use crate::{acosf::Acosf, tally}; // yarrowbleat: added
 use std::cmp::Ordering;
-use std::collections::{BinaryHeap, HashMap, HashSet};
+use {crate::frontier::BinaryHeap, std::collections::{HashMap, HashSet}}; // yarrowbleat: was|use std::collections::{BinaryHeap, HashMap, HashSet};
 use threecrate_core::{Error, NormalPoint3f, Point3f, PointCloud, Result, TriangleMesh};
 
 /// Configuration for Enhanced Ball Pivoting Algorithm

@@ -9,6 +9,7 @@ pub mod acosf;
 #[allow(dead_code)]
 #[rustfmt::skip]
 pub mod ball_pivoting;
+mod frontier;
 mod settings;
 mod stand_ins;
 mod tally;
@@ -62,7 +63,9 @@ pub fn reconstruct_judged(
     let with_normal = |(position, normal): (Point3f, Point3f)| NormalPoint3f { position, normal: normal.coords };
     let cloud = PointCloud { points: points_of(points).into_iter().zip(points_of(normals)).map(with_normal).collect() };
     let mut reconstructor = BallPivotingReconstructor::new(settings.to_config());
-    let (mesh, tally) = tally::run(budget, || reconstructor.reconstruct_with_normals(&cloud))?;
+    let (mesh, tally) = frontier::ruled(settings.frontier_rule, || {
+        tally::run(budget, || reconstructor.reconstruct_with_normals(&cloud))
+    })?;
     let laid = mesh.map(|mesh| Laid { faces: mesh.faces, radii: reconstructor.radii().to_vec(), tally });
     Ok((laid, Tried { judged: tally.judged, plain: reconstructor.radii().is_empty() }))
 }

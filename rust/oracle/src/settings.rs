@@ -16,6 +16,8 @@ pub struct Settings {
     pub min_triangle_area: f32,
     pub use_spatial_index: bool,
     pub spatial_cell_factor: f32,
+    /// 1: the published order of the frontier; 2: first in, first out.
+    pub frontier_rule: u32,
 }
 
 impl Settings {
@@ -34,6 +36,7 @@ impl Settings {
             min_triangle_area: d.min_triangle_area,
             use_spatial_index: d.use_spatial_index,
             spatial_cell_factor: d.spatial_cell_factor,
+            frontier_rule: 1,
         };
         settings.set_additional(&d.additional_radii);
         settings.set_percentiles(&d.adaptive_percentiles);

@@ -75,6 +75,20 @@ fn estimates() {
     assert!(matches!(estimate(&[0.0; 3], f32::NAN, BUDGET), Ok(Err(Error::InvalidData(_)))));
 }
 
+/// The fewest points on which the frontier's two orders differ.
+#[test]
+fn rules() {
+    let points = [0.0, 0.0, 1.0, 1.0, 0.0, 0.0, 3.0, 0.0, 1.0, 0.0, 1.0, 1.0, 1.0, 1.0, 0.0];
+    let mut settings = Settings::at_radius(2.0);
+    settings.set_additional(&[]);
+    settings.set_percentiles(&[]);
+    assert_eq!(lay(&points, &settings).unwrap().faces.last(), Some(&[3, 0, 4]));
+    settings.frontier_rule = 2;
+    assert_eq!(lay(&points, &settings).unwrap().faces.last(), Some(&[1, 3, 4]));
+    settings.frontier_rule = 1;
+    assert_eq!(lay(&points, &settings).unwrap().faces.last(), Some(&[3, 0, 4]));
+}
+
 /// Entries of equal priority, as all of the frontier's are.
 #[test]
 fn frontier_order() {

@@ -33,6 +33,7 @@ fn config(s: &Settings) -> sys::BallPivotingConfig {
         min_triangle_area: s.min_triangle_area,
         use_spatial_index: s.use_spatial_index,
         spatial_cell_factor: s.spatial_cell_factor,
+        frontier_rule: s.frontier_rule,
     }
 }
 

@@ -21,7 +21,8 @@ yarrowbleat: lays a surface of triangles over a scanned bell wall
       --listing   instead, the counts and a line for each face, as the program `lay` prints them
       --coverage  after the line, the numbers of the points that were not reached
       --radius    the ball's radius, instead of the file's own; --settings a file of `name = value` lines, with the
-                  names of BallPivotingConfig, a list's values parted by commas, `#` before a remark
+                  names of BallPivotingConfig, a list's values parted by commas, `#` before a remark; with
+                  `frontier_rule = 2` a surface spreads evenly from its seed
   yarrowbleat page FILE -o PAGE.html [--radius R] [--settings FILE]
       One page that shows the points, those reached and those not, and the faces; it needs no network.
   yarrowbleat stl FILE -o PATCH.stl [--radius R] [--settings FILE]

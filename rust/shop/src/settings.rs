@@ -2,7 +2,7 @@
 
 use crate::options::Options;
 use crate::{files, Failure};
-use yarrowbleat::BallPivotingConfig;
+use yarrowbleat::{BallPivotingConfig, FrontierRule};
 
 /// The settings that a command was given, and the radius if the cloud file's own is not meant.
 pub struct Given {
@@ -56,9 +56,18 @@ impl Given {
             "min_triangle_area" => c.min_triangle_area = number(value)?,
             "use_spatial_index" => c.use_spatial_index = choice(value)?,
             "spatial_cell_factor" => c.spatial_cell_factor = number(value)?,
+            "frontier_rule" => c.frontier_rule = rule(value)?,
             _ => return Err("there is no such setting".to_string()),
         }
         Ok(())
+    }
+}
+
+fn rule(text: &str) -> Result<FrontierRule, String> {
+    match text {
+        "1" => Ok(FrontierRule::Heap),
+        "2" => Ok(FrontierRule::Queue),
+        _ => Err(format!("{text} is no rule, 1 or 2")),
     }
 }
 

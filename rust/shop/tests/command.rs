@@ -71,12 +71,15 @@ fn with_settings() {
     assert_eq!(lay(usual).stdout, run(&["lay", &bell]).stdout);
     let plain = text(&lay("adaptive_radius = false\n").stdout);
     assert!(plain.contains("seeds 0,"), "{plain}");
+    assert_eq!(lay("frontier_rule = 1\n").stdout, run(&["lay", &bell]).stdout);
+    assert!(lay("frontier_rule = 2\n").status.success());
     assert_eq!(lay("quality_threshold = -1\n").status.code(), Some(5));
     for (wrong, why) in [
         ("radius 1\n", "line 1 is no `name = value`"),
         ("\nspeed = 1\n", "line 2: speed: there is no such setting"),
         ("radius = x\n", "line 1: radius: x is no number"),
         ("adaptive_radius = 1\n", "line 1: adaptive_radius: 1 is neither true nor false"),
+        ("frontier_rule = 0\n", "line 1: frontier_rule: 0 is no rule, 1 or 2"),
         ("radius = 1\nradius = 2\n", "line 2: radius stands twice"),
     ] {
         let (status, line) = failed(&["lay", &bell, "--settings", &file(&here, "settings", wrong)]);

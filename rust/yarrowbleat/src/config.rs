@@ -25,6 +25,29 @@ pub struct BallPivotingConfig {
     pub use_spatial_index: bool,
     /// The width of a cell, in radii, 0.5 to 16.
     pub spatial_cell_factor: f32,
+    /// The order in which edges are taken from the frontier.
+    pub frontier_rule: FrontierRule,
+}
+
+/// The order in which the edges that wait are pivoted over.
+#[derive(Clone, Copy, Debug, Default, PartialEq, Eq)]
+#[non_exhaustive]
+pub enum FrontierRule {
+    /// Rule 1, the old program's: that of its heap.
+    #[default]
+    Heap,
+    /// Rule 2, first come, first pivoted: the surface spreads evenly from its seed.
+    Queue,
+}
+
+impl FrontierRule {
+    /// The rule's number.
+    pub fn number(self) -> u32 {
+        match self {
+            FrontierRule::Heap => 1,
+            FrontierRule::Queue => 2,
+        }
+    }
 }
 
 impl BallPivotingConfig {
@@ -41,6 +64,7 @@ impl BallPivotingConfig {
             min_triangle_area: c.min_triangle_area,
             use_spatial_index: c.use_spatial_index,
             spatial_cell_factor: c.spatial_cell_factor,
+            frontier_rule: FrontierRule::default(),
         }
     }
 }
@@ -74,6 +98,7 @@ impl From<&BallPivotingConfig> for sys::BallPivotingConfig {
             min_triangle_area: c.min_triangle_area,
             use_spatial_index: c.use_spatial_index,
             spatial_cell_factor: c.spatial_cell_factor,
+            frontier_rule: c.frontier_rule.number(),
         }
     }
 }

@@ -93,7 +93,7 @@ pub fn answer_text(answer: u32) -> &'static str {
 }
 
 /// The settings in the order in which they are checked.
-const SETTINGS: [&str; 7] = [
+const SETTINGS: [&str; 8] = [
     "radius",
     "additional_radii",
     "adaptive_percentiles",
@@ -101,6 +101,7 @@ const SETTINGS: [&str; 7] = [
     "max_edge_factor",
     "min_triangle_area",
     "spatial_cell_factor",
+    "frontier_rule",
 ];
 
 impl Error {

@@ -12,13 +12,13 @@ struct Readme;
 
 mod config;
 mod error;
-mod stl;
 pub mod index;
+mod stl;
 pub mod sys;
 pub mod tally;
 mod verdict;
 
-pub use config::BallPivotingConfig;
+pub use config::{BallPivotingConfig, FrontierRule};
 pub use error::{answer_text, Error};
 pub use stl::{read_stl, write_stl};
 pub use verdict::{judge_triangle, Explained, Verdict};

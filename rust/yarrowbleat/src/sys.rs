@@ -61,6 +61,8 @@ pub struct BallPivotingConfig {
     pub use_spatial_index: bool,
     /// The width of a cell, in radii.
     pub spatial_cell_factor: f32,
+    /// The frontier's order: 1 is the old program's, 2 first in, first out.
+    pub frontier_rule: u32,
 }
 
 /// The answer of a reconstruction; radii past their count are zeros.
@@ -283,9 +285,9 @@ macro_rules! layouts {
 layouts! {
     TriangleQuality 24: aspect_ratio 0, min_angle 4, max_angle 8, area 12, edge_ratio 16, quality_score 20;
     Estimate 12: answer 0, detail 4, radius 8;
-    BallPivotingConfig 100: radius 0, additional_radii 4, additional_count 36, adaptive_radius 40,
+    BallPivotingConfig 104: radius 0, additional_radii 4, additional_count 36, adaptive_radius 40,
         adaptive_percentiles 44, percentile_count 76, quality_threshold 80, max_edge_factor 84, min_triangle_area 88,
-        use_spatial_index 92, spatial_cell_factor 96;
+        use_spatial_index 92, spatial_cell_factor 96, frontier_rule 100;
     Patch 96: answer 0, detail 4, faces 8, seeds 12, looks 16, pivots 20, radii_count 24, radii 28;
     CloudRead 32: answer 0, detail 8, radius 16, count 24;
     StlWritten 24: answer 0, detail 8, length 16;

@@ -90,6 +90,43 @@ fn settings() {
     assert_eq!(text, "a setting is outside its bounds: setting 7, spatial_cell_factor");
 }
 
+/// Rule 0, which an old program's settings would have, is none, and is told after all other settings.
+#[test]
+fn rules() {
+    assert_eq!([FrontierRule::Heap, FrontierRule::Queue].map(FrontierRule::number), [1, 2]);
+    assert_eq!(BallPivotingConfig::default().frontier_rule, FrontierRule::Heap);
+    assert!(with(|c| c.frontier_rule = FrontierRule::Queue).is_ok());
+    let raw = |rule: u32, factor: f32| {
+        let settings =
+            sys::BallPivotingConfig { frontier_rule: rule, spatial_cell_factor: factor, ..sys::default_config(1.0) };
+        let (mut faces, mut words, mut floats) = ([0; 3], [0; 136], [0.0; 76]);
+        let flat = TRIANGLE.as_flattened();
+        let r = sys::reconstruct_with_normals(flat, flat, settings, &mut faces, &mut words, &mut floats);
+        (r.answer, r.detail)
+    };
+    assert_eq!([0, 1, 2, 3, u32::MAX].map(|rule| raw(rule, 2.0)), [(5, 8), (0, 0), (0, 0), (5, 8), (5, 8)]);
+    assert_eq!(raw(0, 17.0), (5, 7));
+    let text = Error::check(5, 8).unwrap_err().to_string();
+    assert_eq!(text, "a setting is outside its bounds: setting 8, frontier_rule");
+}
+
+/// The fewest points on which the two orders differ.
+#[test]
+fn orders_of_popping() {
+    let points = [[0.0, 0.0, 1.0], [1.0, 0.0, 0.0], [3.0, 0.0, 1.0], [0.0, 1.0, 1.0], [1.0, 1.0, 0.0]];
+    let last = |frontier_rule| {
+        let lists = (vec![], vec![]);
+        let config = BallPivotingConfig {
+            additional_radii: lists.0,
+            adaptive_percentiles: lists.1,
+            frontier_rule,
+            ..BallPivotingConfig::new(2.0)
+        };
+        *reconstruct_with_normals(&points, &points, &config).unwrap().faces.last().unwrap()
+    };
+    assert_eq!([last(FrontierRule::Heap), last(FrontierRule::Queue)], [[3, 0, 4], [1, 3, 4]]);
+}
+
 #[test]
 fn files() {
     assert_eq!(told(read_cloud(b"")), (10, 1));

@@ -10,6 +10,9 @@ put-face-requires c κs = search needs
 mark-seed-requires : tie.Need-mark-seed-requires
 mark-seed-requires c κs = search needs
 
+add-add-triangle-edges-to-frontier : tie.Need-add-add-triangle-edges-to-frontier
+add-add-triangle-edges-to-frontier c = search needs
+
 add-triangle-edges-to-frontier-requires : tie.Need-add-triangle-edges-to-frontier-requires
 add-triangle-edges-to-frontier-requires c κs = search needs
 
@@ -31,14 +34,14 @@ same-length-2 c = search needs
 returns : tie.Need-returns
 returns c =
     let p = c .before .before .before in
-    let m = p .before .before .before .before in
+    let m = p .before .before .before .before .before in
     let f = m .before .before .before .before in
     let s = f .before .before .before .before in
     let pushed = p .add-triangle-edges-to-frontier in
     let marked = m .mark-seed in
     let wrote = f .put-face in (
       seed-takes (s .args .n) (s .args .c) (s .args .w .now) (marked .last .0) (pushed .last .0) (s .args .faces .now) (wrote .last .0) (s .args .i) (s .args .j) (s .args .k) (wrote .ensures) (marked .ensures) (pushed .ensures),
-      face-only (s .args .n) (s .args .c .frontier) _ _ (s .args .w .now) (marked .last .0) (pushed .last .0) (marked .ensures) (pushed .ensures),
+      face-only (s .args .n) _ _ _ (s .args .w .now) (marked .last .0) (pushed .last .0) (marked .ensures) (pushed .ensures),
     )
 
 pub lay-seed-spec : {M : Type 1} → statement M
@@ -47,6 +50,7 @@ lay-seed-spec =
     (tie.spec
     put-face-requires
     mark-seed-requires
+    add-add-triangle-edges-to-frontier
     add-triangle-edges-to-frontier-requires
     add-r
     add-r-2

@@ -30,7 +30,7 @@ same-length : tie.Need-same-length
 same-length c = search needs
 
 returns : tie.Need-returns
-returns c = pushed-one (c .args .n) (c .args .count) (c .args .a * 4096 + c .args .b + c .args .mark) (c .args .w .now) (c .pre .0) (c .pre .1)
+returns c = pushed-one (c .args .n) (c .args .end) (c .args .a * 4096 + c .args .b + c .args .mark) (c .args .w .now) (c .pre .0) (c .pre .1)
 
 pub push-edge-spec : {M : Type 1} → statement M
 push-edge-spec =

@@ -13,10 +13,10 @@ use Rattle.laying.proofs.advanced_ball_pivoting.Statement.{statement}
 use Rattle.laying.proofs.advanced_ball_pivoting.Tie as tie
 
 abbrev Inv-loop : tie.InvT-loop
-Inv-loop s points count faces₀ w₀ hash radii flat largest c₀ upto₀ i₀ faces w c upto i = Covering s hash points radii count faces₀ w₀ i c w faces × NothingTo s points (usedIn s w) upto
+Inv-loop s points count faces₀ w₀ hash rule radii flat largest c₀ upto₀ i₀ faces w c upto i = Covering rule s hash points radii count faces₀ w₀ i c w faces × NothingTo s points (usedIn s w) upto
 
 abbrev μ-loop : tie.MeasureT-loop
-μ-loop s points count faces₀ w₀ hash radii flat largest c₀ upto₀ i₀ faces w c upto i = count - i
+μ-loop s points count faces₀ w₀ hash rule radii flat largest c₀ upto₀ i₀ faces w c upto i = count - i
 
 is-flat-requires : tie.Need-is-flat-requires Inv-loop μ-loop
 is-flat-requires c κs = let g = c .before .before .before .pre .0 in (g .some, g .held .few, g .held .points-long, g .hashed .linked .ready .numbers)

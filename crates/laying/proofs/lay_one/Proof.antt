@@ -18,29 +18,29 @@ enum-known-seed c = search needs
 
 remove-three-requires : tie.Need-remove-three-requires
 remove-three-requires c κs =
-    let g = free-seed (c .before .before .before .before .before .before .before .before .before .before .before .before .args .radius) (c .before .before .before .before .before .before .before .before .before .before .before .before .pre .0) (c .before .before .before .before .before .before .before .before .clear .ensures) (c .before .before .before .before .before .before .find-seed-triangle .ensures .0) (c .before .before .before .before .before .before .find-seed-triangle .ensures .1) (c .before .before .before .before .before .before .find-seed-triangle .kept .1 .1 .0) (c .before .before .seed .given .1) in
-    (searched (c .before .before .before .before .before .before .before .before .before .before .before .before .args .radius) (c .before .before .before .before .before .before .before .before .before .before .before .before .pre .0) (c .before .before .before .before .before .before .before .before .clear .ensures) (c .before .before .before .before .before .before .find-seed-triangle .ensures .0) (c .before .before .before .before .before .before .find-seed-triangle .ensures .1) (c .before .before .before .before .before .before .find-seed-triangle .kept .1 .1 .0) .hashed .linked, g .first .below, g .second .below, g .third .below)
+    let g = free-seed (c .before .before .before .before .before .before .before .before .before .before .before .before .args .rule) (c .before .before .before .before .before .before .before .before .before .before .before .before .args .radius) (c .before .before .before .before .before .before .before .before .before .before .before .before .pre .0) (c .before .before .before .before .before .before .before .before .clear .ensures) (c .before .before .before .before .before .before .find-seed-triangle .ensures .0) (c .before .before .before .before .before .before .find-seed-triangle .ensures .1) (c .before .before .before .before .before .before .find-seed-triangle .kept .1 .1 .0) (c .before .before .seed .given .1) in
+    (searched (c .before .before .before .before .before .before .before .before .before .before .before .before .args .rule) (c .before .before .before .before .before .before .before .before .before .before .before .before .args .radius) (c .before .before .before .before .before .before .before .before .before .before .before .before .pre .0) (c .before .before .before .before .before .before .before .before .clear .ensures) (c .before .before .before .before .before .before .find-seed-triangle .ensures .0) (c .before .before .before .before .before .before .find-seed-triangle .ensures .1) (c .before .before .before .before .before .before .find-seed-triangle .kept .1 .1 .0) .hashed .linked, g .first .below, g .second .below, g .third .below)
 
 cast-lay-seed : tie.Need-cast-lay-seed
 cast-lay-seed c =
-    let g = free-seed (c .before .before .before .before .before .before .before .before .before .before .before .before .before .before .before .before .before .args .radius) (c .before .before .before .before .before .before .before .before .before .before .before .before .before .before .before .before .before .pre .0) (c .before .before .before .before .before .before .before .before .before .before .before .before .before .clear .ensures) (c .before .before .before .before .before .before .before .before .before .before .before .find-seed-triangle .ensures .0) (c .before .before .before .before .before .before .before .before .before .before .before .find-seed-triangle .ensures .1) (c .before .before .before .before .before .before .before .before .before .before .before .find-seed-triangle .kept .1 .1 .0) (c .before .before .before .before .before .before .before .seed .given .1) in
+    let g = free-seed (c .before .before .before .before .before .before .before .before .before .before .before .before .before .before .before .before .before .args .rule) (c .before .before .before .before .before .before .before .before .before .before .before .before .before .before .before .before .before .args .radius) (c .before .before .before .before .before .before .before .before .before .before .before .before .before .before .before .before .before .pre .0) (c .before .before .before .before .before .before .before .before .before .before .before .before .before .clear .ensures) (c .before .before .before .before .before .before .before .before .before .before .before .find-seed-triangle .ensures .0) (c .before .before .before .before .before .before .before .before .before .before .before .find-seed-triangle .ensures .1) (c .before .before .before .before .before .before .before .before .before .before .before .find-seed-triangle .kept .1 .1 .0) (c .before .before .before .before .before .before .before .seed .given .1) in
     omega (arith, g .first .below, c .before .before .before .before .before .before .before .before .before .before .before .before .before .before .before .before .before .pre .0 .searchable .held .few)
 
 cast-lay-seed-2 : tie.Need-cast-lay-seed-2
 cast-lay-seed-2 c =
-    let g = free-seed (c .before .before .before .before .before .before .before .before .before .before .before .before .before .before .before .before .before .args .radius) (c .before .before .before .before .before .before .before .before .before .before .before .before .before .before .before .before .before .pre .0) (c .before .before .before .before .before .before .before .before .before .before .before .before .before .clear .ensures) (c .before .before .before .before .before .before .before .before .before .before .before .find-seed-triangle .ensures .0) (c .before .before .before .before .before .before .before .before .before .before .before .find-seed-triangle .ensures .1) (c .before .before .before .before .before .before .before .before .before .before .before .find-seed-triangle .kept .1 .1 .0) (c .before .before .before .before .before .before .before .seed .given .1) in
+    let g = free-seed (c .before .before .before .before .before .before .before .before .before .before .before .before .before .before .before .before .before .args .rule) (c .before .before .before .before .before .before .before .before .before .before .before .before .before .before .before .before .before .args .radius) (c .before .before .before .before .before .before .before .before .before .before .before .before .before .before .before .before .before .pre .0) (c .before .before .before .before .before .before .before .before .before .before .before .before .before .clear .ensures) (c .before .before .before .before .before .before .before .before .before .before .before .find-seed-triangle .ensures .0) (c .before .before .before .before .before .before .before .before .before .before .before .find-seed-triangle .ensures .1) (c .before .before .before .before .before .before .before .before .before .before .before .find-seed-triangle .kept .1 .1 .0) (c .before .before .before .before .before .before .before .seed .given .1) in
     omega (arith, g .second .below, c .before .before .before .before .before .before .before .before .before .before .before .before .before .before .before .before .before .pre .0 .searchable .held .few)
 
 cast-lay-seed-3 : tie.Need-cast-lay-seed-3
 cast-lay-seed-3 c =
-    let g = free-seed (c .before .before .before .before .before .before .before .before .before .before .before .before .before .before .before .before .before .args .radius) (c .before .before .before .before .before .before .before .before .before .before .before .before .before .before .before .before .before .pre .0) (c .before .before .before .before .before .before .before .before .before .before .before .before .before .clear .ensures) (c .before .before .before .before .before .before .before .before .before .before .before .find-seed-triangle .ensures .0) (c .before .before .before .before .before .before .before .before .before .before .before .find-seed-triangle .ensures .1) (c .before .before .before .before .before .before .before .before .before .before .before .find-seed-triangle .kept .1 .1 .0) (c .before .before .before .before .before .before .before .seed .given .1) in
+    let g = free-seed (c .before .before .before .before .before .before .before .before .before .before .before .before .before .before .before .before .before .args .rule) (c .before .before .before .before .before .before .before .before .before .before .before .before .before .before .before .before .before .args .radius) (c .before .before .before .before .before .before .before .before .before .before .before .before .before .before .before .before .before .pre .0) (c .before .before .before .before .before .before .before .before .before .before .before .before .before .clear .ensures) (c .before .before .before .before .before .before .before .before .before .before .before .find-seed-triangle .ensures .0) (c .before .before .before .before .before .before .before .before .before .before .before .find-seed-triangle .ensures .1) (c .before .before .before .before .before .before .before .before .before .before .before .find-seed-triangle .kept .1 .1 .0) (c .before .before .before .before .before .before .before .seed .given .1) in
     omega (arith, g .third .below, c .before .before .before .before .before .before .before .before .before .before .before .before .before .before .before .before .before .pre .0 .searchable .held .few)
 
 lay-seed-requires : tie.Need-lay-seed-requires
-lay-seed-requires c κs = seed-room (c .before .before .before .before .before .before .before .before .before .before .before .before .before .before .before .before .before .args .radius) (c .before .before .before .before .before .before .before .before .before .before .before .before .before .before .before .before .before .pre .0) (c .before .before .before .before .before .before .before .before .before .before .before .before .before .clear .ensures) (c .before .before .before .before .before .before .before .before .before .before .before .find-seed-triangle .ensures .0) (c .before .before .before .before .before .before .before .before .before .before .before .find-seed-triangle .ensures .1) (c .before .before .before .before .before .before .before .before .before .before .before .find-seed-triangle .kept .1 .1 .0) (c .before .before .before .before .before .before .before .seed .given .1) (c .before .before .before .before .remove-three .ensures) (c .before .before .before .before .remove-three .kept .1 .0)
+lay-seed-requires c κs = seed-room (c .before .before .before .before .before .before .before .before .before .before .before .before .before .before .before .before .before .args .rule) (c .before .before .before .before .before .before .before .before .before .before .before .before .before .before .before .before .before .args .radius) (c .before .before .before .before .before .before .before .before .before .before .before .before .before .before .before .before .before .pre .0) (c .before .before .before .before .before .before .before .before .before .before .before .before .before .clear .ensures) (c .before .before .before .before .before .before .before .before .before .before .before .find-seed-triangle .ensures .0) (c .before .before .before .before .before .before .before .before .before .before .before .find-seed-triangle .ensures .1) (c .before .before .before .before .before .before .before .before .before .before .before .find-seed-triangle .kept .1 .1 .0) (c .before .before .before .before .before .before .before .seed .given .1) (c .before .before .before .before .remove-three .ensures) (c .before .before .before .before .remove-three .kept .1 .0)
 
 run-requires : tie.Need-run-requires
-run-requires c κs = seed-between-looks (c .before .before .before .before .before .before .before .before .before .before .before .before .before .before .before .before .before .before .before .before .before .before .before .before .args .radius) (c .before .before .before .before .before .before .before .before .before .before .before .before .before .before .before .before .before .before .before .before .before .before .before .before .pre .0) (c .before .before .before .before .before .before .before .before .before .before .before .before .before .before .before .before .before .before .before .before .clear .ensures) (c .before .before .before .before .before .before .before .before .before .before .before .before .before .before .before .before .before .before .find-seed-triangle .ensures .0) (c .before .before .before .before .before .before .before .before .before .before .before .before .before .before .before .before .before .before .find-seed-triangle .ensures .1) (c .before .before .before .before .before .before .before .before .before .before .before .before .before .before .before .before .before .before .find-seed-triangle .kept .1 .1 .0) (c .before .before .before .before .before .before .before .before .before .before .before .before .before .before .seed .given .1) (c .before .before .before .before .before .before .before .before .before .before .before .remove-three .ensures) (c .before .before .before .before .before .before .before .before .before .before .before .remove-three .kept .1 .0) (c .before .before .before .before .before .before .lay-seed .ensures .0) (c .before .before .before .before .before .before .lay-seed .ensures .1)
+run-requires c κs = seed-between-looks (c .before .before .before .before .before .before .before .before .before .before .before .before .before .before .before .before .before .before .before .before .before .before .before .before .args .rule) (c .before .before .before .before .before .before .before .before .before .before .before .before .before .before .before .before .before .before .before .before .before .before .before .before .args .radius) (c .before .before .before .before .before .before .before .before .before .before .before .before .before .before .before .before .before .before .before .before .before .before .before .before .pre .0) (c .before .before .before .before .before .before .before .before .before .before .before .before .before .before .before .before .before .before .before .before .clear .ensures) (c .before .before .before .before .before .before .before .before .before .before .before .before .before .before .before .before .before .before .find-seed-triangle .ensures .0) (c .before .before .before .before .before .before .before .before .before .before .before .before .before .before .before .before .before .before .find-seed-triangle .ensures .1) (c .before .before .before .before .before .before .before .before .before .before .before .before .before .before .before .before .before .before .find-seed-triangle .kept .1 .1 .0) (c .before .before .before .before .before .before .before .before .before .before .before .before .before .before .seed .given .1) (c .before .before .before .before .before .before .before .before .before .before .before .remove-three .ensures) (c .before .before .before .before .before .before .before .before .before .before .before .remove-three .kept .1 .0) (c .before .before .before .before .before .before .lay-seed .ensures .0) (c .before .before .before .before .before .before .lay-seed .ensures .1)
 
 enum-told : tie.Need-enum-told
 enum-told c = search needs
@@ -49,11 +49,11 @@ same-length : tie.Need-same-length
 same-length c = search needs
 
 same-length-2 : tie.Need-same-length-2
-same-length-2 c = seed-laid (c .before .before .before .before .before .before .before .before .before .before .before .before .before .before .before .before .before .before .before .before .before .before .before .before .before .before .before .before .before .args .radius) (c .before .before .before .before .before .before .before .before .before .before .before .before .before .before .before .before .before .before .before .before .before .before .before .before .before .before .before .before .before .pre .0) (c .before .before .before .before .before .before .before .before .before .before .before .before .before .before .before .before .before .before .before .before .before .before .before .before .before .clear .ensures) (c .before .before .before .before .before .before .before .before .before .before .before .before .before .before .before .before .before .before .before .before .before .before .before .find-seed-triangle .ensures .0) (c .before .before .before .before .before .before .before .before .before .before .before .before .before .before .before .before .before .before .before .before .before .before .before .find-seed-triangle .ensures .1) (c .before .before .before .before .before .before .before .before .before .before .before .before .before .before .before .before .before .before .before .before .before .before .before .find-seed-triangle .kept .1 .1 .0) (c .before .before .before .before .before .before .before .before .before .before .before .before .before .before .before .before .before .before .before .seed .given .1) (c .before .before .before .before .before .before .before .before .before .before .before .before .before .before .before .before .remove-three .ensures) (c .before .before .before .before .before .before .before .before .before .before .before .before .before .before .before .before .remove-three .kept .1 .0) (c .before .before .before .before .before .before .before .before .before .before .before .lay-seed .ensures .0) (c .before .before .before .before .before .before .before .before .before .before .before .lay-seed .ensures .1) (c .before .before .before .before .run .ensures) .length-same
+same-length-2 c = seed-laid (c .before .before .before .before .before .before .before .before .before .before .before .before .before .before .before .before .before .before .before .before .before .before .before .before .before .before .before .before .before .args .rule) (c .before .before .before .before .before .before .before .before .before .before .before .before .before .before .before .before .before .before .before .before .before .before .before .before .before .before .before .before .before .args .radius) (c .before .before .before .before .before .before .before .before .before .before .before .before .before .before .before .before .before .before .before .before .before .before .before .before .before .before .before .before .before .pre .0) (c .before .before .before .before .before .before .before .before .before .before .before .before .before .before .before .before .before .before .before .before .before .before .before .before .before .clear .ensures) (c .before .before .before .before .before .before .before .before .before .before .before .before .before .before .before .before .before .before .before .before .before .before .before .find-seed-triangle .ensures .0) (c .before .before .before .before .before .before .before .before .before .before .before .before .before .before .before .before .before .before .before .before .before .before .before .find-seed-triangle .ensures .1) (c .before .before .before .before .before .before .before .before .before .before .before .before .before .before .before .before .before .before .before .before .before .before .before .find-seed-triangle .kept .1 .1 .0) (c .before .before .before .before .before .before .before .before .before .before .before .before .before .before .before .before .before .before .before .seed .given .1) (c .before .before .before .before .before .before .before .before .before .before .before .before .before .before .before .before .remove-three .ensures) (c .before .before .before .before .before .before .before .before .before .before .before .before .before .before .before .before .remove-three .kept .1 .0) (c .before .before .before .before .before .before .before .before .before .before .before .lay-seed .ensures .0) (c .before .before .before .before .before .before .before .before .before .before .before .lay-seed .ensures .1) (c .before .before .before .before .run .ensures) .length-same
 
 returns : tie.Need-returns
 returns c = (
-  seed-laid (c .before .before .before .before .before .before .before .before .before .before .before .before .before .before .before .before .before .before .before .before .before .before .before .before .before .before .before .before .before .args .radius) (c .before .before .before .before .before .before .before .before .before .before .before .before .before .before .before .before .before .before .before .before .before .before .before .before .before .before .before .before .before .pre .0) (c .before .before .before .before .before .before .before .before .before .before .before .before .before .before .before .before .before .before .before .before .before .before .before .before .before .clear .ensures) (c .before .before .before .before .before .before .before .before .before .before .before .before .before .before .before .before .before .before .before .before .before .before .before .find-seed-triangle .ensures .0) (c .before .before .before .before .before .before .before .before .before .before .before .before .before .before .before .before .before .before .before .before .before .before .before .find-seed-triangle .ensures .1) (c .before .before .before .before .before .before .before .before .before .before .before .before .before .before .before .before .before .before .before .before .before .before .before .find-seed-triangle .kept .1 .1 .0) (c .before .before .before .before .before .before .before .before .before .before .before .before .before .before .before .before .before .before .before .seed .given .1) (c .before .before .before .before .before .before .before .before .before .before .before .before .before .before .before .before .remove-three .ensures) (c .before .before .before .before .before .before .before .before .before .before .before .before .before .before .before .before .remove-three .kept .1 .0) (c .before .before .before .before .before .before .before .before .before .before .before .lay-seed .ensures .0) (c .before .before .before .before .before .before .before .before .before .before .before .lay-seed .ensures .1) (c .before .before .before .before .run .ensures),
+  seed-laid (c .before .before .before .before .before .before .before .before .before .before .before .before .before .before .before .before .before .before .before .before .before .before .before .before .before .before .before .before .before .args .rule) (c .before .before .before .before .before .before .before .before .before .before .before .before .before .before .before .before .before .before .before .before .before .before .before .before .before .before .before .before .before .args .radius) (c .before .before .before .before .before .before .before .before .before .before .before .before .before .before .before .before .before .before .before .before .before .before .before .before .before .before .before .before .before .pre .0) (c .before .before .before .before .before .before .before .before .before .before .before .before .before .before .before .before .before .before .before .before .before .before .before .before .before .clear .ensures) (c .before .before .before .before .before .before .before .before .before .before .before .before .before .before .before .before .before .before .before .before .before .before .before .find-seed-triangle .ensures .0) (c .before .before .before .before .before .before .before .before .before .before .before .before .before .before .before .before .before .before .before .before .before .before .before .find-seed-triangle .ensures .1) (c .before .before .before .before .before .before .before .before .before .before .before .before .before .before .before .before .before .before .before .before .before .before .before .find-seed-triangle .kept .1 .1 .0) (c .before .before .before .before .before .before .before .before .before .before .before .before .before .before .before .before .before .before .before .seed .given .1) (c .before .before .before .before .before .before .before .before .before .before .before .before .before .before .before .before .remove-three .ensures) (c .before .before .before .before .before .before .before .before .before .before .before .before .before .before .before .before .remove-three .kept .1 .0) (c .before .before .before .before .before .before .before .before .before .before .before .lay-seed .ensures .0) (c .before .before .before .before .before .before .before .before .before .before .before .lay-seed .ensures .1) (c .before .before .before .before .run .ensures),
   λ h. absurd (known-seedless (c .before .before .before .before .before .before .before .before .before .before .before .before .before .before .before .before .before .before .before .before .before .before .before .find-seed-triangle .ensures .0) (c .before .before .before .before .before .before .before .before .before .before .before .before .before .before .before .before .before .before .before .before .before .before .before .before .before .before .before .before .before .pre .1 h) (c .before .before .before .before .before .before .before .before .before .before .before .before .before .before .before .before .before .before .before .seed .given .1)),
 )
 
@@ -62,7 +62,7 @@ same-length-3 c = search needs
 
 returns-2 : tie.Need-returns-2
 returns-2 c = (
-  no-seed (c .before .before .before .before .before .before .before .before .before .before .args .radius) (c .before .before .before .before .before .before .before .before .before .before .pre .0) (c .before .before .before .before .before .before .clear .ensures) (c .before .before .before .before .find-seed-triangle .ensures .0) (c .before .before .before .before .find-seed-triangle .ensures .1) (c .before .before .before .before .find-seed-triangle .kept .1 .1 .0) (c .enum-told .given .1),
+  no-seed (c .before .before .before .before .before .before .before .before .before .before .args .rule) (c .before .before .before .before .before .before .before .before .before .before .args .radius) (c .before .before .before .before .before .before .before .before .before .before .pre .0) (c .before .before .before .before .before .before .clear .ensures) (c .before .before .before .before .find-seed-triangle .ensures .0) (c .before .before .before .before .find-seed-triangle .ensures .1) (c .before .before .before .before .find-seed-triangle .kept .1 .1 .0) (c .enum-told .given .1),
   λ h. ap (take (c .before .before .before .before .before .before .before .before .before .before .args .s .n)) (c .before .before .before .before .find-seed-triangle .ensures .1 .after),
 )
 

@@ -33,9 +33,16 @@ returns-4 : tie.Need-returns-4
 unfolding firstFailing
 returns-4 c = rw (passed (c .before .before .before .before .before .before .before .in-range .ensures) (c .before .before .before .before .before .before .if1 .left), passed (c .before .before .before .before .before .in-range2 .ensures) (c .before .before .before .before .if2 .left), passed (c .before .before .before .in-range3 .ensures) (c .before .before .if3 .left), failed (c .before .in-range4 .ensures) (c .if4 .taken))
 
+is-rule-requires : tie.Need-is-rule-requires
+is-rule-requires c κs = search needs
+
 returns-5 : tie.Need-returns-5
 unfolding firstFailing
-returns-5 c = rw (passed (c .before .before .before .before .before .before .before .in-range .ensures) (c .before .before .before .before .before .before .if1 .left), passed (c .before .before .before .before .before .in-range2 .ensures) (c .before .before .before .before .if2 .left), passed (c .before .before .before .in-range3 .ensures) (c .before .before .if3 .left), passed (c .before .in-range4 .ensures) (c .if4 .left))
+returns-5 c = rw (passed (c .before .before .before .before .before .before .before .before .before .in-range .ensures) (c .before .before .before .before .before .before .before .before .if1 .left), passed (c .before .before .before .before .before .before .before .in-range2 .ensures) (c .before .before .before .before .before .before .if2 .left), passed (c .before .before .before .before .before .in-range3 .ensures) (c .before .before .before .before .if3 .left), passed (c .before .before .before .in-range4 .ensures) (c .before .before .if4 .left), failed (c .before .is-rule .ensures) (c .if5 .taken))
+
+returns-6 : tie.Need-returns-6
+unfolding firstFailing
+returns-6 c = rw (passed (c .before .before .before .before .before .before .before .before .before .in-range .ensures) (c .before .before .before .before .before .before .before .before .if1 .left), passed (c .before .before .before .before .before .before .before .in-range2 .ensures) (c .before .before .before .before .before .before .if2 .left), passed (c .before .before .before .before .before .in-range3 .ensures) (c .before .before .before .before .if3 .left), passed (c .before .before .before .in-range4 .ensures) (c .before .before .if4 .left), passed (c .before .is-rule .ensures) (c .if5 .left))
 
 pub first-bad-threshold-spec : {M : Type 1} → statement M
 first-bad-threshold-spec =
@@ -49,4 +56,6 @@ first-bad-threshold-spec =
     returns-3
     in-range-requires-4
     returns-4
-    returns-5)
+    is-rule-requires
+    returns-5
+    returns-6)

@@ -26,7 +26,7 @@ array-read-reason-after c = search needs
 reason-after-requires : tie.Need-reason-after-requires
 reason-after-requires c κs =
     let h = c .before .before .before .before .before .advanced-ball-pivoting .ensures in
-    λ z. fresh-after (take (c .before .before .before .before .before .before .before .before .before .before .before .before .before .args .radii .count) (c .before .before .before .before .before .before .before .before .before .before .before .before .before .args .radii .list)) (h .0) (h .1) z
+    λ z. fresh-after (c .before .before .before .before .before .before .before .before .before .before .before .before .before .args .rule) (take (c .before .before .before .before .before .before .before .before .before .before .before .before .before .args .radii .count) (c .before .before .before .before .before .before .before .before .before .before .before .before .before .args .radii .list)) (h .0) (h .1) z
 
 same-length : tie.Need-same-length
 same-length c = search needs
@@ -42,7 +42,7 @@ returns c =
     let p = c .before .before .before .before .before .before .before .before .before .before .before .before .before .before .before .before .pre in
     record {
       faces = h .faces-count;
-      few = omega (arith, h .faces-count, p .0 .held .few, laid-few (a .scene) (a .points .now) (take (a .radii .count) (a .radii .list)));
+      few = omega (arith, h .faces-count, p .0 .held .few, laid-few (a .rule) (a .scene) (a .points .now) (take (a .radii .count) (a .radii .list)));
       seeds = h .seeds-count;
       looks = h .looks;
       pivots = h .pivots;
