@@ -30,6 +30,13 @@ pub record AcceptedEstimate (points : List Float) (percentile : Float) (words fl
   pub percentile-inside : percentileInside percentile ≡ true
   pub room : Room (length points / 3) words floats
 
+-- 1 to 5
+pub record AcceptedInput (points normals : List Float) (settings : BallPivotingConfig) : Type 0 where
+  pub cloud : Cloud (length points / 3) points
+  pub as-long : length normals ≡ length points
+  pub finite : Within largest normals
+  pub settled : Settled settings
+
 pub record AcceptedReconstruct (points normals : List Float) (settings : BallPivotingConfig) (words floats : ℕ)
     : Type 0 where
   pub cloud : Cloud (length points / 3) points

@@ -46,24 +46,30 @@ pointCheck n bad = check (leb n bad) outsidePoint bad
 abbrev pub settingCheck : ℕ → Check
 settingCheck bad = check (eqb bad 0) outsideSetting bad
 
--- the estimate: 1, 2, 3, 4, 6, 7; it has no normals, so of 2 only the first half can fail
+-- 1 to 4 of a cloud without normals, so of 2 only the first half can fail
+abbrev pub pointsChecks : List Float → List Check
+pointsChecks points =
+    sizeChecks (length points) (length points) ++ (pointCheck (length points / 3) (firstOutside farthest points) ∷ [])
+
+-- 1 to 5: what every call with normals and settings asks first
+abbrev pub inputChecks : List Float → List Float → BallPivotingConfig → List Check
+inputChecks points normals settings =
+    sizeChecks (length points) (length normals)
+    ++ (pointCheck (length points / 3) (firstBadPoint points normals) ∷ settingCheck (firstBadSetting settings) ∷ [])
+
+-- 7: what every call with work slices asks last
+abbrev pub workChecks : ℕ → ℕ → ℕ → List Check
+workChecks n words floats = check (roomy n words floats) shortWork 0 ∷ []
+
+-- the estimate: 1, 2, 3, 4, 6, 7
 unfoldable pub estimateRefusal : List Float → Float → ℕ → ℕ → Refusal
 estimateRefusal points percentile words floats =
-    let n = length points / 3 in
     firstRefusal
-    (sizeChecks (length points) (length points)
-    ++ (pointCheck n (firstOutside farthest points)
-    ∷ check (percentileInside percentile) outsidePercentile 0
-    ∷ check (roomy n words floats) shortWork 0
-    ∷ []))
+    (pointsChecks points
+    ++ (check (percentileInside percentile) outsidePercentile 0
+    ∷ workChecks (length points / 3) words floats))
 
 -- the reconstruction: 1, 2, 3, 4, 5, 7
 unfoldable pub reconstructRefusal : List Float → List Float → BallPivotingConfig → ℕ → ℕ → Refusal
 reconstructRefusal points normals settings words floats =
-    let n = length points / 3 in
-    firstRefusal
-    (sizeChecks (length points) (length normals)
-    ++ (pointCheck n (firstBadPoint points normals)
-    ∷ settingCheck (firstBadSetting settings)
-    ∷ check (roomy n words floats) shortWork 0
-    ∷ []))
+    firstRefusal (inputChecks points normals settings ++ workChecks (length points / 3) words floats)

@@ -1,109 +1,57 @@
 -- What the checks decide of a call's result and of its slices. Assumes nothing.
 use mathlib.Core.Path.{_≡_, refl, sym, ap, _∙_}
-use mathlib.Core.Bool.{Bool, true, false, _&&_}
+use mathlib.Core.Bool.{Bool, true, false}
 use mathlib.Core.List.{List, [], _∷_, _++_}
-use Prim.Native.Nat.{ℕ, _+_, _/_, _%_, _≤_, _<_}
+use Prim.Native.Nat.{ℕ, _/_, _≤_, _<_}
 use native.Mathlib.Omega.{arith}
 use borrow.Author.Tests.{eq-eqb, ne-eqb, le-leb, lt-leb, leb-true}
-use lib.Dec.{leb, ltb, eqb}
+use lib.Dec.{leb}
 use lib.ListN.{length, drop, replicate}
-use lib.Ieee.{Float, le, ofBits}
+use lib.Ieee.{Float}
 use Rattle.numbers.specs.Rounded.{f32}
-use Rattle.ranges.specs.Range.{inside, firstOutside, farthest, percentileInside}
 use Rattle.domain.specs.declared.Refusal.{Refusal}
-use Rattle.domain.specs.Refusals.{check, refusal, firstRefusal, roomy, estimateRefusal}
-use Rattle.domain.specs.Accepted.{AcceptedEstimate}
-use Rattle.domain.proofs.Accepted.{accepted-estimate}
+use Rattle.domain.specs.Refusals.{Check, check, refusal, firstRefusal, pointsChecks, workChecks}
+use Rattle.domain.specs.Accepted.{Room}
+use Rattle.domain.proofs.Refusals.{check-passed, check-failed, check-accepted, numbered, row-refused, row-passed, rows-accepted}
+use Rattle.domain.proofs.Accepted.{accepted-points, accepted-work}
 use Rattle.clearing.specs.Swept.{swept}
 use Rattle.kd_tree.specs.Tree.{indexSize, built, belongs}
 use Rattle.point_index.specs.Index.{indexRefusal, accepted, Fits, Builds, Tells}
 
--- ---- five checks, and the last with one more condition
-abbrev five : Bool → Bool → Bool → ℕ → Bool → Bool → Refusal
-five a b c bad d e = firstRefusal (check a 1 0 ∷ check b 2 0 ∷ check c 3 0 ∷ check d 4 bad ∷ check e 7 0 ∷ [])
-
-more-refused : (a b c d e k : Bool) (bad : ℕ) → (five a b c bad d e .answer ≡ 0 → ⊥) → five a b c bad d e ≡ five a b c bad d (e && k)
-unfolding firstRefusal
-more-refused false b c d e k bad h = refl
-more-refused true false c d e k bad h = refl
-more-refused true true false d e k bad h = refl
-more-refused true true true false e k bad h = refl
-more-refused true true true true false k bad h = refl
-more-refused true true true true true k bad h = absurd (h refl)
-
-more-short : (a b c d e : Bool) (bad : ℕ) → five a b c bad d e .answer ≡ 0 → refusal 7 0 ≡ five a b c bad d (e && false)
-unfolding firstRefusal
-more-short false b c d e bad h = absurd (omega arith)
-more-short true false c d e bad h = absurd (omega arith)
-more-short true true false d e bad h = absurd (omega arith)
-more-short true true true false e bad h = absurd (omega arith)
-more-short true true true true false bad h = absurd (omega arith)
-more-short true true true true true bad h = refl
-
-more-passed : (a b c d e : Bool) (bad : ℕ) → five a b c bad d e .answer ≡ 0 → five a b c bad d e ≡ five a b c bad d (e && true)
-unfolding firstRefusal
-more-passed false b c d e bad h = refl
-more-passed true false c d e bad h = refl
-more-passed true true false d e bad h = refl
-more-passed true true true false e bad h = refl
-more-passed true true true true false bad h = refl
-more-passed true true true true true bad h = refl
-
-middle-passes : percentileInside (f32 0x3f000000) ≡ true
-unfolding percentileInside inside le ofBits
-middle-passes = refl
-
--- the first four tests of a cloud, and then another
-abbrev then : List Float → Bool → Refusal
-then points e =
-    let n = length points / 3 in
-    five (ltb 0 (length points)) (eqb (length points % 3) 0 && eqb (length points) (length points)) (leb n 4096) (firstOutside farthest points) (leb n (firstOutside farthest points)) e
-
+-- ---- three rows of checks
 module _ (points : List Float) (index words floats : ℕ) where
   abbrev n : ℕ
   n = length points / 3
 
-  estimate-is : estimateRefusal points (f32 0x3f000000) words floats
-      ≡ then points (roomy n words floats)
-  unfolding estimateRefusal firstRefusal
-  estimate-is = rw (middle-passes)
+  abbrev lastCheck : Check
+  lastCheck = check (leb (indexSize n) index) 7 0
 
-  index-is : indexRefusal points index words floats
-      ≡ then points (roomy n words floats && leb (indexSize n) index)
-  unfolding indexRefusal
-  index-is = refl
+  abbrev rest : List Check
+  rest = workChecks n words floats ++ (lastCheck ∷ [])
 
-  module _ (r : Refusal) (e : r ≡ estimateRefusal points (f32 0x3f000000) words floats) where
-    answer-is : then points (roomy n words floats) .answer ≡ r .answer
-    answer-is = ap (λ (q : Refusal). q .answer) (sym (e ∙ estimate-is))
+  module _ (r : Refusal) (e : r ≡ firstRefusal (pointsChecks points)) where
+    pub refused-points : (r .answer ≡ 0 → ⊥) → r ≡ indexRefusal points index words floats
+    unfolding indexRefusal numbered
+    refused-points h = row-refused (pointsChecks points) rest refl r e h
 
-    pub refused-before : (r .answer ≡ 0 → ⊥) → r ≡ indexRefusal points index words floats
-    refused-before h = e ∙ estimate-is ∙ more-refused _ _ _ _ _ (leb (indexSize n) index) _ (λ z. h (sym answer-is ∙ z)) ∙ sym index-is
+    module _ (z : r .answer ≡ 0) (w : Refusal) (f : w ≡ firstRefusal (workChecks n words floats)) where
+      pub refused-work : (w .answer ≡ 0 → ⊥) → w ≡ indexRefusal points index words floats
+      unfolding indexRefusal numbered
+      refused-work h = row-refused (workChecks n words floats) (lastCheck ∷ []) refl w f h ∙ sym (row-passed (pointsChecks points) rest refl r e z)
 
-    pub refused-index : r .answer ≡ 0 → index < indexSize n → refusal 7 0 ≡ indexRefusal points index words floats
-    refused-index h l =
-        more-short (ltb 0 (length points)) (eqb (length points % 3) 0 && eqb (length points) (length points)) (leb n 4096) (leb n (firstOutside farthest points)) (roomy n words floats) (firstOutside farthest points) (answer-is ∙ h)
-        ∙ ap (λ (t : Bool). then points (roomy n words floats && t)) (sym (lt-leb (indexSize n) index l))
-        ∙ sym index-is
+      module _ (y : w .answer ≡ 0) where
+        to-last : indexRefusal points index words floats ≡ firstRefusal (lastCheck ∷ [])
+        unfolding indexRefusal numbered
+        to-last = row-passed (pointsChecks points) rest refl r e z ∙ row-passed (workChecks n words floats) (lastCheck ∷ []) refl w f y
 
-    pub refused-none : r .answer ≡ 0 → indexSize n ≤ index → r ≡ indexRefusal points index words floats
-    refused-none h l =
-        e ∙ estimate-is
-        ∙ more-passed (ltb 0 (length points)) (eqb (length points % 3) 0 && eqb (length points) (length points)) (leb n 4096) (leb n (firstOutside farthest points)) (roomy n words floats) (firstOutside farthest points) (answer-is ∙ h)
-        ∙ ap (λ (t : Bool). then points (roomy n words floats && t)) (sym (le-leb (indexSize n) index l))
-        ∙ sym index-is
+        pub refused-index : index < indexSize n → refusal 7 0 ≡ indexRefusal points index words floats
+        refused-index l = sym (to-last ∙ check-failed lastCheck [] (lt-leb (indexSize n) index l))
+
+        pub refused-none : indexSize n ≤ index → refusal 0 0 ≡ indexRefusal points index words floats
+        unfolding firstRefusal
+        refused-none l = sym (to-last ∙ check-passed lastCheck [] (le-leb (indexSize n) index l))
 
 -- ---- what holds where nothing is refused
-more-accepted : (a b c d e k : Bool) (bad : ℕ) → five a b c bad d (e && k) .answer ≡ 0 → (five a b c bad d e ≡ refusal 0 0) × (k ≡ true) × (five a b c bad d (e && k) ≡ refusal 0 0)
-unfolding firstRefusal
-more-accepted false b c d e k bad h = absurd (omega arith)
-more-accepted true false c d e k bad h = absurd (omega arith)
-more-accepted true true false d e k bad h = absurd (omega arith)
-more-accepted true true true false e k bad h = absurd (omega arith)
-more-accepted true true true true false k bad h = absurd (omega arith)
-more-accepted true true true true true false bad h = absurd (omega arith)
-more-accepted true true true true true true bad h = (refl, refl, refl)
-
 module _ (points : List Float) (index words : List ℕ) (floats : List Float) where
   abbrev told : Refusal
   told = indexRefusal points (length index) (length words) (length floats)
@@ -116,24 +64,31 @@ module _ (points : List Float) (index words : List ℕ) (floats : List Float) wh
     same-answer = ap (λ (q : Refusal). q .answer) e
 
     module _ (h : r .answer ≡ 0) where
-      parts : (then points (roomy (length points / 3) (length words) (length floats)) ≡ refusal 0 0) × (leb (indexSize (length points / 3)) (length index) ≡ true)
-          × (then points (roomy (length points / 3) (length words) (length floats) && leb (indexSize (length points / 3)) (length index)) ≡ refusal 0 0)
-      parts =
-          more-accepted (ltb 0 (length points)) (eqb (length points % 3) 0 && eqb (length points) (length points)) (leb (length points / 3) 4096) (leb (length points / 3) (firstOutside farthest points))
-          (roomy (length points / 3) (length words) (length floats)) (leb (indexSize (length points / 3)) (length index)) (firstOutside farthest points)
-          (ap (λ (q : Refusal). q .answer) (sym (e ∙ index-is points (length index) (length words) (length floats))) ∙ h)
+      abbrev size : ℕ
+      size = length points / 3
 
-      estimated : AcceptedEstimate points (f32 0x3f000000) (length words) (length floats)
-      estimated = accepted-estimate points (f32 0x3f000000) (length words) (length floats) (ap (λ (q : Refusal). q .answer) (estimate-is points (length index) (length words) (length floats) ∙ parts .0))
+      points-and-rest : (firstRefusal (pointsChecks points) .answer ≡ 0) × (firstRefusal (rest points (length index) (length words) (length floats)) .answer ≡ 0)
+      unfolding indexRefusal numbered
+      points-and-rest = rows-accepted (pointsChecks points) (rest points (length index) (length words) (length floats)) refl (sym same-answer ∙ h)
+
+      work-and-last : (firstRefusal (workChecks size (length words) (length floats)) .answer ≡ 0) × (firstRefusal (lastCheck points (length index) (length words) (length floats) ∷ []) .answer ≡ 0)
+      unfolding numbered
+      work-and-last = rows-accepted (workChecks size (length words) (length floats)) (lastCheck points (length index) (length words) (length floats) ∷ []) refl (points-and-rest .1)
+
+      room : Room size (length words) (length floats)
+      room = accepted-work size (length words) (length floats) (work-and-last .0)
+
+      index-fits : indexSize size ≤ length index
+      index-fits = leb-true (indexSize size) (length index) (check-accepted (lastCheck points (length index) (length words) (length floats)) [] (λ z. omega arith) (work-and-last .1) .0)
 
       pub in-domain : Fits points (length index) (length floats)
-      in-domain = record { cloud = estimated .cloud; index-enough = leb-true (indexSize (length points / 3)) (length index) (parts .1); floats-enough = estimated .room .floats-enough }
+      in-domain = record { cloud = accepted-points points (points-and-rest .0); index-enough = index-fits; floats-enough = room .floats-enough }
 
-      pub words-fit : indexSize (length points / 3) ≤ length words
-      words-fit = omega (arith, estimated .room .words-enough)
+      pub words-fit : indexSize size ≤ length words
+      words-fit = omega (arith, room .words-enough)
 
       nothing : told ≡ refusal 0 0
-      nothing = index-is points (length index) (length words) (length floats) ∙ parts .2
+      nothing = sym (refused-none points (length index) (length words) (length floats) (firstRefusal (pointsChecks points)) refl (points-and-rest .0) (firstRefusal (workChecks size (length words) (length floats))) refl (work-and-last .0) index-fits)
 
       yes : passes ≡ true
       yes = eq-eqb (told .answer) 0 (sym same-answer ∙ h)

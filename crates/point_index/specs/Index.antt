@@ -1,6 +1,6 @@
 -- The index of a cloud: the calls that build it and that tell whether one belongs to a cloud. Definitions only.
 use Prim.Native.Nat.{ℕ, _/_, _*_, _+_, _≤_}
-use mathlib.Core.Bool.{Bool, false, cond, _&&_}
+use mathlib.Core.Bool.{Bool, false, cond}
 use mathlib.Core.Path.{_≡_}
 use mathlib.Core.List.{List, [], _∷_, _++_}
 use lib.Dec.{leb, eqb}
@@ -8,24 +8,20 @@ use lib.ListN.{length, drop}
 use lib.Ieee.{Float}
 use Rattle.answers.specs.Answers.{shortWork}
 use Rattle.numbers.specs.Rounded.{f32}
-use Rattle.ranges.specs.Range.{firstOutside, farthest}
 use Rattle.domain.specs.declared.Refusal.{Refusal}
-use Rattle.domain.specs.Refusals.{check, firstRefusal, roomy, sizeChecks, pointCheck}
+use Rattle.domain.specs.Refusals.{check, firstRefusal, pointsChecks, workChecks}
 use Rattle.domain.specs.Accepted.{Cloud}
 use Rattle.clearing.specs.Swept.{swept}
 use Rattle.kd_tree.specs.Tree.{indexSize, built, belongs}
 use Rattle.point_index.specs.declared.Indexed.{Indexed}
 use Rattle.point_index.specs.declared.Belongs.{Belongs}
 
--- 1 to 4 as for the estimate, then 7: work as in the scope, or an index of fewer than 8n + 64 numbers
+-- 1 to 4 as for the estimate, then 7: for work as in the scope, and for an index of fewer than 8n + 64 numbers
 unfoldable pub indexRefusal : List Float → ℕ → ℕ → ℕ → Refusal
 indexRefusal points index words floats =
     let n = length points / 3 in
     firstRefusal
-    (sizeChecks (length points) (length points)
-    ++ (pointCheck n (firstOutside farthest points)
-    ∷ check (roomy n words floats && leb (indexSize n) index) shortWork 0
-    ∷ []))
+    (pointsChecks points ++ (workChecks n words floats ++ (check (leb (indexSize n) index) shortWork 0 ∷ [])))
 
 -- whether the checks pass, for slices of these lengths
 abbrev pub accepted : List Float → ℕ → ℕ → ℕ → Bool

@@ -27,21 +27,29 @@ pub struct Belongs {
     pub belongs: bool,
 }
 
-// What the checks answer, for slices of the given lengths. The estimate's are the same for a percentile that passes.
+// What the checks answer, for slices of the given lengths.
 pub fn refusal_of_index(points: &[f32], index: usize, words: usize, floats: usize) -> Refusal
     ensures { λ r. ⌜ r ≡ indexRefusal (now (points .entry)) index words floats ⌝ }
 {
-    let refusal = domain::refusal_of_estimate(points, 0.5, words, floats);
+    let refusal = domain::refusal_of_points(points);
     if refusal.answer != 0 {
         return refusal;
     }
-    if index < 8 * (points.len() / 3) + 64 {
+    let n = points.len() / 3;
+    let work = domain::refusal_of_work(n, words, floats);
+    if work.answer != 0 {
+        return work;
+    }
+    if index < 8 * n + 64 {
         return Refusal {
             answer: answers::WORK,
             detail: 0,
         };
     }
-    refusal
+    Refusal {
+        answer: 0,
+        detail: 0,
+    }
 }
 
 // The numbers of all points as the splits leave them, and the boxes at the front of the floats; answers where these

@@ -1,4 +1,4 @@
--- Laws of the checks: those of the main call with room for the most points, then those of the three numbers; and what holds where all pass. Assumes nothing.
+-- Laws of the checks: 1 to 5 of the main call, then those of the three numbers; and what holds where all pass. Assumes nothing.
 use mathlib.Core.Path.{_≡_, refl, sym, ap, _∙_, subst}
 use mathlib.Core.Bool.{Bool, true, false, cond, _&&_, not}
 use mathlib.Core.Logic.{_≢_}
@@ -10,14 +10,12 @@ use lib.ListN.{length}
 use lib.Ieee.{Float}
 use borrow.Author.Tests.{lt-ltb, le-ltb, le-leb, eq-eqb, ne-eqb, ltb-true, leb-true, eqb-true}
 use Rattle.lists.proofs.Bools.{and-both}
-use Rattle.ranges.specs.Range.{firstBadPoint}
-use Rattle.settings.specs.Settings.{firstBadSetting}
 use Rattle.settings.specs.declared.BallPivotingConfig.{BallPivotingConfig}
-use Rattle.domain.specs.Refusals.{Check, check, refusal, firstRefusal, roomy, reconstructRefusal}
-use Rattle.domain.specs.Accepted.{AcceptedReconstruct}
+use Rattle.domain.specs.Refusals.{Check, check, refusal, firstRefusal, inputChecks}
+use Rattle.domain.specs.Accepted.{AcceptedInput}
 use Rattle.domain.specs.declared.Refusal.{Refusal}
-use Rattle.domain.proofs.Refusals.{check-accepted}
-use Rattle.domain.proofs.Accepted.{accepted-reconstruct}
+use Rattle.domain.proofs.Refusals.{check-accepted, numbered, row-refused, row-passed, rows-accepted}
+use Rattle.domain.proofs.Accepted.{accepted-input}
 use Rattle.verdict.specs.Judged.{numberChecks, judgeRefusal, verdictAt, judged}
 use Rattle.verdict.specs.declared.Verdict.{Verdict}
 use Rattle.verdict.specs.declared.Judgement.the-variants.{Refused, Told}
@@ -69,64 +67,35 @@ module _ (n i j k : ℕ) where
       let b = and-both {p = ltb i n} {q = ltb j n} (a .0) in
       (ltb-true i n (b .0), ltb-true j n (b .1), ltb-true k n (a .1))
 
--- ---- 1 to 5, from those of the main call where 7 can't come
-abbrev row : Bool → Bool → Bool → Bool → Bool → ℕ → ℕ → List Check → List Check
-row a b c d e bad setting rest = check a 1 0 ∷ check b 2 0 ∷ check c 3 0 ∷ check d 4 bad ∷ check e 5 setting ∷ rest
-
-row-then : (a b c d e w : Bool) (bad setting : ℕ) (rest : List Check) → (c ≡ true → w ≡ true)
-    → firstRefusal (row a b c d e bad setting rest)
-    ≡ cond (eqb (firstRefusal (row a b c d e bad setting (check w 7 0 ∷ [])) .answer) 0) (firstRefusal rest) (firstRefusal (row a b c d e bad setting (check w 7 0 ∷ [])))
-unfolding firstRefusal
-row-then false b c d e w bad setting rest h = refl
-row-then true false c d e w bad setting rest h = refl
-row-then true true false d e w bad setting rest h = refl
-row-then true true true false e w bad setting rest h = refl
-row-then true true true true false w bad setting rest h = refl
-row-then true true true true true w bad setting rest h = rw (h refl)
-
-ample : (n : ℕ) → leb n 4096 ≡ true → roomy n 98368 16448 ≡ true
-unfolding roomy
-ample n e = let h = leb-true n 4096 e in rw (le-leb (24 * n + 64) 98368 (omega arith), le-leb (4 * n + 64) 16448 (omega arith))
-
--- of two refusals in turn
-both-none : (r x : Refusal) → cond (eqb (r .answer) 0) x r .answer ≡ 0 → (r .answer ≡ 0) × (x .answer ≡ 0)
-both-none r x e = go (eqb (r .answer) 0) refl
-  where
-    go : (b : Bool) → eqb (r .answer) 0 ≡ b → (r .answer ≡ 0) × (x .answer ≡ 0)
-    go true q = (eqb-true (r .answer) 0 q, ap (λ (t : Bool). cond t x r .answer) (sym q) ∙ e)
-    go false q = let z = ap (λ (t : Bool). cond t x r .answer) (sym q) ∙ e in absurd (subst T (sym (eq-eqb (r .answer) 0 z) ∙ q) tt)
-
+-- ---- 1 to 5, then the numbers
 module _ (points normals : List Float) (settings : BallPivotingConfig) (i j k : ℕ) where
   abbrev n : ℕ
   n = length points / 3
 
-  abbrev main : Refusal
-  main = reconstructRefusal points normals settings 98368 16448
+  abbrev first : List Check
+  first = inputChecks points normals settings
 
-  judge-is : judgeRefusal points normals settings i j k ≡ cond (eqb (main .answer) 0) (firstRefusal (numberChecks n i j k)) main
-  unfolding judgeRefusal reconstructRefusal
-  judge-is =
-      row-then (ltb 0 (length points)) (eqb (length points % 3) 0 && eqb (length normals) (length points)) (leb n 4096) (leb n (firstBadPoint points normals)) (eqb (firstBadSetting settings) 0) (roomy n 98368 16448)
-      (firstBadPoint points normals) (firstBadSetting settings) (numberChecks n i j k) (ample n)
+  pub judge-first : (r : Refusal) → r ≡ firstRefusal first → r .answer ≢ 0 → r ≡ judgeRefusal points normals settings i j k
+  unfolding judgeRefusal numbered
+  judge-first r e h = row-refused first (numberChecks n i j k) refl r e h
 
-  pub judge-main : (r : Refusal) → r ≡ main → r .answer ≢ 0 → r ≡ judgeRefusal points normals settings i j k
-  judge-main r e h = rw (judge-is, ← e, ne-eqb (r .answer) 0 h)
-
-  pub judge-numbers : (r : Refusal) (answer : ℕ) → r ≡ main → r .answer ≡ 0 → answer ≡ firstRefusal (numberChecks n i j k) .answer
+  pub judge-numbers : (r : Refusal) (answer : ℕ) → r ≡ firstRefusal first → r .answer ≡ 0 → answer ≡ firstRefusal (numberChecks n i j k) .answer
       → refusal answer 0 ≡ judgeRefusal points normals settings i j k
+  unfolding judgeRefusal numbered
   judge-numbers r answer e z is =
       ap (λ (a : ℕ). refusal a 0) is ∙ numbers-plain n i j k (ltb i n && ltb j n && ltb k n) (not (eqb i j) && not (eqb j k) && not (eqb k i))
-      ∙ sym (judge-is ∙ rw (← e, eq-eqb (r .answer) 0 z))
+      ∙ sym (row-passed first (numberChecks n i j k) refl r e z)
 
   -- what holds where all checks pass
   pub record AcceptedJudging : Type 0 where
-    pub accepted : AcceptedReconstruct points normals settings 98368 16448
+    pub accepted : AcceptedInput points normals settings
     pub inside : (i < n) × (j < n) × (k < n)
 
   pub accepted-judging : judgeRefusal points normals settings i j k .answer ≡ 0 → AcceptedJudging
+  unfolding judgeRefusal numbered
   accepted-judging e =
-      let b = both-none main (firstRefusal (numberChecks n i j k)) (ap (λ (r : Refusal). r .answer) (sym judge-is) ∙ e) in
-      record { accepted = accepted-reconstruct points normals settings 98368 16448 (b .0); inside = numbers-inside n i j k (b .1) }
+      let b = rows-accepted first (numberChecks n i j k) refl e in
+      record { accepted = accepted-input points normals settings (b .0); inside = numbers-inside n i j k (b .1) }
 
   -- ---- the whole answer
   module _ (r : Refusal) (is : r ≡ judgeRefusal points normals settings i j k) where

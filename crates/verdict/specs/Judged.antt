@@ -6,10 +6,8 @@ use lib.Dec.{ltb, eqb}
 use lib.ListN.{length}
 use lib.Ieee.{Float}
 use Rattle.answers.specs.Answers.{missingPoint, equalNumbers}
-use Rattle.ranges.specs.Range.{firstBadPoint}
-use Rattle.settings.specs.Settings.{firstBadSetting}
 use Rattle.settings.specs.declared.BallPivotingConfig.{BallPivotingConfig}
-use Rattle.domain.specs.Refusals.{Check, check, firstRefusal, sizeChecks, pointCheck, settingCheck}
+use Rattle.domain.specs.Refusals.{Check, check, firstRefusal, inputChecks}
 use Rattle.domain.specs.declared.Refusal.{Refusal}
 use Rattle.points.specs.Points.{pointAt}
 use Rattle.triangle.specs.Quality.{quality}
@@ -28,12 +26,7 @@ numberChecks n i j k =
 -- 1 to 5 as in the main call, 14, 17
 unfoldable pub judgeRefusal : List Float → List Float → BallPivotingConfig → ℕ → ℕ → ℕ → Refusal
 judgeRefusal points normals settings i j k =
-    let n = length points / 3 in
-    firstRefusal
-    (sizeChecks (length points) (length normals)
-    ++ (pointCheck n (firstBadPoint points normals)
-    ∷ settingCheck (firstBadSetting settings)
-    ∷ numberChecks n i j k))
+    firstRefusal (inputChecks points normals settings ++ numberChecks (length points / 3) i j k)
 
 -- the verdict on the triangle of the points i, j and k, in this order, at the main radius
 unfoldable pub verdictAt : List Float → BallPivotingConfig → ℕ → ℕ → ℕ → Verdict

@@ -5,11 +5,6 @@ ghost use Rattle.verdict.specs.Judged.{numberChecks, judgeRefusal};
 use domain::Refusal;
 use settings::BallPivotingConfig;
 
-// Lengths of work slices for the most points: with these the main call's checks end with 5, since 7 never comes.
-const WORDS: usize = 98368;
-
-const FLOATS: usize = 16448;
-
 // 14 where one of the numbers is none of n points, 17 where two are equal, or 0.
 fn number_answer(n: usize, i: usize, j: usize, k: usize) -> u32
     ensures { λ r. ⌜ r ≡ firstRefusal (numberChecks n i j k) .answer ⌝ }
@@ -45,7 +40,7 @@ pub fn refusal_of_judging(
 ) -> Refusal
     ensures { λ r. ⌜ r ≡ judgeRefusal (now (points .entry)) (now (normals .entry)) settings i j k ⌝ }
 {
-    let refusal = domain::refusal_of_reconstruct(points, normals, settings, WORDS, FLOATS);
+    let refusal = domain::refusal_of_input(points, normals, settings);
     if refusal.answer != 0 {
         return refusal;
     }

@@ -1,63 +1,49 @@
 -- `domain::refusal_of_estimate` meets its contract. Assumes nothing.
-use Rattle.ranges.specs.Range.{percentileInside}
-use Rattle.domain.proofs.Refusals.{size-refused, size-sized, row-point, row-third, row-work}
-use Rattle.ranges.proofs.Tests.{passed, failed}
-use Rattle.domain.specs.Refusals.{check, roomy, estimateRefusal}
-use native.Mathlib.Omega.{arith}
-use lib.ListN.{length}
-use mathlib.Core.Path.{sym}
+use mathlib.Core.Path.{refl, sym, ap, _∙_}
 use Prim.Native.Nat.{_/_}
+use lib.ListN.{length}
+use Rattle.ranges.specs.Range.{percentileInside}
+use Rattle.ranges.proofs.Tests.{passed, failed}
+use Rattle.domain.specs.declared.Refusal.{Refusal}
+use Rattle.domain.specs.Refusals.{check, pointsChecks, workChecks, estimateRefusal}
+use Rattle.domain.proofs.Refusals.{check-passed, check-failed, numbered, row-refused, row-passed, size-accepted}
 use borrow.Author.Needs.{needs}
 use Rattle.domain.proofs.refusal_of_estimate.Statement.{statement}
 use Rattle.domain.proofs.refusal_of_estimate.Tie as tie
 
-size-answer-requires : tie.Need-size-answer-requires
-size-answer-requires c κs = search needs
+refusal-of-points-requires : tie.Need-refusal-of-points-requires
+refusal-of-points-requires c κs = search needs
 
 returns : tie.Need-returns
-unfolding estimateRefusal
-returns c = let a = c .before .before .before .args in sym (size-refused (length (a .points .now)) (length (a .points .now)) _ (c .before .size-answer .ensures) _ (c .if1 .taken))
-
-first-outside-requires : tie.Need-first-outside-requires
-first-outside-requires c κs = search needs
-
-cast-t11 : tie.Need-cast-t11
-cast-t11 c = let a = c .before .before .before .before .before .args in let sized = size-sized (length (a .points .now)) (length (a .points .now)) (c .before .before .before .size-answer .ensures) (c .before .before .if1 .left) in omega arith
-
-returns-2 : tie.Need-returns-2
-unfolding estimateRefusal
-returns-2 c =
-    let a = c .before .before .before .before .before .args in
-    row-point (length (a .points .now)) (length (a .points .now)) (c .before .before .before .size-answer .ensures) (length (a .points .now) / 3) (c .before .first-outside .ensures) (check (percentileInside (a .percentile)) 6 0) (roomy (length (a .points .now) / 3) (a .words) (a .floats)) (c .before .before .if1 .left) (c .if2 .taken)
+unfolding estimateRefusal numbered
+returns c = let a = c .before .before .before .before .args in
+    row-refused (pointsChecks (a .points .now)) _ refl _ (c .before .before .refusal-of-points .ensures) (c .if1 .taken)
 
 percentile-ok-requires : tie.Need-percentile-ok-requires
 percentile-ok-requires c κs = search needs
 
+plainly-requires : tie.Need-plainly-requires
+plainly-requires c κs = search needs
+
+returns-2 : tie.Need-returns-2
+unfolding estimateRefusal numbered
+returns-2 c = let a = c .before .before .before .before .before .before .before .args in
+    c .plainly .ensures
+    ∙ sym
+    (row-passed (pointsChecks (a .points .now)) _ refl _ (c .before .before .before .before .before .refusal-of-points .ensures) (c .before .before .before .if1 .left)
+    ∙ check-failed (check (percentileInside (a .percentile)) 6 0) (workChecks (length (a .points .now) / 3) (a .words) (a .floats)) (failed (c .before .before .percentile-ok .ensures) (c .before .if2 .taken)))
+
+refusal-of-work-requires : tie.Need-refusal-of-work-requires
+refusal-of-work-requires c κs = size-accepted _ _ _ (ap (λ (r : Refusal). r .answer) (sym (c .before .before .before .before .refusal-of-points .ensures)) ∙ c .before .before .if1 .left) .0 .few
+
 returns-3 : tie.Need-returns-3
-unfolding estimateRefusal
+unfolding estimateRefusal numbered
 returns-3 c =
     let a = c .before .before .before .before .before .before .before .args in
-    row-third (length (a .points .now)) (length (a .points .now)) (c .before .before .before .before .before .size-answer .ensures) (length (a .points .now) / 3) (c .before .before .before .first-outside .ensures) (check (percentileInside (a .percentile)) 6 0) (roomy (length (a .points .now) / 3) (a .words) (a .floats)) (c .before .before .before .before .if1 .left) (c .before .before .if2 .left) (failed (c .before .percentile-ok .ensures) (c .if3 .taken))
-
-work-answer-requires : tie.Need-work-answer-requires
-work-answer-requires c κs = size-sized _ _ (c .before .before .before .before .before .size-answer .ensures) (c .before .before .before .before .if1 .left) .few
-
-returns-4 : tie.Need-returns-4
-unfolding estimateRefusal
-returns-4 c =
-    let a = c .before .before .before .before .before .before .before .before .args in
-    row-work (length (a .points .now)) (length (a .points .now)) (c .before .before .before .before .before .before .size-answer .ensures) (length (a .points .now) / 3) (c .before .before .before .before .first-outside .ensures) (check (percentileInside (a .percentile)) 6 0) (roomy (length (a .points .now) / 3) (a .words) (a .floats)) (c .before .before .before .before .before .if1 .left) (c .before .before .before .if2 .left) (passed (c .before .before .percentile-ok .ensures) (c .before .if3 .left)) (c .work-answer .ensures)
+    c .refusal-of-work .ensures
+    ∙ sym
+    (row-passed (pointsChecks (a .points .now)) _ refl _ (c .before .before .before .before .before .refusal-of-points .ensures) (c .before .before .before .if1 .left)
+    ∙ check-passed (check (percentileInside (a .percentile)) 6 0) (workChecks (length (a .points .now) / 3) (a .words) (a .floats)) (passed (c .before .before .percentile-ok .ensures) (c .before .if2 .left)))
 
 pub refusal-of-estimate-spec : {M : Type 1} → statement M
-refusal-of-estimate-spec =
-    tie.close
-    (tie.spec
-    size-answer-requires
-    returns
-    first-outside-requires
-    cast-t11
-    returns-2
-    percentile-ok-requires
-    returns-3
-    work-answer-requires
-    returns-4)
+refusal-of-estimate-spec = tie.close (tie.spec refusal-of-points-requires returns percentile-ok-requires plainly-requires returns-2 refusal-of-work-requires returns-3)
