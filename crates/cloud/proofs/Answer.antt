@@ -9,9 +9,11 @@ use borrow.Author.Tests.{le-leb, lt-leb}
 use lib.Dec.{leb}
 use lib.ListN.{length, drop}
 use lib.Ieee.{Float}
-use Rattle.cloud.specs.Format.{Parsed, parsed, malformed, field, Lines, good, wrong, body, File, malformedLine, under, file}
+use Rattle.numerals.specs.Format.{Parsed, parsed, malformed}
+use Rattle.cloud_lines.specs.Format.{field}
+use Rattle.cloud.specs.Format.{Lines, good, wrong, body, File, malformedLine, under, file}
 use Rattle.cloud.specs.Answers.{Outcome, accepted, refused, judged, outcome, told, flat, over, after, Answered}
-use Rattle.cloud.specs.declared.line.Point.{Point}
+use Rattle.cloud_lines.specs.declared.line.Point.{Point}
 use Rattle.cloud.specs.declared.CloudRead.{CloudRead}
 
 -- ---- from an outcome to the contract

@@ -6,8 +6,11 @@ use Prim.Native.String.{String, [] as []ˢ, _∷_ as _∷ˢ_}
 use Prim.Native.Char.{code}
 use lib.Ieee.{Float, ofBits, neg, round, units, odd, size, climb, span, ofFields}
 use Rattle.numbers.specs.Rounded.{f32}
-use Rattle.cloud.specs.Format.{Parsed, parsed, malformed, then, startsWith, digits, few, whole, decimal, fraction, magnitude, number, field, triple, point, ahead, lines, body, File, cloud, malformedLine, under, file}
-use Rattle.cloud.specs.declared.line.Triple.{Triple}
+use Rattle.decimals.specs.Decimal.{decimal}
+use Rattle.numerals.specs.Format.{Parsed, parsed, malformed, then, startsWith, digits, few, whole, fraction, magnitude, number}
+use Rattle.cloud_lines.specs.Format.{field, triple, point}
+use Rattle.cloud.specs.Format.{ahead, lines, body, File, cloud, malformedLine, under, file}
+use Rattle.cloud_lines.specs.declared.line.Triple.{Triple}
 
 -- the bytes of a text of ASCII characters
 abbrev text : String → List ℕ

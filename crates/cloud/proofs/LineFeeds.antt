@@ -9,10 +9,14 @@ use borrow.Author.Tests.{eqb-true, leb-true, ne-eqb}
 use lib.Dec.{T, eqb, leb}
 use lib.ListN.{length, take, drop}
 use lib.Ieee.{Float}
-use Rattle.cloud.specs.Format.{Parsed, parsed, malformed, then, startsWith, isDigit, digits, few, whole, decimal, fraction, magnitude, number, field, triple, point, Lines, good, wrong, ahead, lines, body, File, cloud, malformedLine, under, file}
-use Rattle.cloud.specs.declared.line.Point.{Point}
-use Rattle.cloud.proofs.Bytes.{both}
-use Rattle.cloud.proofs.Shorter.{Below, point-below}
+use Rattle.decimals.specs.Decimal.{decimal}
+use Rattle.numerals.specs.Format.{Parsed, parsed, malformed, then, startsWith, isDigit, digits, few, whole, fraction, magnitude, number}
+use Rattle.cloud_lines.specs.Format.{field, triple, point}
+use Rattle.cloud.specs.Format.{Lines, good, wrong, ahead, lines, body, File, cloud, malformedLine, under, file}
+use Rattle.cloud_lines.specs.declared.line.Point.{Point}
+use Rattle.numerals.proofs.Bytes.{both}
+use Rattle.numerals.proofs.Shorter.{Below}
+use Rattle.cloud_lines.proofs.Shorter.{point-below}
 
 -- how many line feeds there are
 unfoldable pub feeds : List ℕ → ℕ

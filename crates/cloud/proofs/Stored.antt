@@ -7,12 +7,15 @@ use native.Mathlib.Omega.{arith}
 use lib.ListN.{length, take, drop, set, length-append}
 use lib.Seq.{sets-eq, take-at, drop-append-add, drop-drop}
 use lib.Ieee.{Float}
-use Rattle.cloud.specs.Format.{parsed, malformed, point, good, body}
+use Rattle.numerals.specs.Format.{parsed, malformed}
+use Rattle.cloud_lines.specs.Format.{point}
+use Rattle.cloud.specs.Format.{good, body}
 use Rattle.cloud.specs.Answers.{numbersOf, flat, over}
 use Rattle.cloud.specs.Ready.{Fitting, laid}
-use Rattle.cloud.specs.declared.line.Triple.{Triple}
-use Rattle.cloud.specs.declared.line.Point.{Point}
-use Rattle.cloud.proofs.Lines.{From, from-start, from-end, from-wrong, from-next, ahead-good}
+use Rattle.cloud_lines.specs.declared.line.Triple.{Triple}
+use Rattle.cloud_lines.specs.declared.line.Point.{Point}
+use Rattle.numerals.proofs.Rows.{From, from-end, from-wrong, from-next}
+use Rattle.cloud.proofs.Lines.{points-run, body-start, ahead-good}
 
 pub put-three : (d : List Float) (at : ℕ) (x y z : Float) → at + 3 ≤ length d
     → set (set (set d at x) (at + 1) y) (at + 2) z ≡ take at d ++ (x ∷ y ∷ z ∷ []) ++ drop (at + 3) d
@@ -58,7 +61,7 @@ module _ (s : List ℕ) (from : ℕ) (points₀ normals₀ : List Float) where
     pub done : List Point
     pub left : List Point
     pub split : f .read ≡ done ++ left
-    pub source : From s at (good left)
+    pub source : From points-run s at (good left)
     pub place : i ≡ 3 * length done
     pub points-are : points ≡ over (flat (map (λ p. p .position) done)) points₀
     pub normals-are : normals ≡ over (flat (map (λ p. p .normal) done)) normals₀
@@ -70,7 +73,7 @@ module _ (s : List ℕ) (from : ℕ) (points₀ normals₀ : List Float) where
       done = [];
       left = f .read;
       split = refl;
-      source = subst (From s from) (f .lines-good) (from-start s from);
+      source = subst (From points-run s from) (f .lines-good) (body-start s from);
       place = refl;
       points-are = refl;
       normals-are = refl;
@@ -81,23 +84,23 @@ module _ (s : List ℕ) (from : ℕ) (points₀ normals₀ : List Float) where
           → (points ≡ laid (λ p. p .position) (body (drop from s)) points₀) × (normals ≡ laid (λ p. p .normal) (body (drop from s)) normals₀)
       unfolding laid
       storing-end h =
-          let none : st .left ≡ [] = let e = from-end s at (good (st .left)) (st .source) h in cc in
+          let none : st .left ≡ [] = let e = from-end points-run s at (good (st .left)) (st .source) h in cc in
           let all : f .read ≡ st .done = st .split ∙ ap (λ (l : List Point). st .done ++ l) none ∙ append-nil (st .done) in
           (rw (f .lines-good, all) (st .points-are), rw (f .lines-good, all) (st .normals-are))
 
       module _ (inside : at < length s) where
         pub storing-never : point (drop at s) ≡ malformed → ⊥
         storing-never e =
-            let w = from-wrong s at (good (st .left)) (st .source) inside e in
+            let w = from-wrong points-run s at (good (st .left)) (st .source) inside e in
             let z : _≡_ {A = ℕ} 0 1 = cc in omega arith
 
         module _ (p : Point) (next : ℕ) (e : point (drop at s) ≡ parsed p (drop next s)) where
           -- the point that was read is the first of those left
-          first : (l : List Point) × ((st .left ≡ p ∷ l) × From s next (good l))
+          first : (l : List Point) × ((st .left ≡ p ∷ l) × From points-run s next (good l))
           first =
-              let n = from-next s at (good (st .left)) (st .source) inside p next e in
+              let n = from-next points-run s at (good (st .left)) (st .source) inside p next e in
               let a = ahead-good p (n .0) (st .left) (n .1 .0) in
-              (a .0, (a .1 .1, subst (From s next) (a .1 .0) (n .1 .1)))
+              (a .0, (a .1 .1, subst (From points-run s next) (a .1 .0) (n .1 .1)))
 
           pub storing-room : (i + 3 ≤ length points₀) × (i + 3 ≤ length normals₀)
           storing-room =

@@ -1,4 +1,4 @@
--- What each answer of the crate's functions stands for, and what the reader answers and leaves in the slices.
+-- What the reader answers and leaves in the slices.
 -- Definitions only.
 use Prim.Native.Nat.{ℕ, _*_}
 use mathlib.Core.Path.{_≡_}
@@ -9,27 +9,11 @@ use lib.ListN.{length, drop}
 use lib.Ieee.{Float}
 use Rattle.answers.specs.Answers.{badLine, noRoom}
 use Rattle.numbers.specs.Rounded.{f32}
-use Rattle.cloud.specs.Format.{Parsed, parsed, malformed, Lines, good, wrong, File, cloud, malformedLine, file}
-use Rattle.cloud.specs.declared.number.NumberRead.{NumberRead}
-use Rattle.cloud.specs.declared.line.Triple.{Triple}
-use Rattle.cloud.specs.declared.line.Point.{Point}
-use Rattle.cloud.specs.declared.line.TripleRead.{TripleRead}
-use Rattle.cloud.specs.declared.line.PointRead.{PointRead}
+use Rattle.cloud_lines.specs.declared.line.Triple.{Triple}
+use Rattle.cloud_lines.specs.declared.line.Point.{Point}
+use Rattle.cloud.specs.Format.{Lines, good, wrong, File, cloud, malformedLine, file}
 use Rattle.cloud.specs.declared.point_lines.Counted.{Counted}
 use Rattle.cloud.specs.declared.CloudRead.{CloudRead}
-
--- ---- the enums: a value with `next` stands for the value and the bytes s from `next` on
-unfoldable pub numberMeans : List ℕ → NumberRead → Parsed Float
-numberMeans s (NumberRead.Number value next) = parsed value (drop next s)
-numberMeans s NumberRead.Malformed = malformed
-
-unfoldable pub tripleMeans : List ℕ → TripleRead → Parsed Triple
-tripleMeans s (TripleRead.Numbers triple next) = parsed triple (drop next s)
-tripleMeans s TripleRead.Malformed = malformed
-
-unfoldable pub pointMeans : List ℕ → PointRead → Parsed Point
-pointMeans s (PointRead.Line point next) = parsed point (drop next s)
-pointMeans s PointRead.Malformed = malformed
 
 -- how many points' lines there are, or the first malformed one
 unfoldable pub counted : Lines → Counted

@@ -2,25 +2,17 @@
 //
 // What the file means is the definition `file` of specs/Format.antt, and what the reader answers `outcome` of
 // specs/Answers.antt.
-mod line;
-pub mod number;
 mod point_lines;
-pub mod reader;
-mod rounding;
-mod skipping;
 
-pub use line::Point;
-pub use line::PointRead;
-pub use line::Triple;
-pub use number::NumberRead;
 ghost use mathlib.Core.Path.{_≡_};
 ghost use lib.ListN.{length, drop};
 ghost use Rattle.cloud.specs.Format.{body, under};
 ghost use Rattle.cloud.specs.Answers.{Outcome, outcome, judged, told, Answered};
-use crate::line::radius_at;
 use crate::point_lines::Counted;
 use crate::point_lines::count_points;
 use crate::point_lines::store_points;
+use cloud_lines::line::radius_at;
+use numerals::NumberRead;
 
 // The answer's number, 0 where the file was accepted; the detail, the first malformed line from 1 at refusal 10; and
 // what was read.

@@ -7,10 +7,10 @@ ghost use lib.ListN.{length, take, drop};
 ghost use Rattle.cloud.specs.Format.{body};
 ghost use Rattle.cloud.specs.Answers.{counted, numbersOf};
 ghost use Rattle.cloud.specs.Ready.{Fitting, laid};
-use crate::line::Triple;
-use crate::reader::LineRead;
-use crate::reader::line_of;
-use crate::skipping::skip_point;
+use cloud_lines::line::Triple;
+use cloud_lines::reader::LineRead;
+use cloud_lines::reader::line_of;
+use cloud_lines::skipping::skip_point;
 
 // How many lines there are, or the number of the first malformed one, from 1.
 pub enum Counted {

@@ -5,7 +5,7 @@ use mathlib.Core.List.{List, [], _∷_, map}
 use Prim.Native.Nat.{ℕ}
 use Prim.Native.String.{String, [] as []ˢ, _∷_ as _∷ˢ_}
 use Prim.Native.Char.{code}
-use Rattle.cloud.specs.Format.{then, startsWith, digits, few, whole}
+use Rattle.numerals.specs.Format.{then, startsWith, digits, few, whole}
 use Rattle.patch.specs.Lay.{face}
 use Rattle.face_lines.specs.Format.{number, line, Lines, good, wrong, ahead, lines, file, outside, twice}
 

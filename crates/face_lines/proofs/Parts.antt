@@ -7,9 +7,9 @@ use native.Mathlib.Omega.{arith}
 use lib.ListN.{length, take, drop, length-drop}
 use lib.Seq.{drop-drop}
 use Rattle.lists.proofs.Bools.{and-both}
-use Rattle.cloud.specs.Format.{Parsed, parsed, malformed, startsWith, digits, few, whole}
-use Rattle.cloud.proofs.Numeral.{few-most, found-count, found-rest}
-use Rattle.cloud.proofs.Shorter.{Below, below-cond, below-then, digits-within, next-below}
+use Rattle.numerals.specs.Format.{Parsed, parsed, malformed, startsWith, digits, few, whole}
+use Rattle.numerals.proofs.Numeral.{few-most, found-count, found-rest}
+use Rattle.numerals.proofs.Shorter.{Below, below-cond, below-then, digits-within, next-below}
 use Rattle.patch.specs.Lay.{Face, face}
 use Rattle.face_lines.specs.Format.{number, line}
 use Rattle.face_lines.specs.Answers.{numberMeans, lineMeans}

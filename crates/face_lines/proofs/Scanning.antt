@@ -9,13 +9,14 @@ use lib.ListN.{length, drop}
 use lib.Dec.{ltb}
 use borrow.Author.Tests.{lt-ltb}
 use Rattle.lists.specs.Lists.{bit, count, any}
-use Rattle.cloud.specs.Format.{parsed, malformed}
+use Rattle.numerals.specs.Format.{parsed, malformed}
 use Rattle.patch.specs.Lay.{Face}
 use Rattle.face_lines.specs.Format.{line, Lines, good, wrong, ahead, file, outside, twice}
 use Rattle.face_lines.specs.Answers.{scanned}
 use Rattle.face_lines.specs.declared.FacesScanned.{FacesScanned}
 use Rattle.face_lines.proofs.Parts.{line-shorter}
-use Rattle.face_lines.proofs.Rows.{From, from-start, from-end, from-wrong, from-next, wrong-from-one}
+use Rattle.numerals.proofs.Rows.{From, from-end, from-wrong, from-next}
+use Rattle.face_lines.proofs.Rows.{faces-run, file-start, wrong-from-one}
 
 -- ---- flags
 module _ (p : Face → Bool) where
@@ -60,24 +61,24 @@ module _ (n : ℕ) where
 -- k lines were read up to a place, and these are left
 pub record Scanning (s : List ℕ) (n k : ℕ) (o t : Bool) (at : ℕ) : Type 0 where
   pub left : Lines
-  pub source : From s at left
+  pub source : From faces-run s at left
   pub same : scanned n (file s) ≡ onward n k o t left
   pub few : k + (length s - at) ≤ length s
 
 pub scanning-start : (s : List ℕ) (n : ℕ) → Scanning s n 0 false false 0
-scanning-start s n = record { left = file s; source = from-start s; same = sym (onward-none n (file s)); few = omega arith }
+scanning-start s n = record { left = file s; source = file-start s; same = sym (onward-none n (file s)); few = omega arith }
 
 module _ (s : List ℕ) (n k : ℕ) (o t : Bool) (at : ℕ) (c : Scanning s n k o t at) where
   pub scanning-end : length s ≤ at → record { malformed = 0; count = k; outside = o; twice = t } ≡ scanned n (file s)
-  scanning-end h = sym (c .same ∙ ap (onward n k o t) (from-end s at (c .left) (c .source) h) ∙ onward-end n k o t)
+  scanning-end h = sym (c .same ∙ ap (onward n k o t) (from-end faces-run s at (c .left) (c .source) h) ∙ onward-end n k o t)
 
   module _ (inside : at < length s) where
     pub scanning-wrong : line (drop at s) ≡ malformed → record { malformed = k + 1; count = 0; outside = false; twice = false } ≡ scanned n (file s)
-    scanning-wrong e = sym (c .same ∙ ap (onward n k o t) (from-wrong s at (c .left) (c .source) inside e))
+    scanning-wrong e = sym (c .same ∙ ap (onward n k o t) (from-wrong faces-run s at (c .left) (c .source) inside e))
 
     pub scanning-next : (f : Face) (next : ℕ) (o' t' : Bool) → line (drop at s) ≡ parsed f (drop next s) → o' ≡ (o || outside n f) → t' ≡ (t || twice f) → Scanning s n (k + 1) o' t' next
     scanning-next f next o' t' e eo et =
-        let m = from-next s at (c .left) (c .source) inside f next e in
+        let m = from-next faces-run s at (c .left) (c .source) inside f next e in
         let short = line-shorter s at next f e in
         let few = c .few in
         record {

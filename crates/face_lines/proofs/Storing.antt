@@ -4,14 +4,15 @@ use mathlib.Core.List.{List, [], _∷_, _++_, append-nil, append-assoc}
 use Prim.Native.Nat.{ℕ, suc, _+_, _≤_, _<_}
 use native.Mathlib.Omega.{arith}
 use lib.ListN.{length, drop, length-append}
-use Rattle.cloud.specs.Format.{parsed, malformed}
+use Rattle.numerals.specs.Format.{parsed, malformed}
 use Rattle.patch.specs.Lay.{Face}
 use Rattle.patch.specs.View.{written}
 use Rattle.patch.proofs.View.{written-none}
 use Rattle.frontier.specs.Work.{Wrote}
 use Rattle.face_lines.specs.Format.{line, Lines, good, wrong, ahead, file}
 use Rattle.face_lines.specs.Answers.{Readable, Stored}
-use Rattle.face_lines.proofs.Rows.{From, from-start, from-end, from-wrong, from-next}
+use Rattle.numerals.proofs.Rows.{From, from-end, from-wrong, from-next}
+use Rattle.face_lines.proofs.Rows.{faces-run, file-start}
 
 -- good lines behind a face that was read
 ahead-good : (f : Face) (l : Lines) (fs : List Face) → good fs ≡ ahead f l → (gs : List Face) × ((l ≡ good gs) × (fs ≡ f ∷ gs))
@@ -25,7 +26,7 @@ module _ (s words₀ : List ℕ) (r : Readable s) where
     pub done : List Face
     pub left : List Face
     pub split : r .faces ≡ done ++ left
-    pub source : From s at (good left)
+    pub source : From faces-run s at (good left)
     pub place : length done ≡ count
     pub holds : words ≡ written done words₀
 
@@ -34,7 +35,7 @@ module _ (s words₀ : List ℕ) (r : Readable s) where
     done = [];
     left = r .faces;
     split = refl;
-    source = subst (From s 0) (r .good-lines) (from-start s);
+    source = subst (From faces-run s 0) (r .good-lines) (file-start s);
     place = refl;
     holds = sym (written-none words₀);
   }
@@ -45,7 +46,7 @@ module _ (s words₀ : List ℕ) (r : Readable s) where
 
     pub storing-end : length s ≤ at → Stored s words₀ words
     storing-end h fs e =
-        let none : st .left ≡ [] = let e = from-end s at (good (st .left)) (st .source) h in cc in
+        let none : st .left ≡ [] = let e = from-end faces-run s at (good (st .left)) (st .source) h in cc in
         let all : r .faces ≡ st .done = st .split ∙ ap (λ (l : List Face). st .done ++ l) none ∙ append-nil (st .done) in
         let given : r .faces ≡ fs = let g = r .good-lines in cc in
         st .holds ∙ ap (λ (l : List Face). written l words₀) (sym all ∙ given)
@@ -53,18 +54,18 @@ module _ (s words₀ : List ℕ) (r : Readable s) where
     module _ (inside : at < length s) where
       pub storing-never : line (drop at s) ≡ malformed → ⊥
       storing-never e =
-          let w = from-wrong s at (good (st .left)) (st .source) inside e in
+          let w = from-wrong faces-run s at (good (st .left)) (st .source) inside e in
           let z : _≡_ {A = ℕ} 0 1 = cc in omega arith
 
       pub storing-next : (f : Face) (next : ℕ) (words' : List ℕ) → line (drop at s) ≡ parsed f (drop next s) → Wrote count f words words' → Storing words' (count + 1) next
       storing-next f next words' e w =
-          let n = from-next s at (good (st .left)) (st .source) inside f next e in
+          let n = from-next faces-run s at (good (st .left)) (st .source) inside f next e in
           let a = ahead-good f (n .0) (st .left) (n .1 .0) in
           record {
             done = st .done ++ (f ∷ []);
             left = a .0;
             split = st .split ∙ ap (λ (l : List Face). st .done ++ l) (a .1 .1) ∙ sym (append-assoc (st .done) (f ∷ []) (a .0));
-            source = subst (From s next) (a .1 .0) (n .1 .1);
+            source = subst (From faces-run s next) (a .1 .0) (n .1 .1);
             place = length-append (st .done) (f ∷ []) ∙ ap (λ (k : ℕ). k + 1) (st .place);
             holds = w words₀ (st .done) (st .place) (st .holds);
           }

@@ -5,7 +5,7 @@ use mathlib.Core.Bool.{false}
 use mathlib.Core.List.{List}
 use lib.ListN.{length, drop}
 use Rattle.lists.specs.Lists.{any}
-use Rattle.cloud.specs.Format.{Parsed, parsed, malformed}
+use Rattle.numerals.specs.Format.{Parsed, parsed, malformed}
 use Rattle.patch.specs.Lay.{Face, face}
 use Rattle.patch.specs.View.{written}
 use Rattle.face_lines.specs.Format.{Lines, good, wrong, file, outside, twice}

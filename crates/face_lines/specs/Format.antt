@@ -4,7 +4,7 @@ use mathlib.Core.Bool.{Bool, cond, _&&_, _||_}
 use mathlib.Core.List.{List, [], _∷_}
 use lib.Dec.{leb, eqb}
 use lib.ListN.{length, take, drop}
-use Rattle.cloud.specs.Format.{Parsed, parsed, malformed, then, startsWith, digits, few, whole}
+use Rattle.numerals.specs.Format.{Parsed, parsed, malformed, then, startsWith, digits, few, whole}
 use Rattle.patch.specs.Lay.{Face, face}
 
 -- a point's number, 1 to 5 digits, and the byte that ends it: a comma is 44, a line feed 10

@@ -4,10 +4,10 @@ ghost use Prim.Native.Nat.{_≤_, _<_};
 ghost use lib.ListN.{length, drop};
 ghost use Rattle.face_lines.specs.Format.{number, line};
 ghost use Rattle.face_lines.specs.Answers.{numberMeans, lineMeans};
-use cloud::number::byte_is;
-use cloud::number::digits_end;
-use cloud::number::is_few;
-use cloud::number::whole_of;
+use numerals::byte_is;
+use numerals::digits_end;
+use numerals::is_few;
+use numerals::whole_of;
 
 const COMMA: u8 = 44;
 

@@ -6,7 +6,7 @@ use Prim.Native.Nat.{ℕ}
 use Prim.Native.String.{String, [] as []ˢ, _∷_ as _∷ˢ_}
 use Prim.Native.Char.{code}
 use Rattle.lists.specs.Lists.{any, upFrom}
-use Rattle.cloud.specs.Format.{then, startsWith, digits, few, whole}
+use Rattle.numerals.specs.Format.{then, startsWith, digits, few, whole}
 use Rattle.domain.specs.Refusals.{firstRefusal, roomy}
 use Rattle.patch.specs.Lay.{same}
 use Rattle.patch.specs.Shape.{has, touches}

@@ -16,7 +16,7 @@ use Rattle.ball_pivoting.specs.Reconstruct.{found, reconstructed}
 use Rattle.ball_pivoting.specs.Outcome.{Reconstructs}
 use Rattle.ball_pivoting.specs.declared.Patch.{Patch}
 use Rattle.cloud.specs.Answers.{Outcome, accepted, refused, outcome, told, flat, Answered}
-use Rattle.cloud.specs.declared.line.Point.{Point}
+use Rattle.cloud_lines.specs.declared.line.Point.{Point}
 use Rattle.cloud.specs.declared.CloudRead.{CloudRead}
 use Rattle.listing.specs.Listing.{text, field, decimal, refusal, written, filled}
 use Rattle.listing.proofs.Decimal.{decimal-within}

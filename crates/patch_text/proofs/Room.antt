@@ -22,8 +22,9 @@ use Rattle.ball_pivoting.proofs.Reasons.{reason-most}
 use Rattle.ball_pivoting.proofs.Outcome.{reconstruct-early}
 use Rattle.cloud.specs.Format.{Parsed, parsed, malformed, point, field, Lines, good, wrong, ahead, lines, body, File, cloud, malformedLine, under, file}
 use Rattle.cloud.specs.Answers as cloud
-use Rattle.cloud.specs.declared.line.Point.{Point}
-use Rattle.cloud.proofs.Shorter.{Below, field-below}
+use Rattle.cloud_lines.specs.declared.line.Point.{Point}
+use Rattle.numerals.proofs.Shorter.{Below}
+use Rattle.cloud_lines.proofs.Shorter.{field-below}
 use Rattle.listing.specs.Listing.{refusal, listing, written, filled}
 use Rattle.listing.proofs.Lengths.{listing-most, listing-some, refusal-most, refusal-some}
 use Rattle.patch_text.specs.Text.{countsOf, patchText, laidText, outcomeText, fileText, printed, Prints, PrintsFile}

@@ -11,8 +11,8 @@ use lib.Ieee.{Float}
 use borrow.Author.Tests.{lt-ltb, le-ltb}
 use Rattle.cloud.specs.Format.{File, cloud, malformedLine, file}
 use Rattle.cloud.specs.Answers.{Outcome, accepted, refused, judged, outcome, told, flat, over, after, Answered}
-use Rattle.cloud.specs.declared.line.Triple.{Triple}
-use Rattle.cloud.specs.declared.line.Point.{Point}
+use Rattle.cloud_lines.specs.declared.line.Triple.{Triple}
+use Rattle.cloud_lines.specs.declared.line.Point.{Point}
 use Rattle.cloud.specs.declared.CloudRead.{CloudRead}
 use Rattle.listing.specs.Listing.{refusal}
 use Rattle.patch_text.specs.Text.{laidText, outcomeText, fileText}

@@ -2,7 +2,7 @@
 use borrow.Author.Needs.{needs}
 use lib.ListN.{length}
 use Rattle.cloud.proofs.Answer.{answer-refused, outcome-radius, outcome-no-radius}
-use Rattle.cloud.proofs.Means.{number-got, number-not}
+use Rattle.cloud_lines.proofs.Means.{number-got, number-not}
 use Rattle.cloud.proofs.read_cloud.Statement.{statement}
 use Rattle.cloud.proofs.read_cloud.Tie as tie
 

@@ -4,7 +4,7 @@ use mathlib.Core.Path.{_≡_, refl, _∙_}
 use native.Mathlib.Omega.{arith}
 use borrow.Author.Needs.{needs}
 use lib.ListN.{length, drop}
-use Rattle.cloud.specs.Format.{parsed}
+use Rattle.numerals.specs.Format.{parsed}
 use Rattle.patch.specs.Lay.{face}
 use Rattle.face_lines.specs.Format.{line}
 use Rattle.face_lines.specs.Answers.{Readable}

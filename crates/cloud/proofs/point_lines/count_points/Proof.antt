@@ -4,11 +4,12 @@ use native.Mathlib.Omega.{arith}
 use borrow.Author.Needs.{needs}
 use lib.ListN.{length, drop}
 use mathlib.Core.Path.{_≡_}
-use Rattle.cloud.specs.Format.{parsed, point}
-use Rattle.cloud.specs.declared.line.Point.{Point}
+use Rattle.numerals.specs.Format.{parsed}
+use Rattle.cloud_lines.specs.Format.{point}
+use Rattle.cloud_lines.specs.declared.line.Point.{Point}
 use Rattle.cloud.proofs.Lines.{Counting, counting-start, counting-end, counting-wrong, counting-next}
-use Rattle.cloud.proofs.Bare.{skipped, skipped-not}
-use Rattle.cloud.proofs.Shorter.{point-shorter}
+use Rattle.cloud_lines.proofs.Bare.{skipped, skipped-not}
+use Rattle.cloud_lines.proofs.Shorter.{point-shorter}
 use Rattle.cloud.proofs.point_lines.count_points.Statement.{statement}
 use Rattle.cloud.proofs.point_lines.count_points.Tie as tie
 

@@ -4,10 +4,11 @@ use mathlib.Core.Path.{_≡_, refl, _∙_}
 use native.Mathlib.Omega.{arith}
 use borrow.Author.Needs.{needs}
 use lib.ListN.{length, drop}
-use Rattle.cloud.specs.Format.{parsed, point}
+use Rattle.numerals.specs.Format.{parsed}
+use Rattle.cloud_lines.specs.Format.{point}
 use Rattle.cloud.specs.Ready.{Fitting}
-use Rattle.cloud.proofs.Means.{step-got, step-not}
-use Rattle.cloud.proofs.Shorter.{point-shorter}
+use Rattle.cloud_lines.proofs.Means.{step-got, step-not}
+use Rattle.cloud_lines.proofs.Shorter.{point-shorter}
 use Rattle.cloud.proofs.Stored.{Storing, storing-start, storing-room, storing-next, storing-end, storing-never}
 use Rattle.cloud.proofs.point_lines.store_points.Statement.{statement}
 use Rattle.cloud.proofs.point_lines.store_points.Tie as tie

@@ -2,7 +2,7 @@
 use mathlib.Core.Path.{_≡_}
 use borrow.Author.Needs.{needs}
 use lib.ListN.{drop}
-use Rattle.cloud.specs.Format.{parsed, then}
+use Rattle.numerals.specs.Format.{parsed, then}
 use Rattle.face_lines.specs.Format.{number, line}
 use Rattle.face_lines.specs.Answers.{lineMeans}
 use Rattle.face_lines.proofs.Parts.{number-got, number-not}

@@ -6,9 +6,9 @@ use native.Mathlib.Omega.{arith}
 use borrow.Author.Needs.{needs}
 use lib.Dec.{lit≤}
 use lib.ListN.{drop}
-use Rattle.cloud.specs.Format.{few, startsWith}
-use Rattle.cloud.proofs.Bytes.{starts-inside}
-use Rattle.cloud.proofs.Numeral.{found-digits}
+use Rattle.numerals.specs.Format.{few, startsWith}
+use Rattle.numerals.proofs.Bytes.{starts-inside}
+use Rattle.numerals.proofs.Numeral.{found-digits}
 use Rattle.face_lines.specs.Answers.{numberMeans}
 use Rattle.face_lines.proofs.Parts.{number-digits, number-open, number-read}
 use Rattle.face_lines.proofs.line.number_at.Statement.{statement}

@@ -1,0 +1,4 @@
+-- What the crate's contracts cite, leaves first.
+pub mod Format
+pub mod Answers
+pub mod Ready
