@@ -4,4 +4,5 @@ pub mod Starred
 pub mod Tries
 pub mod Texts
 pub mod Stl
+pub mod Refused
 pub mod Rules

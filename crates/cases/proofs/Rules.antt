@@ -31,6 +31,7 @@ use Rattle.plain.specs.Reached.{paired, plainReached}
 use Rattle.reaching.specs.Reaching.{acceptAll, reaches}
 use Rattle.clearing.specs.Swept.{swept}
 use Rattle.cases.specs.Rules.{laidWith, RuleCases}
+use Rattle.cases.proofs.Refused.{alike}
 
 module _ (c : BallPivotingConfig) (pts : List Float) where
   heap-is : c .«frontier_rule» ≡ 1 → laidOf c pts ≡ laidWith heapOf c pts
@@ -46,6 +47,7 @@ unfolding trailingZeros span climb size odd units round neg sum add sub mul div 
 rule-cases = record {
   heap = heap-is;
   queue = queue-is;
+  refused-alike = λ a b c pts normals room words floats known-a known-b. alike a b c pts known-a known-b normals words floats room;
   heap-empties = refl;
   queue-empties = refl;
   heap-lays = refl;

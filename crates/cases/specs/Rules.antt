@@ -1,12 +1,14 @@
--- The frontier's two rules: their orders of popping, the smallest cloud whose patches differ, and numbers that are no
--- rule. `rule-cases` of proofs/Rules.antt is the theorem.
-use Prim.Native.Nat.{ℕ, zero, suc}
+-- The frontier's two rules: their orders of popping, that neither decides a refusal, the smallest cloud whose patches
+-- differ, and numbers that are no rule. `rule-cases` of proofs/Rules.antt is the theorem.
+use Prim.Native.Nat.{ℕ, zero, suc, _≤_}
 use mathlib.Core.Path.{_≡_}
+use mathlib.Core.Logic.{_≢_}
 use mathlib.Core.Bool.{true}
 use mathlib.Core.List.{List, [], _∷_, map}
 use lib.ListN.{replicate}
 use lib.Ieee.{Float}
 use Rattle.numbers.specs.Rounded.{f32}
+use Rattle.settings.specs.Settings.{ruleKnown}
 use Rattle.settings.specs.declared.BallPivotingConfig.{BallPivotingConfig}
 use Rattle.domain.specs.Refusals.{refusal, reconstructRefusal}
 use Rattle.patch.specs.Lay.{face, Pop, State, patch}
@@ -19,6 +21,23 @@ use Rattle.ball_pivoting.specs.Reconstruct.{pointCount, sceneOf, radiiOf, laidO
 abbrev pub laidWith : Pop → BallPivotingConfig → List Float → State
 laidWith pop c pts =
     patch (searching (floatsOf (sceneOf c pts) pts) (pointCount pts)) pop (pointCount pts) (radiiOf c pts)
+
+-- settings with this rule in the place of their own
+abbrev pub ruled : ℕ → BallPivotingConfig → BallPivotingConfig
+ruled rule c = record {
+  radius = c .radius;
+  «additional_radii» = c .«additional_radii»;
+  «additional_count» = c .«additional_count»;
+  «adaptive_radius» = c .«adaptive_radius»;
+  «adaptive_percentiles» = c .«adaptive_percentiles»;
+  «percentile_count» = c .«percentile_count»;
+  «quality_threshold» = c .«quality_threshold»;
+  «max_edge_factor» = c .«max_edge_factor»;
+  «min_triangle_area» = c .«min_triangle_area»;
+  «use_spatial_index» = c .«use_spatial_index»;
+  «spatial_cell_factor» = c .«spatial_cell_factor»;
+  «frontier_rule» = rule;
+}
 
 -- the entries in the order in which a frontier empties under a rule
 abbrev pub emptied : ℕ → ℕ → List ℕ → List ℕ
@@ -55,6 +74,13 @@ pub record RuleCases : Type 0 where
   -- rule 2 is first in, first out
   pub queue : (c : BallPivotingConfig) (pts : List Float) → c .«frontier_rule» ≡ 2
       → laidOf c pts ≡ laidWith queueOf c pts
+  -- a rule decides no refusal: what is refused under one is refused under the other with the same answer and detail,
+  -- given a face slice of 30,000, which is long enough for either
+  pub refused-alike : (a b : ℕ) (c : BallPivotingConfig) (pts normals : List Float) (room words floats : ℕ)
+      → ruleKnown a ≡ true → ruleKnown b ≡ true → 30000 ≤ room
+      → reconstructed pts normals (ruled a c) room words floats .answer ≢ 0
+      → reconstructed pts normals (ruled b c) room words floats
+      ≡ reconstructed pts normals (ruled a c) room words floats
   -- a frontier A, B, C, D empties as A, C, B, D under rule 1, and as it was pushed under rule 2
   pub heap-empties : emptied 1 4 (10 ∷ 11 ∷ 12 ∷ 13 ∷ []) ≡ 10 ∷ 12 ∷ 11 ∷ 13 ∷ []
   pub queue-empties : emptied 2 4 (10 ∷ 11 ∷ 12 ∷ 13 ∷ []) ≡ 10 ∷ 11 ∷ 12 ∷ 13 ∷ []

@@ -1,4 +1,5 @@
--- What holds of the faces of the main call where it answers 0 and there are radii. Definitions only.
+-- What holds of the faces of the main call where it answers 0 and there are radii, under either rule of the frontier.
+-- Definitions only.
 use mathlib.Core.Path.{_≡_}
 use mathlib.Core.Bool.{true}
 use mathlib.Core.List.{List}
