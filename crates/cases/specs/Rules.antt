@@ -15,7 +15,7 @@ use Rattle.patch.specs.Lay.{face, Pop, State, patch}
 use Rattle.patch.specs.Frontier.{heapOf, queueOf, waitingAfter}
 use Rattle.patch.specs.Search.{searching}
 use Rattle.decisions.specs.Decisions.{floatsOf}
-use Rattle.ball_pivoting.specs.Reconstruct.{pointCount, sceneOf, radiiOf, laidOf, Found, found, refused, reconstructed}
+use Rattle.ball_pivoting.specs.Reconstruct.{pointCount, sceneOf, radiiOf, laidOf, found, refused, reconstructed}
 
 -- the multi-radius path with an order of popping
 abbrev pub laidWith : Pop → BallPivotingConfig → List Float → State
