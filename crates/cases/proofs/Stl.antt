@@ -11,7 +11,7 @@ use Rattle.points.specs.Points.{pointAt}
 use Rattle.ranges.specs.Range.{inside, leading, firstOutside}
 use Rattle.words.specs.Words.{word, wordAt}
 use Rattle.words.specs.Chunks.{chunks}
-use Rattle.stl_file.specs.Format.{divided, normal, vertex, facet, stl, vertexAt, cornersOf, isFile, corners}
+use Rattle.facets.specs.Format.{divided, normal, vertex, facet, stl, vertexAt, cornersOf, isFile, corners}
 use Rattle.stl_file.specs.Answers.{allBelow, notWritten, judged, notRead, found}
 
 -- the points (0, 0, 0), (2, 0, 0), (0, 2, -0)

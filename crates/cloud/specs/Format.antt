@@ -6,7 +6,8 @@ use lib.ListN.{length}
 use lib.Ieee.{Float}
 unfoldable pub use Rattle.decimals.specs.Decimal.{decimal}
 pub use Rattle.numerals.specs.Format.{Parsed, parsed, malformed}
-unfoldable pub use Rattle.numerals.specs.Format.{then, startsWith, startsDigit, digits, few, whole, fraction, magnitude, number}
+unfoldable pub use Rattle.numerals.specs.Format.{then, startsWith, startsDigit, digits, few, whole}
+unfoldable pub use Rattle.numerals.specs.Format.{fraction, magnitude, number}
 unfoldable pub use Rattle.cloud_lines.specs.Format.{field, triple, point}
 use Rattle.cloud_lines.specs.declared.line.Point.{Point}
 

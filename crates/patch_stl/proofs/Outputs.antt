@@ -22,10 +22,10 @@ use Rattle.listing.specs.Listing.{text, field, decimal, refusal, written, fille
 use Rattle.listing.proofs.Decimal.{decimal-within}
 use Rattle.patch_text.proofs.Laid.{faces-front}
 use Rattle.patch_text.proofs.Told.{read, front}
-use Rattle.stl_file.specs.Format.{stl}
+use Rattle.facets.specs.Format.{stl}
 use Rattle.stl_file.specs.Answers.{judged, Wrote}
 use Rattle.stl_file.specs.declared.StlWritten.{StlWritten}
-use Rattle.stl_file.proofs.Puts.{stl-length}
+use Rattle.facets.proofs.Puts.{stl-length}
 use Rattle.stl_file.proofs.Calls.{accepted-patch}
 use Rattle.patch_stl.specs.Output.{Output, refusedWith, writtenOutput, patchOutput, laidOutput, outcomeOutput, fileOutput, Outputs}
 use Rattle.patch_stl.specs.declared.StlOutput.{StlOutput}

@@ -14,7 +14,7 @@ use Rattle.ball_pivoting.specs.Reconstruct.{Found, found, reconstructed}
 use Rattle.ball_pivoting.specs.declared.Patch.{Patch}
 use Rattle.cloud.specs.Answers as cloud
 use Rattle.listing.specs.Listing.{refusal}
-use Rattle.stl_file.specs.Format.{stl}
+use Rattle.facets.specs.Format.{stl}
 use Rattle.stl_file.specs.Answers.{judged}
 use Rattle.patch_stl.specs.declared.StlOutput.{StlOutput}
 

@@ -14,8 +14,9 @@ use Rattle.lists.specs.Lists.{upFrom}
 use Rattle.ranges.specs.Range.{inside, leading, firstOutside, farthest}
 use Rattle.words.specs.Chunks.{chunks}
 use Rattle.words.proofs.Chunks.{chunks-length}
-use Rattle.stl_file.specs.Format.{three, cornerAt, patchCorners}
-use Rattle.stl_file.specs.Answers.{allBelow, Known, judged}
+use Rattle.facets.specs.Format.{three, cornerAt, patchCorners}
+use Rattle.facets.specs.Known.{allBelow, Known}
+use Rattle.stl_file.specs.Answers.{judged}
 use Rattle.stl_file.proofs.RoundTrip.{up-length}
 use Rattle.stl_file.proofs.Normals.{Near, corner-near}
 

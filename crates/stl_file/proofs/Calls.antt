@@ -11,13 +11,14 @@ use lib.Seq.{take-at}
 use lib.Ieee.{Float, nan, binary32, fits}
 use Rattle.lists.specs.Lists.{upFrom}
 use Rattle.ranges.specs.Range.{firstOutside, farthest}
-use Rattle.stl_file.specs.Format.{stl, count, corners, patchCorners}
-use Rattle.stl_file.specs.Answers.{allBelow, Known, notWritten, judged, Wrote, found, Got}
+use Rattle.facets.specs.Format.{stl, count, corners, patchCorners}
+use Rattle.facets.specs.Known.{allBelow, Known}
+use Rattle.stl_file.specs.Answers.{notWritten, judged, Wrote, found, Got}
 use Rattle.stl_file.specs.declared.StlWritten.{StlWritten}
 use Rattle.stl_file.specs.declared.StlRead.{StlRead}
-use Rattle.stl_file.proofs.Puts.{stl-length}
+use Rattle.facets.proofs.Puts.{stl-length}
 use Rattle.stl_file.proofs.RoundTrip.{counted, accepted, read-back, same-again}
-use Rattle.stl_file.proofs.Below.{below-known}
+use Rattle.facets.proofs.Below.{below-known}
 use Rattle.stl_file.proofs.Again.{again-accepted}
 
 module _ (points : List Float) (faces : List ℕ) (small : length faces / 3 < 2 ^ 32) (held : (k : ℕ) → T (fits binary32 (getD points k nan))) where

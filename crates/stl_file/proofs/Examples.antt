@@ -7,7 +7,7 @@ use Rattle.numbers.specs.Rounded.{f32}
 use Rattle.numbers.specs.Root.{root}
 use Rattle.vector.specs.Vector.{point, difference, magnitudeSquared, magnitude, cross}
 use Rattle.vector.specs.declared.Point3f.{Point3f}
-use Rattle.stl_file.specs.Format.{divided, normal}
+use Rattle.facets.specs.Format.{divided, normal}
 
 abbrev bits : Point3f → List ℕ
 bits p = toBits binary32 (p .x) ∷ toBits binary32 (p .y) ∷ toBits binary32 (p .z) ∷ []

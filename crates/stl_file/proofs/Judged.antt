@@ -13,12 +13,13 @@ use Rattle.ranges.specs.Range.{firstOutside, farthest}
 use Rattle.words.specs.Words.{wordAt}
 use Rattle.words.specs.Chunks.{chunks}
 use Rattle.words.proofs.Chunks.{chunks-length}
-use Rattle.stl_file.specs.Format.{stl, isFile, cornersOf, corners}
-use Rattle.stl_file.specs.Answers.{allBelow, Known, notWritten, judged, Wrote, notRead, found, Got}
+use Rattle.facets.specs.Format.{stl, isFile, cornersOf, corners}
+use Rattle.facets.specs.Known.{allBelow, Known}
+use Rattle.stl_file.specs.Answers.{notWritten, judged, Wrote, notRead, found, Got}
 use Rattle.stl_file.specs.declared.StlWritten.{StlWritten}
 use Rattle.stl_file.specs.declared.StlRead.{StlRead}
-use Rattle.stl_file.proofs.Puts.{stl-length, nine-length}
-use Rattle.stl_file.proofs.Below.{below-known}
+use Rattle.facets.proofs.Puts.{stl-length, nine-length}
+use Rattle.facets.proofs.Below.{below-known}
 
 -- ---- writing
 module _ (points : List Float) (faces bytes : List ℕ) (told : StlWritten) (held : (k : ℕ) → T (fits binary32 (getD points k nan))) where

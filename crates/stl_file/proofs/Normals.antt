@@ -26,8 +26,8 @@ use Rattle.points.specs.Points.{pointAt}
 use Rattle.ranges.specs.Range.{inside, leading, firstOutside, farthest}
 use Rattle.ranges.proofs.Range.{leading-inside}
 use Rattle.lists.proofs.Bools.{and-both}
-use Rattle.stl_file.specs.Format.{divided, normal, cornerAt}
-use Rattle.stl_file.specs.Answers.{Known}
+use Rattle.facets.specs.Format.{divided, normal, cornerAt}
+use Rattle.facets.specs.Known.{Known}
 
 -- every part is a number
 pub record Numbers (v : Point3f) : Type 0 where

@@ -18,8 +18,8 @@ use Rattle.words.specs.Words.{word, wordAt}
 use Rattle.words.specs.Chunks.{chunks}
 use Rattle.words.proofs.Laws.{word-at-word, word-at-append}
 use Rattle.words.proofs.Chunks.{chunks-at, chunks-same, chunks-three, chunks-length}
-use Rattle.stl_file.specs.Format.{normal, vertex, facet, facetOf, cornerAt, stl, vertexAt, cornersOf, count, isFile, corners, three, patchCorners}
-use Rattle.stl_file.proofs.Puts.{facet-length, stl-length}
+use Rattle.facets.specs.Format.{normal, vertex, facet, facetOf, cornerAt, stl, vertexAt, cornersOf, count, isFile, corners, three, patchCorners}
+use Rattle.facets.proofs.Puts.{facet-length, stl-length}
 
 -- a point of three f32
 pub record Held (p : Point3f) : Type 0 where

@@ -1,25 +1,18 @@
 -- What the two calls answer, and what they leave in the lent slices. Definitions only.
-use Prim.Native.Nat.{ℕ, _+_, _*_, _/_, _%_, _<_}
+use Prim.Native.Nat.{ℕ, _*_, _/_, _%_}
 use mathlib.Core.Path.{_≡_}
-use mathlib.Core.Bool.{Bool, true, cond, not, _&&_}
-use mathlib.Core.List.{List, [], _∷_, _++_}
+use mathlib.Core.Bool.{cond, not}
+use mathlib.Core.List.{List, _++_}
 use lib.Dec.{T, ltb, eqb}
 use lib.ListN.{length, getD, drop}
 use lib.Ieee.{Float, nan, binary32, fits}
 use Rattle.answers.specs.Answers.{wrongLengths, tooManyPoints, outsidePoint, badStl, shortOutput, missingPoint}
 use Rattle.ranges.specs.Range.{firstOutside, farthest}
-use Rattle.stl_file.specs.Format.{fileLength, stl, count, isFile, corners}
+use Rattle.facets.specs.Format.{fileLength, stl, count, isFile, corners}
+unfoldable pub use Rattle.facets.specs.Known.{allBelow}
+pub use Rattle.facets.specs.Known.{Known}
 use Rattle.stl_file.specs.declared.StlWritten.{StlWritten}
 use Rattle.stl_file.specs.declared.StlRead.{StlRead}
-
--- every number is below a bound
-unfoldable pub allBelow : ℕ → List ℕ → Bool
-allBelow bound [] = true
-allBelow bound (f ∷ fs) = ltb f bound && allBelow bound fs
-
--- every number of the faces names a point
-pub record Known (points : List Float) (faces : List ℕ) : Type 0 where
-  pub known : (k : ℕ) → k < length faces → 3 * getD faces k 0 + 2 < length points
 
 -- ---- writing
 abbrev pub notWritten : ℕ → ℕ → StlWritten

@@ -1,14 +1,11 @@
 // Patches as binary STL, written into a lent slice of bytes and read back into a lent slice of coordinates.
 //
-// The format is `stl` and `corners` of specs/Format.antt, and what the calls answer is in specs/Answers.antt.
-mod read;
-mod write;
-
+// The format is `stl` and `corners` of crate `facets`, and what the calls answer is in specs/Answers.antt.
 ghost use mathlib.Core.Path.{_≡_};
 ghost use Rattle.stl_file.specs.Answers.{Wrote, Got};
-use crate::read::read_facets;
-use crate::write::names_points;
-use crate::write::put_file;
+use facets::read::read_facets;
+use facets::write::names_points;
+use facets::write::put_file;
 
 // The answer's number, 0 where the file was written; the detail, the first bad point at refusal 4; and the file's
 // length.

@@ -1,12 +1,12 @@
 -- `write::put_facet` meets its contract: four points and two zeros, one after the other. Assumes nothing.
 use native.Mathlib.Omega.{arith}
 use lib.ListN.{length-set, set}
-use Rattle.stl_file.proofs.Puts.{put-facet}
+use Rattle.facets.proofs.Puts.{put-facet}
 use mathlib.Core.Path.{_∙_}
 use Prim.Native.Nat.{_+_}
 use borrow.Author.Needs.{needs}
-use Rattle.stl_file.proofs.write.put_facet.Statement.{statement}
-use Rattle.stl_file.proofs.write.put_facet.Tie as tie
+use Rattle.facets.proofs.write.put_facet.Statement.{statement}
+use Rattle.facets.proofs.write.put_facet.Tie as tie
 
 normal-requires : tie.Need-normal-requires
 normal-requires c κs = search needs

@@ -3,11 +3,11 @@ use native.Mathlib.Omega.{arith}
 use Prim.Native.Nat.{_-_, _≤_}
 use mathlib.Core.Path.{_≡_, refl}
 use lib.ListN.{length, drop}
-use Rattle.stl_file.specs.Answers.{allBelow}
-use Rattle.stl_file.proofs.Below.{below-failed, below-passed, below-all}
+use Rattle.facets.specs.Known.{allBelow}
+use Rattle.facets.proofs.Below.{below-failed, below-passed, below-all}
 use borrow.Author.Needs.{needs}
-use Rattle.stl_file.proofs.write.names_points.Statement.{statement}
-use Rattle.stl_file.proofs.write.names_points.Tie as tie
+use Rattle.facets.proofs.write.names_points.Statement.{statement}
+use Rattle.facets.proofs.write.names_points.Tie as tie
 
 abbrev Inv-loop : tie.InvT-loop
 Inv-loop faces bound i₀ i = (i ≤ length faces) × (allBelow bound faces ≡ allBelow bound (drop i faces))

@@ -1,9 +1,9 @@
 -- `write::bits_of` meets its contract: a not-a-number is asked for first. Assumes nothing.
 use Rattle.numbers.proofs.RootSpecial.{not-self}
-use Rattle.stl_file.proofs.Floats.{pattern-nan}
+use Rattle.facets.proofs.Floats.{pattern-nan}
 use borrow.Author.Needs.{needs}
-use Rattle.stl_file.proofs.write.bits_of.Statement.{statement}
-use Rattle.stl_file.proofs.write.bits_of.Tie as tie
+use Rattle.facets.proofs.write.bits_of.Statement.{statement}
+use Rattle.facets.proofs.write.bits_of.Tie as tie
 
 returns : tie.Need-returns
 returns c = pattern-nan _ (c .if1 .taken)

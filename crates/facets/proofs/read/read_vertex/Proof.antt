@@ -1,12 +1,12 @@
 -- `read::read_vertex` meets its contract: three stores are a run of stores. Assumes nothing.
 use native.Mathlib.Omega.{arith}
 use lib.ListN.{length-set}
-use Rattle.stl_file.proofs.Puts.{read-vertex}
+use Rattle.facets.proofs.Puts.{read-vertex}
 use mathlib.Core.Path.{ap, _∙_}
 use Rattle.numbers.specs.Rounded.{f32}
 use borrow.Author.Needs.{needs}
-use Rattle.stl_file.proofs.read.read_vertex.Statement.{statement}
-use Rattle.stl_file.proofs.read.read_vertex.Tie as tie
+use Rattle.facets.proofs.read.read_vertex.Statement.{statement}
+use Rattle.facets.proofs.read.read_vertex.Tie as tie
 
 word-at-requires : tie.Need-word-at-requires
 word-at-requires c κs = search needs

@@ -1,8 +1,8 @@
 -- `write::put_vertex` meets its contract: three words, one after the other. Assumes nothing.
-use Rattle.stl_file.proofs.Puts.{put-vertex}
+use Rattle.facets.proofs.Puts.{put-vertex}
 use borrow.Author.Needs.{needs}
-use Rattle.stl_file.proofs.write.put_vertex.Statement.{statement}
-use Rattle.stl_file.proofs.write.put_vertex.Tie as tie
+use Rattle.facets.proofs.write.put_vertex.Statement.{statement}
+use Rattle.facets.proofs.write.put_vertex.Tie as tie
 
 bits-of-requires : tie.Need-bits-of-requires
 bits-of-requires c κs = search needs

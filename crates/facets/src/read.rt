@@ -5,7 +5,7 @@ ghost use lib.ListN.{length};
 ghost use lib.Seq.{sets};
 ghost use Rattle.numbers.specs.Rounded.{f32};
 ghost use Rattle.words.specs.Chunks.{chunks};
-ghost use Rattle.stl_file.specs.Format.{vertexAt, cornersOf};
+ghost use Rattle.facets.specs.Format.{vertexAt, cornersOf};
 use words::word_at;
 
 // The float with a pattern.

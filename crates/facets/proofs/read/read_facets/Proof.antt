@@ -6,11 +6,11 @@ use lib.ListN.{length}
 use lib.Seq.{sets}
 use Rattle.words.specs.Chunks.{chunks}
 use Rattle.words.proofs.Chunks.{lay-none, lay-more, lay-all}
-use Rattle.stl_file.specs.Format.{cornersOf}
-use Rattle.stl_file.proofs.Puts.{nine-length, read-nine}
+use Rattle.facets.specs.Format.{cornersOf}
+use Rattle.facets.proofs.Puts.{nine-length, read-nine}
 use borrow.Author.Needs.{needs}
-use Rattle.stl_file.proofs.read.read_facets.Statement.{statement}
-use Rattle.stl_file.proofs.read.read_facets.Tie as tie
+use Rattle.facets.proofs.read.read_facets.Statement.{statement}
+use Rattle.facets.proofs.read.read_facets.Tie as tie
 
 abbrev Inv-loop : tie.InvT-loop
 Inv-loop bytes corners₀ n i₀ corners i = (length corners ≡ length corners₀) × (i ≤ n) × (corners ≡ sets corners₀ 0 (chunks (cornersOf bytes) 0 i))

@@ -1,8 +1,8 @@
 -- `read::float_of` meets its contract: a not-a-number's pattern is asked for first. Assumes nothing.
-use Rattle.stl_file.proofs.Floats.{float-nan, float-number}
+use Rattle.facets.proofs.Floats.{float-nan, float-number}
 use borrow.Author.Needs.{needs}
-use Rattle.stl_file.proofs.read.float_of.Statement.{statement}
-use Rattle.stl_file.proofs.read.float_of.Tie as tie
+use Rattle.facets.proofs.read.float_of.Statement.{statement}
+use Rattle.facets.proofs.read.float_of.Tie as tie
 
 returns : tie.Need-returns
 returns c = float-nan _ (c .if1 .taken)

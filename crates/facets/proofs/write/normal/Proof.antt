@@ -1,8 +1,8 @@
 -- `write::normal` meets its contract: one law for each way out. Assumes nothing.
-use Rattle.stl_file.proofs.Puts.{normal-zero, normal-some}
+use Rattle.facets.proofs.Puts.{normal-zero, normal-some}
 use borrow.Author.Needs.{needs}
-use Rattle.stl_file.proofs.write.normal.Statement.{statement}
-use Rattle.stl_file.proofs.write.normal.Tie as tie
+use Rattle.facets.proofs.write.normal.Statement.{statement}
+use Rattle.facets.proofs.write.normal.Tie as tie
 
 difference-requires : tie.Need-difference-requires
 difference-requires c κs = search needs

@@ -15,7 +15,7 @@ use Rattle.words.specs.Words.{word, wordAt}
 use Rattle.words.specs.Chunks.{chunks}
 use Rattle.words.proofs.Laws.{sets-then}
 use Rattle.words.proofs.Chunks.{chunks-length}
-use Rattle.stl_file.specs.Format.{divided, normal, vertex, facet, facetOf, cornerAt, stl, vertexAt, cornersOf}
+use Rattle.facets.specs.Format.{divided, normal, vertex, facet, facetOf, cornerAt, stl, vertexAt, cornersOf}
 
 pub facet-length : (p q r : Point3f) → length (facet p q r) ≡ 50
 unfolding facet vertex word

@@ -6,11 +6,11 @@ use lib.ListN.{length}
 use lib.Seq.{sets}
 use Rattle.words.specs.Chunks.{chunks}
 use Rattle.words.proofs.Chunks.{lay-none, lay-more, lay-all}
-use Rattle.stl_file.specs.Format.{facetOf, cornerAt}
-use Rattle.stl_file.proofs.Puts.{facet-length, facet-of}
+use Rattle.facets.specs.Format.{facetOf, cornerAt}
+use Rattle.facets.proofs.Puts.{facet-length, facet-of}
 use borrow.Author.Needs.{needs}
-use Rattle.stl_file.proofs.write.put_facets.Statement.{statement}
-use Rattle.stl_file.proofs.write.put_facets.Tie as tie
+use Rattle.facets.proofs.write.put_facets.Statement.{statement}
+use Rattle.facets.proofs.write.put_facets.Tie as tie
 
 abbrev Inv-loop : tie.InvT-loop
 Inv-loop out₀ points faces n i₀ out i = (length out ≡ length out₀) × (i ≤ n) × (out ≡ sets out₀ 84 (chunks (facetOf (cornerAt points faces)) 0 i))

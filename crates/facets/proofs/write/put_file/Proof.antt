@@ -1,8 +1,8 @@
 -- `write::put_file` meets its contract: header, count and facets, one after the other. Assumes nothing.
-use Rattle.stl_file.proofs.Puts.{put-file}
+use Rattle.facets.proofs.Puts.{put-file}
 use borrow.Author.Needs.{needs}
-use Rattle.stl_file.proofs.write.put_file.Statement.{statement}
-use Rattle.stl_file.proofs.write.put_file.Tie as tie
+use Rattle.facets.proofs.write.put_file.Statement.{statement}
+use Rattle.facets.proofs.write.put_file.Tie as tie
 
 put-zeros-requires : tie.Need-put-zeros-requires
 put-zeros-requires c κs = search needs

@@ -11,7 +11,7 @@ use lib.ListN.{length, getD, drop, drop-of-length-le}
 use lib.Seq.{drop-cons}
 use lib.Ieee.{Float}
 use Rattle.lists.proofs.Bools.{and-both}
-use Rattle.stl_file.specs.Answers.{allBelow, Known}
+use Rattle.facets.specs.Known.{allBelow, Known}
 
 module _ (bound : ℕ) (fs : List ℕ) where
   step : (i : ℕ) → i < length fs → allBelow bound (drop i fs) ≡ (ltb (getD fs i 0) bound && allBelow bound (drop (i + 1) fs))
