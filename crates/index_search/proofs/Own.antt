@@ -13,7 +13,9 @@ use Rattle.lists.specs.Lists.{count, upFrom}
 use Rattle.lists.specs.Members.{In}
 use Rattle.lists.proofs.Bools.{and-both}
 use Rattle.lists.proofs.Members.{up-below}
-use Rattle.vector.specs.Vector.{Finite}
+use Rattle.numbers.specs.Root.{root}
+use Rattle.vector.specs.Vector.{Finite, squared}
+use Rattle.vector.proofs.Distances.{squared-fits, distance-is}
 use Rattle.vector.specs.declared.Point3f.{Point3f}
 use Rattle.domain.specs.Accepted.{Cloud}
 use Rattle.domain.proofs.Accepted.{cloud-finite}
@@ -171,17 +173,20 @@ module _ {points : List Float} {index : List ℕ} (own : Indexed points index) (
         ∙ any-order key order (upFrom 0 n) (λ v i. key-length v (below v (in-order-all v i))) (nearAt key 0) (key-length 0 (own .cloud .some)) in-order-all all-in-order
         ∙ all-scanned points spot n (own .cloud .some)
 
-    pub started : {best : Best} {square : Float} (w : ℕ) → Width n w → w ≤ 4096 → best .distance ≡ key 0 → Limit (best .distance) (best .limit) → square ≡ reachOf index n spot
-        → Ready points spot index n w square (take n index) best
+    root-is : {q : Float} → q ≡ squared (pointAt points 0) spot → root q ≡ key 0
+    root-is e = ap root e ∙ sym (distance-is (pointAt points 0) spot)
+
+    pub started : {q l square : Float} (w : ℕ) → Width n w → w ≤ 4096 → q ≡ squared (pointAt points 0) spot → Limit (root q) l → square ≡ reachOf index n spot
+        → Ready points spot index n w square (take n index) (record { square = q; number = 0; limit = l })
     started w h small e lim sq = record {
       boxed = boxed w h;
       narrow = small;
       few = omega (arith, whole-length, own .cloud .few);
       spot-finite = s;
       square-is = sq;
-      best-length = subst⁻¹ Length e (key-length 0 (own .cloud .some));
-      best-limit = lim;
+      best-length = subst⁻¹ Length (root-is e) (key-length 0 (own .cloud .some));
+      best-limit = record { is-f32 = subst⁻¹ (λ (z : Float). T (fits binary32 z)) e (squared-fits (pointAt points 0) spot); above = lim };
     }
 
-    pub nearest-found : {d : Float} {z : ℕ} {r : Best} → d ≡ key 0 → z ≡ 0 → Keeps r (scanned key (take n index) (record { distance = d; number = z })) → nearOf r ≡ nearest points n spot
-    nearest-found e z k = nearest-is (k .found-is ∙ ap (λ (x : Near). scanned key (take n index) x) (λ i. record { distance = e i; number = z i }))
+    pub nearest-found : {q : Float} {z : ℕ} {r : Best} → q ≡ squared (pointAt points 0) spot → z ≡ 0 → Keeps r (scanned key (take n index) (record { distance = root q; number = z })) → nearOf r ≡ nearest points n spot
+    nearest-found e z k = nearest-is (k .found-is ∙ ap (λ (x : Near). scanned key (take n index) x) (λ i. record { distance = root-is e i; number = z i }))

@@ -28,12 +28,12 @@ pub fn nearest_in(points: &[f32], index: &[u32], width: usize, spot: Point3f) ->
     ensures { λ r. ⌜ nearOf r ≡ nearest (now (points .entry)) (length (now (points .entry)) / 3) spot ⌝ }
 {
     let n = points.len() / 3;
-    let distance = vector::distance(points::point_at(points, 0), spot);
+    let square = vector::distance_squared(points::point_at(points, 0), spot);
     let best = Best {
-        distance: distance,
+        square: square,
         number: 0,
-        limit: bounds::square_limit(distance),
+        limit: nearest::limit_of(square),
     };
-    let square = nearest::reach(index, n, spot);
-    nearest::search(points, spot, index, n, width, square, &index[..n], best)
+    let far = nearest::reach(index, n, spot);
+    nearest::search(points, spot, index, n, width, far, &index[..n], best)
 }

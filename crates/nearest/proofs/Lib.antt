@@ -1,6 +1,7 @@
 -- Laws of the definitions, leaves first.
 pub mod Cases
 pub mod Lengths
+pub mod Margin
 pub mod Bounds
 pub mod AnyOrder
 pub mod Scanning

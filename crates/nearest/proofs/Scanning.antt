@@ -6,7 +6,7 @@ use Prim.Native.Nat.{ℕ, suc, _+_, _-_, _*_, _/_, _≤_, _<_}
 use native.Mathlib.Nat.{le-of-eq}
 use native.Mathlib.Omega.{arith}
 use lib.Dec.{T, ltb, eqb}
-use lib.Ieee.{Float, lt}
+use lib.Ieee.{Float, binary32, fits, lt}
 use lib.ListN.{length, getD, take, drop, take-append-drop, length-drop, drop-of-length-le}
 use lib.Seq.{drop-cons, take-all, length-take-le}
 use Rattle.lists.specs.Lists.{count}
@@ -22,7 +22,7 @@ use Rattle.points.specs.Points.{pointAt}
 use Rattle.bounds.specs.Within.{Limit}
 use Rattle.nearest.specs.declared.Best.{Best}
 use Rattle.nearest.specs.Scan.{Near, lengthTo}
-use Rattle.nearest.specs.Parts.{closer, scanned, Length, nearOf, Keeps}
+use Rattle.nearest.specs.Parts.{closer, scanned, Length, nearOf, Limited, Keeps}
 use Rattle.nearest.specs.Boxes.{reachOf, boxesBelow, secondAt, Known, Held, Boxed, leaf, node, Ready}
 use Rattle.nearest.proofs.Lengths.{distance-length}
 use Rattle.nearest.proofs.Bounds.{reach-least, inside-finite}
@@ -42,57 +42,62 @@ unfolding closer
 kept best d number h = rw (false-of (lt d (best .distance)) (λ k. le-not-lt (best .distance) d (lt-le (best .distance) d h) k), true-of (lt (best .distance) d) h)
 
 -- a square above the limit is that of a farther point
-farther : (best : Best) (p spot : Point3f) → Limit (best .distance) (best .limit) → T (lt (best .limit) (squared p spot)) → T (lt (best .distance) (distance p spot))
-farther best p spot lim h = subst⁻¹ (λ (z : Float). T (lt (best .distance) z)) (distance-is p spot) (lim (squared p spot) (squared-fits p spot) h)
+farther : (best : Best) (p spot : Point3f) → Limited best → T (lt (best .limit) (squared p spot)) → T (lt (root (best .square)) (distance p spot))
+farther best p spot lim h = subst⁻¹ (λ (z : Float). T (lt (root (best .square)) z)) (distance-is p spot) (lim .above (squared p spot) (squared-fits p spot) h)
 
-abbrev bestOf : Float → ℕ → Float → Best
-bestOf d number limit = record { distance = d; number = number; limit = limit }
+pub passed : (best : Best) (p spot : Point3f) (number : ℕ) {s : Float} → Limited best → s ≡ squared p spot → lt (best .limit) s ≡ true → Keeps best (closer (nearOf best) (distance p spot) number)
+passed best p spot number lim e h = record {
+  found-is = sym (kept (nearOf best) (distance p spot) number (farther best p spot lim (subst⁻¹ T (ap (λ (z : Float). lt (best .limit) z) (sym e) ∙ h) tt)));
+  limited = lim;
+}
 
-module _ (best : Best) (p spot : Point3f) (number : ℕ) where
-  pub passed : {s : Float} → Limit (best .distance) (best .limit) → s ≡ squared p spot → lt (best .limit) s ≡ true → Keeps best (closer (nearOf best) (distance p spot) number)
-  passed lim e h = record {
-    found-is = sym (kept (nearOf best) (distance p spot) number (farther best p spot lim (subst⁻¹ T (ap (λ (z : Float). lt (best .limit) z) (sym e) ∙ h) tt)));
-    limit-holds = lim;
-  }
+-- the point's square, as the next best one
+pub now-limited : (p spot : Point3f) (number : ℕ) {s l : Float} → s ≡ squared p spot → Limit (root s) l → Limited (record { square = s; number = number; limit = l })
+now-limited p spot number e lim = record { is-f32 = subst⁻¹ (λ (z : Float). T (fits binary32 z)) e (squared-fits p spot); above = lim }
 
-  pub root-is : {s d : Float} → s ≡ squared p spot → d ≡ root s → d ≡ distance p spot
-  root-is e g = g ∙ ap root e ∙ sym (distance-is p spot)
+-- the best one's square is above the limit of another
+pub nearer-taken : (best other : Best) → Limited best → Limited other → lt (other .limit) (best .square) ≡ true → Keeps other (closer (nearOf best) (root (other .square)) (other .number))
+unfolding closer
+nearer-taken best other lb lo h = record {
+  found-is = rw (true-of (lt (root (other .square)) (root (best .square))) (lo .above (best .square) (lb .is-f32) (subst⁻¹ T h tt)));
+  limited = lo;
+}
 
-  pub nearer-taken : {d l : Float} → d ≡ distance p spot → lt d (best .distance) ≡ true → Limit d l → Keeps (bestOf d number l) (closer (nearOf best) (distance p spot) number)
+-- the same of the distance
+pub at-distance : (best : Best) (p spot : Point3f) (number : ℕ) {s : Float} {r : Best} → s ≡ squared p spot → Keeps r (closer (nearOf best) (root s) number) → Keeps r (closer (nearOf best) (distance p spot) number)
+at-distance best p spot number {s} {r} e k = subst (λ (z : Float). Keeps r (closer (nearOf best) z number)) (ap root e ∙ sym (distance-is p spot)) k
+
+-- ---- two by their roots
+module _ (best other : Best) (lb : Limited best) (lo : Limited other) {k d : Float} (ek : k ≡ root (best .square)) (ed : d ≡ root (other .square)) where
+  both : (b : Bool) → (lt d k ≡ b → lt (root (other .square)) (root (best .square)) ≡ b)
+  both b h = ap (λ (z : Float). lt z (root (best .square))) (sym ed) ∙ ap (λ (z : Float). lt d z) (sym ek) ∙ h
+
+  back : (b : Bool) → (lt k d ≡ b → lt (root (best .square)) (root (other .square)) ≡ b)
+  back b h = ap (λ (z : Float). lt z (root (other .square))) (sym ek) ∙ ap (λ (z : Float). lt k z) (sym ed) ∙ h
+
+  pub root-taken : lt d k ≡ true → Keeps other (closer (nearOf best) (root (other .square)) (other .number))
   unfolding closer
-  nearer-taken {d} {l} e h lim = record {
-    found-is = subst (λ (z : Float). nearOf (bestOf d number l) ≡ closer (nearOf best) z number) e (rw (h));
-    limit-holds = lim;
-  }
+  root-taken h = record { found-is = rw (both true h); limited = lo }
 
-  pub farther-left : {d : Float} → Limit (best .distance) (best .limit) → d ≡ distance p spot → lt d (best .distance) ≡ false → lt (best .distance) d ≡ true → Keeps best (closer (nearOf best) (distance p spot) number)
+  pub root-left : lt d k ≡ false → lt k d ≡ true → Keeps best (closer (nearOf best) (root (other .square)) (other .number))
   unfolding closer
-  farther-left lim e h k = record {
-    found-is = subst (λ (z : Float). nearOf best ≡ closer (nearOf best) z number) e (rw (h, k));
-    limit-holds = lim;
-  }
+  root-left h g = record { found-is = rw (both false h, back true g); limited = lb }
 
-  pub lower-taken : {d l : Float} → d ≡ distance p spot → lt d (best .distance) ≡ false → lt (best .distance) d ≡ false → ltb number (best .number) ≡ true → Limit d l → Keeps (bestOf d number l) (closer (nearOf best) (distance p spot) number)
+  pub lower-taken : lt d k ≡ false → lt k d ≡ false → ltb (other .number) (best .number) ≡ true → Keeps other (closer (nearOf best) (root (other .square)) (other .number))
   unfolding closer
-  lower-taken {d} {l} e h k m lim = record {
-    found-is = subst (λ (z : Float). nearOf (bestOf d number l) ≡ closer (nearOf best) z number) e (rw (h, k, m));
-    limit-holds = lim;
-  }
+  lower-taken h g m = record { found-is = rw (both false h, back false g, m); limited = lo }
 
-  pub higher-left : {d : Float} → Limit (best .distance) (best .limit) → d ≡ distance p spot → lt d (best .distance) ≡ false → lt (best .distance) d ≡ false → ltb number (best .number) ≡ false → Keeps best (closer (nearOf best) (distance p spot) number)
+  pub higher-left : lt d k ≡ false → lt k d ≡ false → ltb (other .number) (best .number) ≡ false → Keeps best (closer (nearOf best) (root (other .square)) (other .number))
   unfolding closer
-  higher-left lim e h k m = record {
-    found-is = subst (λ (z : Float). nearOf best ≡ closer (nearOf best) z number) e (rw (h, k, m));
-    limit-holds = lim;
-  }
+  higher-left h g m = record { found-is = rw (both false h, back false g, m); limited = lb }
 
 -- ---- the loop: what is left leads to the whole
 pub record Left (key : ℕ → Float) (xs : List ℕ) (best : Best) (i : ℕ) (now : Best) : Type 0 where
   pub most : i ≤ length xs
   pub same : scanned key (drop i xs) (nearOf now) ≡ scanned key xs (nearOf best)
-  pub limited : Limit (now .distance) (now .limit)
+  pub limited : Limited now
 
-pub left-start : (key : ℕ → Float) (xs : List ℕ) (best : Best) → Limit (best .distance) (best .limit) → Left key xs best 0 best
+pub left-start : (key : ℕ → Float) (xs : List ℕ) (best : Best) → Limited best → Left key xs best 0 best
 left-start key xs best lim = record { most = omega arith; same = refl; limited = lim }
 
 module _ (key : ℕ → Float) {xs : List ℕ} {best : Best} {i : ℕ} {now : Best} where
@@ -105,14 +110,14 @@ module _ (key : ℕ → Float) {xs : List ℕ} {best : Best} {i : ℕ} {now : Be
         same = ap (λ (z : Near). scanned key (drop (i + 1) xs) z) (k .found-is ∙ ap (λ (z : Float). closer (nearOf now) z (getD xs i 0)) ed)
             ∙ ap (λ (n : ℕ). scanned key (drop n xs) (closer (nearOf now) (key (getD xs i 0)) (getD xs i 0))) (sym e)
             ∙ ap (λ (z : List ℕ). scanned key z (nearOf now)) (sym (drop-cons xs i 0 h)) ∙ l .same;
-        limited = k .limit-holds;
+        limited = k .limited;
       }
 
   pub left-end : Left key xs best i now → length xs ≤ i → Keeps now (scanned key xs (nearOf best))
   unfolding scanned
   left-end l h = record {
     found-is = sym (ap (λ (z : List ℕ). scanned key z (nearOf now)) (drop-of-length-le xs {i = i} h)) ∙ l .same;
-    limit-holds = l .limited;
+    limited = l .limited;
   }
 
 -- ---- by halves
@@ -171,7 +176,7 @@ module _ {points : List Float} {spot : Point3f} {words : List ℕ} {at width : �
     found-is = all-kept key xs (nearOf best) (λ v i. farther best (pointAt points v) spot (r .best-limit)
         (lt-le-trans (best .limit) (reachOf words at spot) (squared (pointAt points v) spot) (subst⁻¹ T (ap (λ (z : Float). lt (best .limit) z) (sym (r .square-is)) ∙ e) tt)
         (reach-least words at spot (pointAt points v) (r .spot-finite) (here .inside v i))));
-    limit-holds = r .best-limit;
+    limited = r .best-limit;
   }
 
   -- the halves' boxes
@@ -181,7 +186,7 @@ module _ {points : List Float} {spot : Point3f} {words : List ℕ} {at width : �
   pub second-held : 8 < length xs → {p : ℕ} → p ≡ boxesBelow (width / 2) (length xs / 2) → Held points words (drop (length xs / 2) xs) (at + 6 + 6 * p)
   second-held l {p} e = subst⁻¹ (λ (z : ℕ). Held points words (drop (length xs / 2) xs) (at + 6 + 6 * z)) e (held (second-boxed (r .boxed) l))
 
-  module _ {b : Best} (lb : Length (b .distance)) (tb : Limit (b .distance) (b .limit)) (l : 8 < length xs) where
+  module _ {b : Best} (lb : Length (root (b .square))) (tb : Limited b) (l : 8 < length xs) where
     pub first-ready : {a : Float} → a ≡ reachOf words (at + 6) spot → Ready points spot words (at + 6) (width / 2) a (take (length xs / 2) xs) b
     first-ready e = record {
       boxed = first-boxed (r .boxed) l;
@@ -207,13 +212,13 @@ module _ {points : List Float} {spot : Point3f} {words : List ℕ} {at width : �
     }
 
   -- after one half the best is a length still
-  size-of : (part : List ℕ) → ((v : ℕ) → In v part → In v xs) → {a : Best} → Keeps a (scanned key part (nearOf best)) → Length (a .distance)
+  size-of : (part : List ℕ) → ((v : ℕ) → In v part → In v xs) → {a : Best} → Keeps a (scanned key part (nearOf best)) → Length (root (a .square))
   size-of part from k = subst⁻¹ (λ (z : Near). Length (z .distance)) (k .found-is) (found key part (λ v i. good v (from v i)) (nearOf best) (r .best-length) .size)
 
-  pub first-size : {a : Best} → Keeps a (scanned key (take (length xs / 2) xs) (nearOf best)) → Length (a .distance)
+  pub first-size : {a : Best} → Keeps a (scanned key (take (length xs / 2) xs) (nearOf best)) → Length (root (a .square))
   first-size k = size-of (take (length xs / 2) xs) (in-first xs (length xs / 2)) k
 
-  pub second-length : {a : Best} → Keeps a (scanned key (take (length xs - length xs / 2) (drop (length xs / 2) xs)) (nearOf best)) → Length (a .distance)
+  pub second-length : {a : Best} → Keeps a (scanned key (take (length xs - length xs / 2) (drop (length xs / 2) xs)) (nearOf best)) → Length (root (a .square))
   second-length {a} k = size-of (drop (length xs / 2) xs) (in-second xs (length xs / 2)) (subst (λ (z : List ℕ). Keeps a (scanned key z (nearOf best))) (rest-is xs (length xs / 2)) k)
 
   pub in-turn : {a z : Best} → Keeps a (scanned key (take (length xs / 2) xs) (nearOf best)) → Keeps z (scanned key (take (length xs - length xs / 2) (drop (length xs / 2) xs)) (nearOf a)) → Keeps z (scanned key xs (nearOf best))
@@ -222,7 +227,7 @@ module _ {points : List Float} {spot : Point3f} {words : List ℕ} {at width : �
       record {
         found-is = kz .found-is ∙ ap (λ (l : List ℕ). scanned key l (nearOf a)) (rest-is xs m) ∙ ap (λ (n : Near). scanned key (drop m xs) n) (ka .found-is)
             ∙ sym (scanned-append key (take m xs) (drop m xs) (nearOf best)) ∙ ap (λ (l : List ℕ). scanned key l (nearOf best)) (take-append-drop m xs);
-        limit-holds = kz .limit-holds;
+        limited = kz .limited;
       }
 
   pub turned : {a z : Best} → Keeps a (scanned key (take (length xs - length xs / 2) (drop (length xs / 2) xs)) (nearOf best)) → Keeps z (scanned key (take (length xs / 2) xs) (nearOf a)) → Keeps z (scanned key xs (nearOf best))
@@ -234,5 +239,5 @@ module _ {points : List Float} {spot : Point3f} {words : List ℕ} {at width : �
       record {
         found-is = kz .found-is ∙ ap (λ (n : Near). scanned key (take m xs) n) (ka .found-is ∙ ap (λ (l : List ℕ). scanned key l (nearOf best)) (rest-is xs m))
             ∙ sym (scanned-append key (drop m xs) (take m xs) (nearOf best)) ∙ any-order key both xs (λ v i. good v (to v i)) (nearOf best) (r .best-length) to from;
-        limit-holds = kz .limit-holds;
+        limited = kz .limited;
       }

@@ -8,12 +8,12 @@ use lib.Ieee.{Float, binary32, lt, le, ofBits, nanBits}
 use lib.Ieee.Scale.{finite}
 use lib.ListN.{length, getD, take, drop}
 use Rattle.lists.specs.Members.{In}
+use Rattle.numbers.specs.Root.{root}
 use Rattle.vector.specs.Vector.{Finite, point, squared}
 use Rattle.vector.specs.declared.Point3f.{Point3f}
 use Rattle.points.specs.Points.{pointAt}
-use Rattle.bounds.specs.Within.{Limit}
 use Rattle.nearest.specs.declared.Best.{Best}
-use Rattle.nearest.specs.Parts.{Length}
+use Rattle.nearest.specs.Parts.{Length, Limited}
 
 -- the coordinate whose bits stand in a word
 abbrev pub wordAt : List ℕ → ℕ → Float
@@ -89,5 +89,5 @@ pub record Ready
   pub few : length xs ≤ 4096
   pub spot-finite : Finite spot
   pub square-is : square ≡ reachOf words at spot
-  pub best-length : Length (best .distance)
-  pub best-limit : Limit (best .distance) (best .limit)
+  pub best-length : Length (root (best .square))
+  pub best-limit : Limited best

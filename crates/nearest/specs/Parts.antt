@@ -6,6 +6,7 @@ use Prim.Native.Nat.{ℕ}
 use lib.Dec.{T, ltb}
 use lib.Ieee.{Float, binary32, lt, fits}
 use Rattle.numbers.specs.Bounds.{unsigned}
+use Rattle.numbers.specs.Root.{root}
 use Rattle.bounds.specs.Within.{Limit}
 use Rattle.nearest.specs.declared.Best.{Best}
 use Rattle.nearest.specs.Scan.{Near}
@@ -28,9 +29,14 @@ pub record Length (d : Float) : Type 0 where
   pub sign : T (unsigned d)
 
 abbrev pub nearOf : Best → Near
-nearOf best = record { distance = best .distance; number = best .number }
+nearOf best = record { distance = root (best .square); number = best .number }
 
--- what is kept stands for the one found, and its limit is one of its length
+-- the square is an f32, and each square above the limit has a greater root
+pub record Limited (best : Best) : Type 0 where
+  pub is-f32 : T (fits binary32 (best .square))
+  pub above : Limit (root (best .square)) (best .limit)
+
+-- what is kept stands for the one found, and its limit is one of its square
 pub record Keeps (best : Best) (found : Near) : Type 0 where
   pub found-is : nearOf best ≡ found
-  pub limit-holds : Limit (best .distance) (best .limit)
+  pub limited : Limited best

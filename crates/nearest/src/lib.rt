@@ -5,54 +5,80 @@ ghost use mathlib.Core.Path.{_≡_};
 ghost use mathlib.Core.Bool.{not};
 ghost use Prim.Native.Nat.{_≤_, _<_};
 ghost use lib.Dec.{T};
-ghost use lib.Ieee.{binary32, nanBits};
+ghost use lib.Ieee.{binary32, fits, nanBits};
 ghost use lib.ListN.{length, getD};
+ghost use Rattle.numbers.specs.Root.{root};
 ghost use Rattle.bounds.specs.Within.{Limit};
 ghost use Rattle.vector.specs.Vector.{distance};
 ghost use Rattle.nearest.specs.Scan.{lengthTo};
-ghost use Rattle.nearest.specs.Parts.{closer, scanned, nearOf, Keeps};
+ghost use Rattle.nearest.specs.Parts.{closer, scanned, nearOf, Limited, Keeps};
 ghost use Rattle.nearest.specs.Boxes.{wordAt, clampTo, reachOf, boxesBelow, Six, Known, Ready};
 
-// The nearest point so far. A square above the limit has a root above the distance, so that most points need no root.
+// The nearest point so far, by its square. A square above the limit has a root above this one's, so that few points need
+// a root.
 pub struct Best {
-    pub distance: f32,
+    pub square: f32,
     pub number: u32,
     pub limit: f32,
 }
 
+// A number such that each square above it has a root above the given square's. Where no rounding comes near to a part
+// in a million it is that much more; elsewhere it is a guess, which is tested.
+pub fn limit_of(square: f32) -> f32
+    requires { ⌜ T (fits binary32 square) ⌝ }
+    ensures { λ t. ⌜ Limit (root square) t ⌝ }
+{
+    if 7.888609e-31 <= square {
+        if square <= 1.2676506e30 {
+            return square * 1.000001;
+        }
+    }
+    bounds::square_limit(numbers::sqrt(square))
+}
+
+// The nearer of two by their roots, the lower number on equality.
+fn settled(best: Best, other: Best) -> Best
+    requires { ⌜ Limited best × Limited other ⌝ }
+    ensures { λ r. ⌜ Keeps r (closer (nearOf best) (root (other .square)) (other .number)) ⌝ }
+{
+    let kept = numbers::sqrt(best.square);
+    let distance = numbers::sqrt(other.square);
+    if distance < kept {
+        return other;
+    }
+    if kept < distance {
+        return best;
+    }
+    if other.number < best.number {
+        return other;
+    }
+    best
+}
+
 // The nearer of the best so far and a point, the lower number on equality.
 fn closer(best: Best, p: Point3f, spot: Point3f, number: u32) -> Best
-    requires { ⌜ Limit (best .distance) (best .limit) ⌝ }
+    requires { ⌜ Limited best ⌝ }
     ensures { λ r. ⌜ Keeps r (closer (nearOf best) (distance p spot) number) ⌝ }
 {
     let square = vector::distance_squared(p, spot);
     if best.limit < square {
         return best;
     }
-    let distance = numbers::sqrt(square);
-    if distance < best.distance {
-        return Best {
-            distance: distance,
-            number: number,
-            limit: bounds::square_limit(distance),
-        };
+    let limit = limit_of(square);
+    let other = Best {
+        square: square,
+        number: number,
+        limit: limit,
+    };
+    if limit < best.square {
+        return other;
     }
-    if best.distance < distance {
-        return best;
-    }
-    if number < best.number {
-        return Best {
-            distance: distance,
-            number: number,
-            limit: bounds::square_limit(distance),
-        };
-    }
-    best
+    settled(best, other)
 }
 
 // The nearest of the best so far and all points of a list.
 fn scan(points: &[f32], spot: Point3f, order: &[u32], best: Best) -> Best
-    requires { ⌜ Limit (best .distance) (best .limit) ⌝ }
+    requires { ⌜ Limited best ⌝ }
     requires { ⌜ Known (now points) (now order) ⌝ }
     ensures { λ r. ⌜ Keeps r (scanned (lengthTo (now (points .entry)) spot) (now (order .entry)) (nearOf best)) ⌝ }
 {

@@ -141,7 +141,8 @@ pub fn nearest_point(
     }
     let width = index_search::width_of(points.len() / 3);
     let best = index_search::nearest_in(points, index, width, vector::point(x, y, z));
-    nearest_of(0, 0, best.number, best.distance)
+    let distance = numbers::sqrt(best.square);
+    nearest_of(0, 0, best.number, distance)
 }
 
 // The nearest point to each of many spots: its number goes to the spot's place in the found slice.

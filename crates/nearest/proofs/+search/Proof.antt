@@ -215,7 +215,7 @@ search-search-requires-2 : (t : ℕ) → search-lts.Need-search-requires-2 (
   search-below t,
   search′.Post,
 ) (search-at t) search′.Post
-search-search-requires-2 t c κs = let o = c .before .before .before .before .before .before .before .before .before .before .before .before .before .args .order .now in let r = c .before .before .before .before .before .before .before .before .before .before .before .before .before .pre .1 in let n : 8 < length o = c .before .before .before .before .before .before .before .if2 .left in (omega (arith, c .before .before .before .before .before .before .before .before .before .before .before .before .before .pre .0, length-take-le (length o / 2) o (omega arith)), first-ready r (second-length r (c .before .search .ensures)) (c .before .search .ensures .limit-holds) n (c .before .before .before .before .before .reach .ensures))
+search-search-requires-2 t c κs = let o = c .before .before .before .before .before .before .before .before .before .before .before .before .before .args .order .now in let r = c .before .before .before .before .before .before .before .before .before .before .before .before .before .pre .1 in let n : 8 < length o = c .before .before .before .before .before .before .before .if2 .left in (omega (arith, c .before .before .before .before .before .before .before .before .before .before .before .before .before .pre .0, length-take-le (length o / 2) o (omega arith)), first-ready r (second-length r (c .before .search .ensures)) (c .before .search .ensures .limited) n (c .before .before .before .before .before .reach .ensures))
 
 search-returns-3 : (t : ℕ) → search-lts.Need-returns-3 (
   scan-reads.Asked,
@@ -311,7 +311,7 @@ search-search-requires-4 : (t : ℕ) → search-lts.Need-search-requires-4 (
   search-below t,
   search′.Post,
 ) (search-at t) search′.Post
-search-search-requires-4 t c κs = let o = c .before .before .before .before .before .before .before .before .before .before .before .before .before .args .order .now in let r = c .before .before .before .before .before .before .before .before .before .before .before .before .before .pre .1 in let n : 8 < length o = c .before .before .before .before .before .before .before .if2 .left in (omega (arith, c .before .before .before .before .before .before .before .before .before .before .before .before .before .pre .0, second-size o (length o / 2)), second-ready r (first-size r (c .before .search3 .ensures)) (c .before .search3 .ensures .limit-holds) n (c .before .before .before .before .before .before .boxes-below .ensures) (c .before .before .before .before .reach2 .ensures))
+search-search-requires-4 t c κs = let o = c .before .before .before .before .before .before .before .before .before .before .before .before .before .args .order .now in let r = c .before .before .before .before .before .before .before .before .before .before .before .before .before .pre .1 in let n : 8 < length o = c .before .before .before .before .before .before .before .if2 .left in (omega (arith, c .before .before .before .before .before .before .before .before .before .before .before .before .before .pre .0, second-size o (length o / 2)), second-ready r (first-size r (c .before .search3 .ensures)) (c .before .search3 .ensures .limited) n (c .before .before .before .before .before .before .boxes-below .ensures) (c .before .before .before .before .reach2 .ensures))
 
 search-returns-4 : (t : ℕ) → search-lts.Need-returns-4 (
   scan-reads.Asked,

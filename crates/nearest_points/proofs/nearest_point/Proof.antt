@@ -24,6 +24,7 @@ use Rattle.nearest_points.proofs.nearest_of.Reads as nearest-of-reads
 use Rattle.nearest_points.proofs.refusal_of_search.Reads as refusal-of-search-reads
 use Rattle.nearest_points.proofs.spot_outside.Reads as spot-outside-reads
 use Rattle.point_index.proofs.matches.Reads as matches-reads
+use Rattle.numbers.proofs.sqrt.Reads as sqrt-reads
 use Rattle.vector.proofs.point.Reads as point-reads
 
 spot-outside-requires : tie.Need-spot-outside-requires
@@ -71,6 +72,9 @@ point-requires c κs = search needs
 nearest-in-requires : tie.Need-nearest-in-requires
 nearest-in-requires c κs = let a = c .before .before .before .before .before .before .before .before .before .before .before .before .before .before .before .before .before .before .before .before .before .before .before .before .before .before .args in let e = early-is (a .points .now) (a .x ∷ a .y ∷ a .z ∷ []) (a .index .now) (a .words .now) (a .floats .now) (c .before .before .before .before .before .before .before .before .before .before .before .before .before .before .before .before .before .before .before .before .before .spot-outside .ensures) (c .before .before .before .before .before .before .before .before .before .before .before .before .before .before .before .before .before .before .before .before .refusal-of-search .ensures) in let k = accepted (a .points .now) (a .x ∷ a .y ∷ a .z ∷ []) (length (a .index .now)) (length (a .words .now)) (length (a .floats .now)) (zero-answer (a .points .now) (a .x ∷ a .y ∷ a .z ∷ []) (a .index .now) (a .words .now) (a .floats .now) e (c .before .before .before .before .before .before .before .before .before .before .before .before .before .before .before .before .before .before .if1 .left)) in (record { cloud = k .cloud; own = passed (c .before .before .before .before .before .before .before .before .before .before .before .before .before .before .before .matches .ensures) (c .before .before .if2 .left) }, c .before .width-of .ensures .0, c .before .width-of .ensures .1, subst⁻¹ Finite (c .point .ensures) (one-finite (a .x) (a .y) (a .z) (k .near)))
 
+sqrt-requires : tie.Need-sqrt-requires
+sqrt-requires c κs = search needs
+
 nearest-of-requires-3 : tie.Need-nearest-of-requires-3
 nearest-of-requires-3 c κs = search needs
 
@@ -81,7 +85,7 @@ same-length-4 : tie.Need-same-length-4
 same-length-4 c = search needs
 
 returns-3 : tie.Need-returns-3
-returns-3 c = let a = c .before .before .before .before .before .before .before .before .before .before .before .before .before .before .before .before .before .before .before .before .before .before .before .before .before .before .before .before .args in let e = early-is (a .points .now) (a .x ∷ a .y ∷ a .z ∷ []) (a .index .now) (a .words .now) (a .floats .now) (c .before .before .before .before .before .before .before .before .before .before .before .before .before .before .before .before .before .before .before .before .before .before .before .spot-outside .ensures) (c .before .before .before .before .before .before .before .before .before .before .before .before .before .before .before .before .before .before .before .before .before .before .refusal-of-search .ensures) in one-found (a .points .now) (a .x) (a .y) (a .z) (a .index .now) (a .words .now) (a .floats .now) e (c .before .before .before .before .before .before .before .before .before .before .before .before .before .before .before .before .before .before .before .before .if1 .left) (c .before .before .before .before .before .before .before .before .before .before .before .clear-u32 .ensures ∙ ap (λ (n : ℕ). replicate n 0) (c .before .before .before .before .before .before .before .before .before .before .before .before .before .before .before .before .before .matches .kept .1 .1 .0)) (c .before .before .before .before .before .before .before .clear-f32 .ensures ∙ ap (λ (n : ℕ). replicate n (f32 0)) (c .before .before .before .before .before .before .before .before .before .before .before .before .before .before .before .before .before .matches .kept .1 .1 .1 .0)) (passed (c .before .before .before .before .before .before .before .before .before .before .before .before .before .before .before .before .before .matches .ensures) (c .before .before .before .before .if2 .left)) (c .nearest-of3 .ensures) (c .before .nearest-in .ensures ∙ ap (λ (p : Point3f). nearest (a .points .now) (length (a .points .now) / 3) p) (c .before .before .point .ensures))
+returns-3 c = let a = c .before .before .before .before .before .before .before .before .before .before .before .before .before .before .before .before .before .before .before .before .before .before .before .before .before .before .before .before .before .args in let e = early-is (a .points .now) (a .x ∷ a .y ∷ a .z ∷ []) (a .index .now) (a .words .now) (a .floats .now) (c .before .before .before .before .before .before .before .before .before .before .before .before .before .before .before .before .before .before .before .before .before .before .before .before .spot-outside .ensures) (c .before .before .before .before .before .before .before .before .before .before .before .before .before .before .before .before .before .before .before .before .before .before .before .refusal-of-search .ensures) in one-found (a .points .now) (a .x) (a .y) (a .z) (a .index .now) (a .words .now) (a .floats .now) e (c .before .before .before .before .before .before .before .before .before .before .before .before .before .before .before .before .before .before .before .before .before .if1 .left) (c .before .before .before .before .before .before .before .before .before .before .before .before .clear-u32 .ensures ∙ ap (λ (n : ℕ). replicate n 0) (c .before .before .before .before .before .before .before .before .before .before .before .before .before .before .before .before .before .before .matches .kept .1 .1 .0)) (c .before .before .before .before .before .before .before .before .clear-f32 .ensures ∙ ap (λ (n : ℕ). replicate n (f32 0)) (c .before .before .before .before .before .before .before .before .before .before .before .before .before .before .before .before .before .before .matches .kept .1 .1 .1 .0)) (passed (c .before .before .before .before .before .before .before .before .before .before .before .before .before .before .before .before .before .before .matches .ensures) (c .before .before .before .before .before .if2 .left)) (c .nearest-of3 .ensures) ((λ i. record { distance = c .before .sqrt .ensures i; number = c .before .before .nearest-in .result .number }) ∙ c .before .before .nearest-in .ensures ∙ ap (λ (p : Point3f). nearest (a .points .now) (length (a .points .now) / 3) p) (c .before .before .before .point .ensures))
 
 pub nearest-point-spec : {M : Type 1} → statement M
 nearest-point-spec =
@@ -102,6 +106,7 @@ nearest-point-spec =
     width-of-requires
     point-requires
     nearest-in-requires
+    sqrt-requires
     nearest-of-requires-3
     same-length-3
     same-length-4
