@@ -11,7 +11,7 @@ use lib.Ieee.Bits.{is-true}
 use lib.Ieee.Scale.{finite}
 use Rattle.numbers.specs.Rounded.{f32, _⊗_}
 use Rattle.numbers.specs.Root.{root}
-use Rattle.numbers.proofs.OrderLaws.{le-left, le-right, le-lt-trans}
+use Rattle.numbers.proofs.OrderLaws.{le-left, le-right, le-not-lt, le-lt-trans}
 use Rattle.numbers.proofs.ProductOrder.{mul-monotone, mul-monotone-finite, mul-number}
 use Rattle.quality.specs.declared.TriangleQuality.{TriangleQuality}
 use Rattle.triangle.specs.Quality.{isZero, sourceAcceptable, acceptable}
@@ -21,7 +21,7 @@ use Rattle.decisions.specs.Decisions.{reach, apart, isClose, accepts, qualityAt
 use Rattle.seed.specs.Judged.{NoSeed}
 use Rattle.seed.specs.Flat.{Flat}
 use Rattle.seed.specs.Seedless.{Seedless, SeedlessBetween}
-use Rattle.seed.specs.Known.{Growing, NothingTo, Known, flat-cloud, up-to}
+use Rattle.seed.specs.Known.{Growing, NothingTo, Silent, Known, flat-cloud, up-to}
 use Rattle.seed.proofs.Nothing.{first-nothing, flat-nothing}
 use Rattle.seed.proofs.Threes.{seedless-nothing}
 use Rattle.lists.proofs.Bools.{not-true, true-not-false, and-both}
@@ -109,11 +109,20 @@ larger-nothing s pts used t g b r z h = first-nothing (floatsOf s pts) r used (s
 abbrev pub none-known : Float
 none-known = div binary32 (ofBits binary32 0) (ofBits binary32 0)
 
-pub nothing-yet : (s : Scene) (pts : List Float) (used : List ℕ) → NothingTo s pts used none-known
+pub silent-below : (r : Float) → T (lt r (f32 0)) → Silent r
+silent-below r h x z k = le-not-lt (f32 0) x z (le-lt-trans x r (f32 0) k h)
+
+pub silent-none : Silent none-known
 unfolding le lt eq div ofBits
-nothing-yet s pts used nan z h = absurd h
-nothing-yet s pts used (inf t) z h = absurd h
-nothing-yet s pts used (fin t m e) z h = absurd h
+silent-none nan z h = h
+silent-none (inf t) z h = h
+silent-none (fin t m e) z h = h
+
+pub silent-nothing : (s : Scene) (pts : List Float) (used : List ℕ) (upto : Float) → Silent upto → NothingTo s pts used upto
+silent-nothing s pts used upto h x z k = absurd (h x z k)
+
+pub nothing-yet : (s : Scene) (pts : List Float) (used : List ℕ) → NothingTo s pts used none-known
+nothing-yet s pts used = silent-nothing s pts used none-known silent-none
 
 pub known-nothing : (s : Scene) (pts : List Float) (used : List ℕ) {flat : Bool} {r upto : Float} → Known s flat r upto → (flat ≡ true → Flat s pts) → NothingTo s pts used upto → searching (floatsOf s pts) (s .n) .seedOf r used ≡ none
 unfolding searching

@@ -27,6 +27,10 @@ abbrev pub NothingTo : Scene → List Float → List ℕ → Float → Type 0
 NothingTo s pts used upto = (r : Float) → T (le (f32 0) r) → T (le r upto)
     → searching (floatsOf s pts) (s .n) .seedOf r used ≡ none
 
+-- no radius from 0 on is up to it
+abbrev pub Silent : Float → Type 0
+Silent upto = (r : Float) → T (le (f32 0) r) → T (le r upto) → ⊥
+
 -- a radius is one of those, or the cloud is flat and edges are limited at that radius
 pub data Known (s : Scene) (flat : Bool) (r upto : Float) : Type 0 where
   flat-cloud : flat ≡ true → T (lt (r ⊗ s .«max_edge_factor») (inf false)) → Known s flat r upto

@@ -2,7 +2,7 @@
 use borrow.Author.Tests.{not-false}
 use Rattle.nearby.specs.Ready.{usedIn}
 use Rattle.nearby.proofs.Keeping.{kept-self}
-use Rattle.seed.proofs.Larger.{nothing-yet, larger-nothing}
+use Rattle.seed.proofs.Larger.{silent-nothing, larger-nothing}
 use borrow.Author.Needs.{needs}
 use Rattle.seed.proofs.ask_at.Statement.{statement}
 use Rattle.seed.proofs.ask_at.Tie as tie
@@ -10,8 +10,11 @@ use Rattle.seed.proofs.ask_at.Tie as tie
 is-growing-requires : tie.Need-is-growing-requires
 is-growing-requires c κs = search needs
 
+in-vain-requires : tie.Need-in-vain-requires
+in-vain-requires c κs = search needs
+
 returns : tie.Need-returns
-returns c = let a = c .before .before .before .before .args in (nothing-yet (a .s) (a .points .now) (usedIn (a .s) (a .w .now)), kept-self (a .s) (a .w .now))
+returns c = let a = c .before .before .before .before .before .args in (silent-nothing (a .s) (a .points .now) (usedIn (a .s) (a .w .now)) (c .in-vain .result) (c .in-vain .ensures), kept-self (a .s) (a .w .now))
 
 limits-of-requires : tie.Need-limits-of-requires
 limits-of-requires c κs = search needs
@@ -27,13 +30,16 @@ returns-2 c =
     let a = c .before .before .before .before .before .before .before .before .before .before .args in
     let g = c .before .before .before .before .before .before .before .is-growing in
     let e = c .before .before .before .is-exhausted in
-    (larger-nothing (a .s) (a .points .now) (usedIn (a .s) (a .w .now)) (a .radius) (g .ensures (not-false (g .result) (c .before .before .before .before .before .before .if1 .left))) (e .ensures .0 (c .if2 .taken)), e .ensures .1)
+    (larger-nothing (a .s) (a .points .now) (usedIn (a .s) (a .w .now)) (a .largest) (g .ensures (not-false (g .result) (c .before .before .before .before .before .before .if1 .left))) (e .ensures .0 (c .if2 .taken)), e .ensures .1)
+
+in-vain-requires-2 : tie.Need-in-vain-requires-2
+in-vain-requires-2 c κs = search needs
 
 same-length-2 : tie.Need-same-length-2
-same-length-2 c = c .before .before .before .is-exhausted .kept .1 .1 .0
+same-length-2 c = c .before .before .before .before .is-exhausted .kept .1 .1 .0
 
 returns-3 : tie.Need-returns-3
-returns-3 c = let a = c .before .before .before .before .before .before .before .before .before .before .args in (nothing-yet (a .s) (a .points .now) (usedIn (a .s) (a .w .now)), c .before .before .before .is-exhausted .ensures .1)
+returns-3 c = let a = c .before .before .before .before .before .before .before .before .before .before .before .args in (silent-nothing (a .s) (a .points .now) (usedIn (a .s) (a .w .now)) (c .in-vain2 .result) (c .in-vain2 .ensures), c .before .before .before .before .is-exhausted .ensures .1)
 
 pub ask-at-spec : {M : Type 1} → statement M
-ask-at-spec = tie.close (tie.spec is-growing-requires returns limits-of-requires is-exhausted-requires same-length returns-2 same-length-2 returns-3)
+ask-at-spec = tie.close (tie.spec is-growing-requires in-vain-requires returns limits-of-requires is-exhausted-requires same-length returns-2 in-vain-requires-2 same-length-2 returns-3)
