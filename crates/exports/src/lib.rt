@@ -16,7 +16,7 @@ ghost use Rattle.stl_file.specs.Answers.{Wrote, Got};
 ghost use Rattle.patch_order.specs.Ordering.{OrdersPatch};
 ghost use Rattle.release.specs.Release.{version, layout};
 ghost use Rattle.tally.specs.Tallies.{addedTo};
-ghost use Rattle.tally.specs.Working.{figuresOf};
+ghost use Rattle.figures.specs.Working.{figuresOf};
 ghost use Rattle.verdict.specs.Judged.{judged};
 ghost use Rattle.verdict.specs.Numbered.{told};
 ghost use Rattle.point_index.specs.Index.{Builds, Tells};
@@ -24,6 +24,7 @@ ghost use Rattle.nearest_points.specs.Found.{Nears, Searches};
 use ball_pivoting::Patch;
 use cloud::CloudRead;
 use estimate::Estimate;
+use figures::Figures;
 use nearest_points::Nearest;
 use nearest_points::Searched;
 use patch_order::Ordered;
@@ -33,7 +34,6 @@ use quality::TriangleQuality;
 use settings::BallPivotingConfig;
 use stl_file::StlRead;
 use stl_file::StlWritten;
-use tally::Figures;
 use tally::SeasonPatch;
 use tally::Tally;
 use verdict::numbered::Verdict;
@@ -277,7 +277,7 @@ pub extern "C" fn yb_tally_add(tally: &mut Tally, patch: SeasonPatch) -> u32
 pub extern "C" fn yb_tally_figures(tally: &Tally) -> Figures
     ensures { λ r. ⌜ r ≡ figuresOf (now (tally .entry)) ⌝ }
 {
-    tally::figures_of(*tally)
+    figures::figures_of(*tally)
 }
 
 #[no_mangle]

@@ -1,7 +1,2 @@
 -- Laws of tallies.
 pub mod Told
-pub mod Additions
-pub mod Ahead
-pub mod Seasons
-pub mod Terms
-pub mod Cases

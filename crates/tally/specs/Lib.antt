@@ -1,6 +1,3 @@
--- What the crate's contracts cite, and what its theorems say.
+-- What the crate's contracts cite, leaves first.
 pub mod Checks
 pub mod Tallies
-pub mod Working
-pub mod Season
-pub mod Claims

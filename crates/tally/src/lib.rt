@@ -1,13 +1,10 @@
-// Exact figures over a season: sums over its patches, to which one more is added, and what is worked out from them.
-mod checks;
+// Exact sums over a season: those of its patches, to which one more is added.
+pub mod checks;
 
 use checks::wide;
-use fractions::Fraction;
 ghost use mathlib.Core.Path.{_≡_};
-ghost use Prim.Native.Nat.{_<_};
 ghost use Rattle.tally.specs.Tallies.{better, bestOf, worstOf, summed, addedTo};
-ghost use Rattle.tally.specs.Checks.{Room, Enterable, Sound};
-ghost use Rattle.tally.specs.Working.{coverageOf, noFigures, soundFigures, figuresOf};
+ghost use Rattle.tally.specs.Checks.{Room, Enterable};
 
 // What is entered of a patch: the number that its caller gave, and its counts.
 #[repr(C)]
@@ -28,20 +25,6 @@ pub struct Tally {
     pub covered: u64,
     pub best: SeasonPatch,
     pub worst: SeasonPatch,
-}
-
-// The figures of a season, fractions in lowest terms; all zeros but for the answer where they are refused.
-#[repr(C)]
-pub struct Figures {
-    pub answer: u32,
-    pub patches: u64,
-    pub mean: Fraction,
-    pub variance: Fraction,
-    pub coverage: Fraction,
-    pub best: SeasonPatch,
-    pub worst: SeasonPatch,
-    pub best_coverage: Fraction,
-    pub worst_coverage: Fraction,
 }
 
 // An answer, 0 if the patch is accepted, and the tally from then on.
@@ -128,77 +111,4 @@ pub fn added(tally: Tally, patch: SeasonPatch) -> Outcome
         answer: 0,
         tally: summed(tally, patch, best_of(best, patch), worst_of(worst, patch)),
     }
-}
-
-// The part of a patch's points that is covered.
-fn coverage_of(patch: SeasonPatch) -> Fraction
-    requires { ⌜ 0 < patch .scanned ⌝ }
-    ensures { λ r. ⌜ r ≡ coverageOf patch ⌝ }
-{
-    fractions::lowest(wide(patch.covered), wide(patch.scanned))
-}
-
-// Zeros with a refusal's number.
-fn no_figures(answer: u32) -> Figures
-    ensures { λ r. ⌜ r ≡ noFigures answer ⌝ }
-{
-    let none = Fraction {
-        numerator: 0,
-        denominator: 0,
-    };
-    let nothing = SeasonPatch {
-        number: 0,
-        scanned: 0,
-        covered: 0,
-        faces: 0,
-    };
-    Figures {
-        answer,
-        patches: 0,
-        mean: none,
-        variance: none,
-        coverage: none,
-        best: nothing,
-        worst: nothing,
-        best_coverage: none,
-        worst_coverage: none,
-    }
-}
-
-// The figures of a tally that holds a patch.
-fn sound_figures(tally: Tally) -> Figures
-    requires { ⌜ Sound tally × (0 < tally .patches) ⌝ }
-    ensures { λ r. ⌜ r ≡ soundFigures tally ⌝ }
-{
-    let best = tally.best;
-    let worst = tally.worst;
-    let patches = tally.patches;
-    let faces = tally.faces;
-    Figures {
-        answer: 0,
-        patches,
-        mean: fractions::lowest(faces, patches),
-        variance: fractions::lowest(
-            patches * tally.face_squares - faces * faces,
-            patches * patches,
-        ),
-        coverage: fractions::lowest(tally.covered, tally.scanned),
-        best,
-        worst,
-        best_coverage: coverage_of(best),
-        worst_coverage: coverage_of(worst),
-    }
-}
-
-// The figures of a tally, or the refusal.
-pub fn figures_of(tally: Tally) -> Figures
-    ensures { λ r. ⌜ r ≡ figuresOf tally ⌝ }
-{
-    if !checks::is_sound(tally) {
-        return no_figures(answers::TALLY);
-    }
-    if tally.patches == 0 {
-        return no_figures(answers::TALLY_EMPTY);
-    }
-    sound_figures(tally)
 }

@@ -19,7 +19,7 @@ const STRUCTS: [(&str, &str); 17] = [
     ("SeasonPatch", include_str!("../../../crates/tally/src/lib.rt")),
     ("Tally", include_str!("../../../crates/tally/src/lib.rt")),
     ("Fraction", include_str!("../../../crates/fractions/src/lib.rt")),
-    ("Figures", include_str!("../../../crates/tally/src/lib.rt")),
+    ("Figures", include_str!("../../../crates/figures/src/lib.rt")),
     ("Verdict", include_str!("../../../crates/verdict/src/numbered.rt")),
     ("Indexed", include_str!("../../../crates/point_index/src/lib.rt")),
     ("Belongs", include_str!("../../../crates/point_index/src/lib.rt")),

@@ -4,12 +4,12 @@ use mathlib.Core.List.{List, [], _∷_}
 use Prim.Native.Nat.{ℕ}
 use Rattle.fractions.specs.declared.Fraction.{Fraction}
 use Rattle.fractions.specs.Terms.{euclid, greatest, lowest}
 use Rattle.tally.specs.declared.SeasonPatch.{SeasonPatch}
 use Rattle.tally.specs.declared.Tally.{Tally}
 use Rattle.tally.specs.Checks.{enterable, within, sound}
 use Rattle.tally.specs.Tallies.{better, bestOf, worstOf, summed, withPatch, addedTo}
-use Rattle.tally.specs.Working.{coverageOf, varianceOf, noFigures, soundFigures, figuresOf}
-use Rattle.tally.specs.Season.{Empty, after}
+use Rattle.figures.specs.Working.{coverageOf, varianceOf, noFigures, soundFigures, figuresOf}
+use Rattle.figures.specs.Season.{Empty, after}
 
 -- number, scanned, covered, faces
 abbrev patch : ℕ → ℕ → ℕ → ℕ → SeasonPatch

@@ -1,11 +1,11 @@
--- `tally::figures_of` meets its contract. Assumes nothing.
+-- `figures::figures_of` meets its contract. Assumes nothing.
 use mathlib.Core.Path.{sym, _∙_}
 use borrow.Author.Tests.{not-true, not-false, eq-eqb, ne-eqb}
 use borrow.Author.Needs.{needs}
-use Rattle.tally.specs.Working.{figuresOf}
+use Rattle.figures.specs.Working.{figuresOf}
 use Rattle.tally.proofs.Told.{sound-told, above-none}
-use Rattle.tally.proofs.figures_of.Statement.{statement}
-use Rattle.tally.proofs.figures_of.Tie as tie
+use Rattle.figures.proofs.figures_of.Statement.{statement}
+use Rattle.figures.proofs.figures_of.Tie as tie
 
 is-sound-requires : tie.Need-is-sound-requires
 is-sound-requires c κs = search needs

@@ -6,11 +6,11 @@ use native.Mathlib.Omega.{arith}
 use borrow.Author.Tests.{eqb-false}
 use lib.Dec.{eqb}
 use Rattle.fractions.proofs.LowestTerms.{lowest-terms}
 use Rattle.tally.specs.declared.Tally.{Tally}
 use Rattle.tally.specs.Checks.{sound}
-use Rattle.tally.specs.Working.{coverageOf, varianceOf, noFigures, soundFigures, figuresOf}
-use Rattle.tally.specs.Claims.{InLowestTerms, Given}
+use Rattle.figures.specs.Working.{coverageOf, varianceOf, noFigures, soundFigures, figuresOf}
+use Rattle.figures.specs.Claims.{InLowestTerms, Given}
 use Rattle.tally.proofs.Told.{sound-told, square-some}
 
 module _ (t : Tally) where
   given : sound t ≡ true → 0 < t .patches → InLowestTerms t (soundFigures t)

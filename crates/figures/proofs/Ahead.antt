@@ -6,9 +6,9 @@ use Prim.Native.Nat.{ℕ, _*_, _≤_, _<_}
 use native.Mathlib.Nat.{mul-lt-mul-of-pos-right, mul-le-mul-right, lt-of-mul-lt-mul-left}
 use native.Mathlib.Omega.{arith}
 use borrow.Author.Tests.{ltb-true, ltb-false, lt-ltb, le-ltb}
 use Rattle.tally.specs.Tallies.{better}
-use Rattle.tally.specs.Season.{worse, Each, none, one, Earliest, Reordered, same, next, swap, then}
+use Rattle.figures.specs.Season.{worse, Each, none, one, Earliest, Reordered, same, next, swap, then}
 use Rattle.tally.specs.declared.SeasonPatch.{SeasonPatch}
 
 -- a patch has points
 abbrev pub Some : SeasonPatch → Type 0

@@ -5,10 +5,10 @@ use lib.Dec.{eqb}
 use Rattle.answers.specs.Answers.{tallyEmpty, badTally}
 use Rattle.fractions.specs.declared.Fraction.{Fraction}
 use Rattle.fractions.specs.Terms.{lowest}
 use Rattle.tally.specs.declared.SeasonPatch.{SeasonPatch}
 use Rattle.tally.specs.declared.Tally.{Tally}
-use Rattle.tally.specs.declared.Figures.{Figures}
+use Rattle.figures.specs.declared.Figures.{Figures}
 use Rattle.tally.specs.Checks.{sound}
 
 -- the part of a patch's points that is covered
 unfoldable pub coverageOf : SeasonPatch → Fraction

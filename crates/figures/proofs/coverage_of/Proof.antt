@@ -1,8 +1,8 @@
--- `tally::coverage_of` meets its contract. Assumes nothing.
+-- `figures::coverage_of` meets its contract. Assumes nothing.
 use borrow.Author.Needs.{needs}
-use Rattle.tally.specs.Working.{coverageOf}
-use Rattle.tally.proofs.coverage_of.Statement.{statement}
-use Rattle.tally.proofs.coverage_of.Tie as tie
+use Rattle.figures.specs.Working.{coverageOf}
+use Rattle.figures.proofs.coverage_of.Statement.{statement}
+use Rattle.figures.proofs.coverage_of.Tie as tie
 
 wide-requires : tie.Need-wide-requires
 wide-requires c κs = search needs

@@ -1,10 +1,10 @@
--- `tally::sound_figures` meets its contract. Assumes nothing.
+-- `figures::sound_figures` meets its contract. Assumes nothing.
 use native.Mathlib.Omega.{arith}
 use borrow.Author.Needs.{needs}
 use Rattle.tally.proofs.Told.{squares-fit, faces-fit, product, square-some}
-use Rattle.tally.specs.Working.{soundFigures, varianceOf}
-use Rattle.tally.proofs.sound_figures.Statement.{statement}
-use Rattle.tally.proofs.sound_figures.Tie as tie
+use Rattle.figures.specs.Working.{soundFigures, varianceOf}
+use Rattle.figures.proofs.sound_figures.Statement.{statement}
+use Rattle.figures.proofs.sound_figures.Tie as tie
 
 lowest-requires : tie.Need-lowest-requires
 lowest-requires c κs = search needs

@@ -6,13 +6,13 @@ use Prim.Native.Nat.{_+_, _*_, _-_, _≤_, _<_}
 use lib.ListN.{length}
 use Rattle.answers.specs.Answers.{tallyEmpty}
 use Rattle.fractions.specs.Terms.{Lowest}
 use Rattle.tally.specs.declared.SeasonPatch.{SeasonPatch}
 use Rattle.tally.specs.declared.Tally.{Tally}
-use Rattle.tally.specs.declared.Figures.{Figures}
+use Rattle.figures.specs.declared.Figures.{Figures}
 use Rattle.tally.specs.Checks.{maxPatches, enterable, sound}
 use Rattle.tally.specs.Tallies.{addedTo}
-use Rattle.tally.specs.Working.{noFigures, figuresOf}
-use Rattle.tally.specs.Season.{Each, Figured, Empty, after, entered, Reordered, Alike}
+use Rattle.figures.specs.Working.{noFigures, figuresOf}
+use Rattle.figures.specs.Season.{Each, Figured, Empty, after, entered, Reordered, Alike}
 
 -- one addition
 pub record Additions : Type 0 where

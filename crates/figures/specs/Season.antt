@@ -6,12 +6,12 @@ use Prim.Native.Nat.{ℕ, _+_, _*_}
 use lib.Dec.{eqb}
 use lib.ListN.{length}
 use Rattle.fractions.specs.Terms.{lowest}
 use Rattle.tally.specs.declared.SeasonPatch.{SeasonPatch}
 use Rattle.tally.specs.declared.Tally.{Tally}
-use Rattle.tally.specs.declared.Figures.{Figures}
+use Rattle.figures.specs.declared.Figures.{Figures}
 use Rattle.tally.specs.Checks.{sound}
 use Rattle.tally.specs.Tallies.{better, addedTo}
-use Rattle.tally.specs.Working.{coverageOf, varianceOf}
+use Rattle.figures.specs.Working.{coverageOf, varianceOf}
 
 -- the sum of something over a list of patches
 abbrev pub total : (SeasonPatch → ℕ) → List SeasonPatch → ℕ

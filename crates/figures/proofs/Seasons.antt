@@ -10,18 +10,18 @@ use lib.Dec.{eqb}
 use lib.ListN.{length, length-append}
 use Rattle.fractions.specs.Terms.{lowest}
 use Rattle.fractions.proofs.LowestTerms.{lowest-same}
 use Rattle.tally.specs.Checks.{maxPatches, enterable, sound, Enterable}
 use Rattle.tally.specs.Tallies.{better, bestOf, worstOf, summed, withPatch, addedTo}
-use Rattle.tally.specs.Working.{coverageOf, varianceOf, noFigures, soundFigures, figuresOf}
-use Rattle.tally.specs.Claims.{Additions, Seasons}
-use Rattle.tally.specs.Season.{total, scannedOf, coveredOf, facesOf, squareOf, worse, Each, none, one, Earliest, Figured, Empty, after, entered, Reordered, same, next, swap, then, Alike}
+use Rattle.figures.specs.Working.{coverageOf, varianceOf, noFigures, soundFigures, figuresOf}
+use Rattle.figures.specs.Claims.{Additions, Seasons}
+use Rattle.figures.specs.Season.{total, scannedOf, coveredOf, facesOf, squareOf, worse, Each, none, one, Earliest, Figured, Empty, after, entered, Reordered, same, next, swap, then, Alike}
 use Rattle.tally.specs.declared.SeasonPatch.{SeasonPatch}
 use Rattle.tally.specs.declared.Tally.{Tally}
-use Rattle.tally.specs.declared.Figures.{Figures}
+use Rattle.figures.specs.declared.Figures.{Figures}
 use Rattle.tally.specs.declared.Outcome.{Outcome}
 use Rattle.tally.proofs.Told.{enterable-told, sound-told}
-use Rattle.tally.proofs.Additions.{Accepted, Refused, accepted-or-refused, accepts, stays-sound, one-more-patch}
-use Rattle.tally.proofs.Ahead.{Some, each-append, back, better-beats, worse-beats, at-earliest, first, one-more, neither, level, earliest-only}
+use Rattle.figures.proofs.Additions.{Accepted, Refused, accepted-or-refused, accepts, stays-sound, one-more-patch}
+use Rattle.figures.proofs.Ahead.{Some, each-append, back, better-beats, worse-beats, at-earliest, first, one-more, neither, level, earliest-only}
 
 total-append : (f : SeasonPatch → ℕ) (ps : List SeasonPatch) (p : SeasonPatch) → total f (ps ++ (p ∷ [])) ≡ total f ps + f p
 total-append f [] p = omega arith

@@ -1,0 +1,12 @@
+-- `figures::no_figures` meets its contract. Assumes nothing.
+use mathlib.Core.Path.{refl}
+use Rattle.figures.specs.Working.{noFigures}
+use Rattle.figures.proofs.no_figures.Statement.{statement}
+use Rattle.figures.proofs.no_figures.Tie as tie
+
+returns : tie.Need-returns
+unfolding noFigures
+returns c = refl
+
+pub no-figures-spec : {M : Type 1} → statement M
+no-figures-spec = tie.close (tie.spec returns)
