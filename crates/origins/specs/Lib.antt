@@ -1,0 +1,4 @@
+-- What a reader must believe, leaves first.
+pub mod Sides
+-- for laws and contracts inside
+pub mod Pass
