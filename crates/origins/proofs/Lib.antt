@@ -1,1 +1,3 @@
-
+pub mod Directed
+pub mod Looking
+pub mod Running
