@@ -1,3 +1,5 @@
 pub mod Directed
 pub mod Looking
 pub mod Running
+pub mod Turning
+pub mod Tracing
