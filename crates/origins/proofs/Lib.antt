@@ -3,3 +3,4 @@ pub mod Looking
 pub mod Running
 pub mod Turning
 pub mod Tracing
+pub mod Passing

@@ -113,7 +113,7 @@ module _ (earlier : List Face) (f : Face) where
   touched-old : (x : ℕ) → 1 ≤ count (touches x) earlier → new x ≡ 0
   touched-old x h = ap (λ (b : Bool). bit (not b)) (true-any (touches x) earlier h)
 
-  three-new : newPoints earlier f ≡ 3 → (count (touches (f .a)) earlier ≡ 0) × (count (touches (f .b)) earlier ≡ 0) × (count (touches (f .c)) earlier ≡ 0)
+  pub three-new : newPoints earlier f ≡ 3 → (count (touches (f .a)) earlier ≡ 0) × (count (touches (f .b)) earlier ≡ 0) × (count (touches (f .c)) earlier ≡ 0)
   unfolding newPoints
   three-new h =
       let a = bit-le (not (any (touches (f .a)) earlier)) in
@@ -148,7 +148,7 @@ module _ (s : State) (shape : Shaped s) (running : Running s) where
     in-fs : i ≤ length fs
     in-fs = omega arith
 
-    earlier-runs : (x y : ℕ) → 1 ≤ count (runs x y) (take i fs) → 1 ≤ count (has (edge x y)) (take i fs)
+    pub earlier-runs : (x y : ℕ) → 1 ≤ count (runs x y) (take i fs) → 1 ≤ count (has (edge x y)) (take i fs)
     earlier-runs x y h = omega (arith, count-mono (runs x y) (has (edge x y)) (runs-has x y) (take i fs))
 
     -- a seed is its own parent
@@ -173,7 +173,7 @@ module _ (s : State) (shape : Shaped s) (running : Running s) where
             absurd (omega arith)
         go (no l) = omega (arith, hit .low)
 
-    began : flag i ≡ false → 1 ≤ count (runs (at i .a) (at i .b)) (take i fs)
+    pub began : flag i ≡ false → 1 ≤ count (runs (at i .a) (at i .b)) (take i fs)
     began t = any-true (runs (at i .a) (at i .b)) (take i fs) (running .begins i b t)
 
     -- any other face's parent comes earlier, and has its first edge, the pivoted one, the same way
@@ -186,7 +186,7 @@ module _ (s : State) (shape : Shaped s) (running : Running s) where
         let f = found first fs (j .0) (omega (arith, j .1)) (j .2) in
         (omega (arith, f .low, j .1), f .passes)
 
-    third-untouched : flag i ≡ false → count (touches (at i .c)) (take i fs) ≡ 0
+    pub third-untouched : flag i ≡ false → count (touches (at i .c)) (take i fs) ≡ 0
     third-untouched t =
         let m = earlier-runs (at i .a) (at i .b) (began t) in
         let v = laid-v1 (edge (at i .a) (at i .b)) (take i fs) in
@@ -367,11 +367,11 @@ module _ (s : State) (shape : Shaped s) (running : Running s) where
       go f fj fp fi w (no c) (no d) pl = omega arith
 
   -- ---- for code that looks at the faces only once they are laid: the parent is the later of the two faces that brought in the first two points
-  owned : (i : ℕ) → i < length fs → (x : ℕ) → touches x (at i) ≡ true → Found (touches x) fs i
+  pub owned : (i : ℕ) → i < length fs → (x : ℕ) → touches x (at i) ≡ true → Found (touches x) fs i
   owned i b x t = found (touches x) fs i b t
 
   -- the face that brought in x comes before p: some earlier face has x
-  before : (x p : ℕ) → p ≤ length fs → find (touches x) fs < p → touches x (at (find (touches x) fs)) ≡ true → 1 ≤ count (touches x) (take p fs)
+  pub before : (x p : ℕ) → p ≤ length fs → find (touches x) fs < p → touches x (at (find (touches x) fs)) ≡ true → 1 ≤ count (touches x) (take p fs)
   before x p l h t =
       let o : bit (touches x (at (find (touches x) fs))) ≡ 1 = ap bit t in
       let k = sum-pick (λ j. bit (touches x (at j))) (find (touches x) fs) p h in
