@@ -4,3 +4,4 @@ pub mod Running
 pub mod Turning
 pub mod Tracing
 pub mod Passing
+pub mod Places

@@ -273,13 +273,13 @@ module _ {R : Type 0} (rules : Rules R) (pop : Pop) (popEntry : PopEntry) (follo
   unfolding cleared
   cleared-trace t h = cleared-known t h
 
-  begun-known : (n : ℕ) (o : Option (ℕ × ℕ × ℕ)) (t : Trace) → KnownTrace t → KnownTrace (begunTrace rules pop popEntry r place n o t) × (begunTrace rules pop popEntry r place n o t .state ≡ begun rules pop r n o (cleared (t .state)))
+  pub begun-known : (n : ℕ) (o : Option (ℕ × ℕ × ℕ)) (t : Trace) → KnownTrace t → KnownTrace (begunTrace rules pop popEntry r place n o t) × (begunTrace rules pop popEntry r place n o t .state ≡ begun rules pop r n o (cleared (t .state)))
   unfolding begunTrace begun seededTrace
   begun-known n none t h = (cleared-trace t h, refl)
   begun-known n (some v) t h = run-known (3 * n) (seededTrace rules pop popEntry r place v t) (seeded-known v t h)
 
 module _ {R : Type 0} (rules : Rules R) (pop : Pop) (popEntry : PopEntry) (follows : Follows popEntry pop) (keeps : KeepsEntries popEntry) (n : ℕ) where
-  all-known : (place : ℕ) (rs : List R) (t : Trace) → KnownTrace t → KnownTrace (traceFrom rules pop popEntry n place rs t) × (traceFrom rules pop popEntry n place rs t .state ≡ layAll rules pop n rs (t .state))
+  pub all-known : (place : ℕ) (rs : List R) (t : Trace) → KnownTrace t → KnownTrace (traceFrom rules pop popEntry n place rs t) × (traceFrom rules pop popEntry n place rs t .state ≡ layAll rules pop n rs (t .state))
   unfolding traceFrom layAll layOne
   all-known place [] t h = (h, refl)
   all-known place (r ∷ rs) t h =
@@ -287,10 +287,10 @@ module _ {R : Type 0} (rules : Rules R) (pop : Pop) (popEntry : PopEntry) (follo
       let w = all-known (suc place) rs (begunTrace rules pop popEntry r place n (rules .seedOf r (t .state .used)) t) (b .0) in
       (w .0, w .1 ∙ ap (layAll rules pop n rs) (b .1))
 
-  blank-known : KnownTrace (blankTrace n)
+  pub blank-known : KnownTrace (blankTrace n)
   blank-known = record { flagged = refl; long = refl; same-frontier = refl; entry-known = λ x y j m. absurd (omega arith); noted = λ i h. absurd (omega arith) }
 
-  trace-known : (rs : List R) → KnownTrace (trace rules pop popEntry n rs)
+  pub trace-known : (rs : List R) → KnownTrace (trace rules pop popEntry n rs)
   unfolding trace
   trace-known rs = all-known 0 rs (blankTrace n) blank-known .0
 
