@@ -5,3 +5,4 @@ pub mod Turning
 pub mod Tracing
 pub mod Passing
 pub mod Places
+pub mod Shapes
