@@ -1,0 +1,2 @@
+-- The laws of the pass.
+pub mod Laws
