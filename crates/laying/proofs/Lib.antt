@@ -4,3 +4,4 @@ pub mod Looks
 pub mod Runs
 pub mod Radii
 pub mod Claim
+pub mod Marks

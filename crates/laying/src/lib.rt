@@ -8,7 +8,8 @@ ghost use mathlib.Core.Path.{_≡_};
 ghost use mathlib.Core.Bool.{true};
 ghost use Prim.Native.Nat.{_*_, _≤_, _<_};
 ghost use lib.ListN.{take};
-ghost use Rattle.patch.specs.Lay.{edge, run, layOne, patch};
+ghost use Rattle.patch.specs.Lay.{edge, run, layOne, patch, blank};
+ghost use Rattle.origins.specs.Following.{marksFrom};
 ghost use Rattle.patch.specs.Frontier.{popOf};
 ghost use Rattle.patch.specs.Invariant.{Inv, Rest};
 ghost use mathlib.Core.Option.{none};
@@ -159,6 +160,12 @@ fn last_of(radii: [f32; 17], count: usize) -> f32
     radii[count - 1]
 }
 
+// The counts at the end, and how many faces there were after each radius.
+pub struct Course {
+    pub counts: Counts,
+    pub marks: [usize; 17],
+}
+
 // Lays the patch: the first `count` radii in turn.
 pub fn advanced_ball_pivoting(
     s: Scene,
@@ -169,16 +176,19 @@ pub fn advanced_ball_pivoting(
     w: &mut [u32],
     hash: Hash,
     rule: u32,
-) -> Counts
+) -> Course
     requires { ⌜ AllSearchable s hash (now points) (now w) × (count ≤ 17) ⌝ }
     ensures { λ r. ⌜ Holds (s .n) (now (faces .entry))
-        (patch (rulesOf s (now (points .entry))) (popOf rule) (s .n) (take count radii)) r (now (w .exit))
+        (patch (rulesOf s (now (points .entry))) (popOf rule) (s .n) (take count radii)) (r .counts) (now (w .exit))
         (now (faces .exit))
-        × Searchable s hash (now (points .entry)) (now (w .exit)) ⌝ }
+        × Searchable s hash (now (points .entry)) (now (w .exit))
+        × (take count (r .marks)
+        ≡ marksFrom (rulesOf s (now (points .entry))) (popOf rule) (s .n) (take count radii) (blank (s .n))) ⌝ }
 {
     let flat = seed::flat::is_flat(s, points);
     let largest = last_of(radii, count);
     let mut c = frontier::begin(w, s.n);
+    let mut marks: [usize; 17] = [0; 17];
     let mut upto: f32 = 0.0 / 0.0;
     let mut i: usize = 0;
     while i < count {
@@ -186,8 +196,12 @@ pub fn advanced_ball_pivoting(
         let known = seed::is_known(s, flat, radius, upto);
         let laid = lay_one(s, points, faces, w, radius, c, hash, known, rule);
         c = laid.counts;
+        marks[i] = c.faces;
         upto = seed::known_to(s, points, w, radius, largest, hash, known, upto, laid.purse);
         i += 1;
     }
-    c
+    Course {
+        counts: c,
+        marks: marks,
+    }
 }

@@ -1,4 +1,4 @@
--- `laying::advanced_ball_pivoting` meets its contract. The loop's invariant: the first i radii have been laid, and no radius up to `upto` has a seed. Assumes nothing.
+-- `laying::advanced_ball_pivoting` meets its contract. The loop's invariant: the first i radii have been laid, no radius up to `upto` has a seed, and the first i marks are set. Assumes nothing.
 use Prim.Native.Nat.{ℕ, _-_}
 use mathlib.Core.Path.{sym, ap, _∙_, subst}
 use mathlib.Core.List.{List}
@@ -8,15 +8,16 @@ use Rattle.nearby.specs.Ready.{usedIn}
 use Rattle.seed.specs.Known.{NothingTo}
 use Rattle.seed.proofs.Larger.{nothing-yet, known-nothing}
 use Rattle.laying.proofs.Radii.{Covering, cover-start, between-radii, cover-step, cover-kept, cover-end}
+use Rattle.laying.proofs.Marks.{Marking, marks-start, marks-step, marks-end}
 use borrow.Author.Needs.{needs}
 use Rattle.laying.proofs.advanced_ball_pivoting.Statement.{statement}
 use Rattle.laying.proofs.advanced_ball_pivoting.Tie as tie
 
 abbrev Inv-loop : tie.InvT-loop
-Inv-loop s points count faces₀ w₀ hash rule radii flat largest c₀ upto₀ i₀ faces w c upto i = Covering rule s hash points radii count faces₀ w₀ i c w faces × NothingTo s points (usedIn s w) upto
+Inv-loop s points count faces₀ w₀ hash rule radii flat largest c₀ marks₀ upto₀ i₀ faces w c marks upto i = Covering rule s hash points radii count faces₀ w₀ i c w faces × NothingTo s points (usedIn s w) upto × Marking rule s points radii i marks
 
 abbrev μ-loop : tie.MeasureT-loop
-μ-loop s points count faces₀ w₀ hash rule radii flat largest c₀ upto₀ i₀ faces w c upto i = count - i
+μ-loop s points count faces₀ w₀ hash rule radii flat largest c₀ marks₀ upto₀ i₀ faces w c marks upto i = count - i
 
 is-flat-requires : tie.Need-is-flat-requires Inv-loop μ-loop
 is-flat-requires c κs = let g = c .before .before .before .pre .0 in (g .some, g .held .few, g .held .points-long, g .hashed .linked .ready .numbers)
@@ -28,7 +29,7 @@ begin-requires : tie.Need-begin-requires Inv-loop μ-loop
 begin-requires c κs = let g = c .before .before .before .before .before .before .pre .0 in record { some = g .some; few = g .held .few; long = g .held .work-long }
 
 loop-holds : tie.Need-loop-holds Inv-loop μ-loop
-loop-holds c = let a = c .before .before .before .before .before .before .before .before .before .args in (cover-start (c .before .before .before .before .before .before .before .before .before .pre .0) (c .before .before .begin .ensures .0) (c .before .before .begin .ensures .1), nothing-yet (a .s) (a .points .now) (usedIn (a .s) (c .before .before .begin .last .0)))
+loop-holds c = let a = c .before .before .before .before .before .before .before .before .before .args in (cover-start (c .before .before .before .before .before .before .before .before .before .pre .0) (c .before .before .begin .ensures .0) (c .before .before .begin .ensures .1), nothing-yet (a .s) (a .points .now) (usedIn (a .s) (c .before .before .begin .last .0)), marks-start (a .rule) (a .s) (a .points .now) (a .t3))
 
 mul-radius : tie.Need-mul-radius Inv-loop μ-loop
 mul-radius c = omega (arith, c .loop-test .taken, c .before .before .before .before .before .before .before .before .before .before .before .pre .1)
@@ -44,6 +45,12 @@ lay-one-requires c κs =
     let a = c .before .before .before .before .before .before .before .before .before .before .before .before .before .before .args in
     let l = c .before .before .before .before .loop in
     (between-radii (l .inv .0), λ h. known-nothing (a .s) (a .points .now) (usedIn (a .s) (l .w)) (c .before .before .is-known .ensures h) (c .before .before .before .before .before .before .before .before .before .before .is-flat .ensures) (l .inv .1))
+
+mul-marks : tie.Need-mul-marks Inv-loop μ-loop
+mul-marks c = omega (arith, c .before .before .before .before .before .before .before .before .before .loop-test .taken, c .before .before .before .before .before .before .before .before .before .before .before .before .before .before .before .before .before .before .before .before .pre .1)
+
+array-write-marks : tie.Need-array-write-marks Inv-loop μ-loop
+array-write-marks c = omega (arith, c .before .before .before .before .before .before .before .before .before .loop-test .taken, c .before .before .before .before .before .before .before .before .before .before .before .before .before .before .before .before .before .before .before .before .pre .1)
 
 known-to-requires : tie.Need-known-to-requires Inv-loop μ-loop
 known-to-requires c κs =
@@ -64,9 +71,11 @@ loop-again c =
     let l = c .before .before .before .before .before .before .before .before .before .before .before .before .before .before .loop in
     let o = c .before .before .before .before .before .before .before .before .before .lay-one in
     let k = c .before .before .known-to in
-    let on = cover-step (l .inv .0) _ (c .before .before .before .before .before .before .before .before .before .before .before .before .before .loop-test .taken) (omega (arith, c .before .before .before .before .before .before .before .before .before .before .before .before .before .before .before .before .before .before .before .before .before .before .before .before .good .1 .1 .0 .1 .0 .1, c .before .before .before .before .before .before .before .before .before .before .before .before .before .loop-test .taken, c .before .before .before .before .before .before .before .before .before .before .before .before .before .before .before .before .before .before .before .before .before .before .before .before .pre .1)) (o .ensures .0) (o .kept .1 .1 .0) in (
+    let t = c .before .before .before .before .before .before .before .before .before .before .before .before .before .loop-test .taken in
+    let on = cover-step (l .inv .0) _ t (omega (arith, c .before .before .before .before .before .before .before .before .before .before .before .before .before .before .before .before .before .before .before .before .before .before .before .before .good .1 .1 .0 .1 .0 .1, t, c .before .before .before .before .before .before .before .before .before .before .before .before .before .before .before .before .before .before .before .before .before .before .before .before .pre .1)) (o .ensures .0) (o .kept .1 .1 .0) in (
       cover-kept on (k .last .1 .1 .0) (k .ensures .1) (k .kept .1 .1 .0),
       subst (λ (u : List ℕ). NothingTo (a .s) (a .points .now) u (k .result)) (sym (ap (take (a .s .n)) (k .ensures .1 .after))) (k .ensures .0),
+      marks-step (l .marks) on (omega (arith, t, c .before .before .before .before .before .before .before .before .before .before .before .before .before .before .before .before .before .before .before .before .before .before .before .before .pre .1)) (omega (arith, c .before .before .before .before .before .before .before .before .before .before .before .before .before .before .before .before .before .before .before .before .before .before .before .before .good .1 .1 .0 .1 .0 .1, t, c .before .before .before .before .before .before .before .before .before .before .before .before .before .before .before .before .before .before .before .before .before .before .before .before .pre .1)) (l .inv .2),
     )
 
 same-length : tie.Need-same-length Inv-loop μ-loop
@@ -76,7 +85,28 @@ same-length-2 : tie.Need-same-length-2 Inv-loop μ-loop
 same-length-2 c = c .before .loop .inv .0 .words ∙ c .before .before .before .before .begin .kept .0
 
 returns : tie.Need-returns Inv-loop μ-loop
-returns c = (cover-end (c .before .loop .inv .0) (c .loop-test .left), c .before .loop .inv .0 .searchable)
+returns c = (cover-end (c .before .loop .inv .0) (c .loop-test .left), c .before .loop .inv .0 .searchable, marks-end (c .before .loop .marks) (c .before .before .before .before .before .before .before .before .before .before .before .args .count) (c .before .loop .inv .0 .inside) (c .loop-test .left) (c .before .loop .inv .2))
 
 pub advanced-ball-pivoting-spec : {M : Type 1} → statement M
-advanced-ball-pivoting-spec = tie.close (tie.spec Inv-loop μ-loop is-flat-requires last-of-requires begin-requires loop-holds mul-radius array-read-radius is-known-requires lay-one-requires known-to-requires add-i loop-less loop-again same-length same-length-2 returns)
+advanced-ball-pivoting-spec =
+    tie.close
+    (tie.spec
+    Inv-loop
+    μ-loop
+    is-flat-requires
+    last-of-requires
+    begin-requires
+    loop-holds
+    mul-radius
+    array-read-radius
+    is-known-requires
+    lay-one-requires
+    mul-marks
+    array-write-marks
+    known-to-requires
+    add-i
+    loop-less
+    loop-again
+    same-length
+    same-length-2
+    returns)
