@@ -6,3 +6,4 @@ pub mod Tracing
 pub mod Passing
 pub mod Places
 pub mod Shapes
+pub mod Claim
