@@ -10,12 +10,14 @@ use Rattle.lists.specs.Lists.{count, any}
 use Rattle.lists.proofs.Counts.{any-true}
 use Rattle.patch.specs.Lay.{edge, Face, State, seedsOf, Rules, Pop, blank, patch}
 use Rattle.patch.specs.Frontier.{popOf}
-use Rattle.patch.specs.Shape.{touches, has}
-use Rattle.patch.specs.Fair.{Fair, Keeps, Shaped}
+use Rattle.patch.specs.Shape.{touches, has, Shape}
+use Rattle.patch.specs.Search.{Floats, searching}
+use Rattle.patch.specs.Fair.{Fair, Keeps, Within, Shaped}
 use Rattle.patch.specs.Invariant.{Rest}
 use Rattle.patch.proofs.Inv.{touched-used}
 use Rattle.patch.proofs.Laying.{layAll-rest, blank-rest, patch-shape}
 use Rattle.patch.proofs.Pops.{popOf-keeps}
+use Rattle.patch.proofs.Searching.{searching-fair}
 use Rattle.orders.specs.Order.{faceAt, greedy, accepted, Rearranged, Valid}
 use Rattle.orders.proofs.Decide.{accepted-valid}
 use Rattle.orders.proofs.Patches.{shape-accepted, shape-different}
@@ -44,6 +46,19 @@ pass-pairs marks k brought (f ∷ fs) (q ∷ places) l h =
   where
     index : (i : ℕ) → k + suc i ≡ k + 1 + i
     index i = omega arith
+
+-- the shape of a patch is that of the turned one, whatever the parents
+pub shape-turned : (parents : List ℕ) (fs : List Face) (flags : List Bool) (F S looks pivots : ℕ) → Shape fs flags F S looks pivots → Shape (turned parents fs) flags F S looks pivots
+unfolding turned
+shape-turned parents fs flags F S looks pivots h = turned-shape (λ i. getD parents i 0) fs flags F S looks pivots h
+
+-- so it could be a patch of ours in shape, its lines in any order
+module _ (parents : List ℕ) (fs : List Face) (flags : List Bool) (F S looks pivots : ℕ) (h : Shape fs flags F S looks pivots) (hs : List Face) (order : List ℕ) (k : Rearranged (turned parents fs) hs order) where
+  pub turned-accepted : accepted hs ≡ true
+  turned-accepted = shape-accepted (turned parents fs) flags F S looks pivots (shape-turned parents fs flags F S looks pivots h) hs order k
+
+  pub turned-valid : Valid hs (greedy hs)
+  turned-valid = accepted-valid hs (shape-different (turned parents fs) flags F S looks pivots (shape-turned parents fs flags F S looks pivots h) hs order k) turned-accepted
 
 module _ {R : Type 0} (n : ℕ) (rules : Rules R) (pop : Pop) (popEntry : PopEntry) (fair : Fair n rules) (keeps : Keeps pop) (follows : Follows popEntry pop) (keeps-entries : KeepsEntries popEntry) (rs : List R) where
   abbrev s : State
@@ -113,8 +128,32 @@ module _ {R : Type 0} (n : ℕ) (rules : Rules R) (pop : Pop) (popEntry : PopEnt
 
   -- an edge that lies in two faces runs once each way, and all that is said of the patch holds
   pub patch-one-way : OneWay ts (s .seedFlags) (length (s .faces)) (seedsOf s) (s .looks) (s .pivots)
-  unfolding turned
   patch-one-way = record {
     once = subst (λ (l : List Face). (x y : ℕ) → count (has (edge x y)) l ≡ 2 → (count (runs x y) l ≡ 1) × (count (runs y x) l ≡ 1)) (sym ts-told) (turned-once s shape running);
-    shape = turned-shape (λ i. getD (t .parents) i 0) (s .faces) (s .seedFlags) (length (s .faces)) (seedsOf s) (s .looks) (s .pivots) shape;
+    shape = shape-turned (t .parents) (s .faces) (s .seedFlags) (length (s .faces)) (seedsOf s) (s .looks) (s .pivots) shape;
   }
+
+-- ---- under our rules, whatever the floats say
+module _ {R : Type 0} (n : ℕ) (floats : Floats R) (within : Within n floats) (rule : ℕ) (rs : List R) where
+  abbrev pub rules : Rules R
+  rules = searching floats n
+
+  fair : Fair n rules
+  fair = searching-fair n floats within
+
+  pub our-state : traceOf rules rule n rs .state ≡ patch rules (popOf rule) n rs
+  our-state = state-same n rules (popOf rule) (popEntryOf rule) fair (popOf-keeps rule) (popEntryOf-follows rule) (popEntryOf-keeps rule) rs
+
+  pub our-traced : Traced (patch rules (popOf rule) n rs .faces) (patch rules (popOf rule) n rs .seedFlags) (traceOf rules rule n rs .parents)
+  our-traced = patch-traced n rules (popOf rule) (popEntryOf rule) fair (popOf-keeps rule) (popEntryOf-follows rule) (popEntryOf-keeps rule) rs
+
+  pub our-parents : traceOf rules rule n rs .parents ≡ parentsPass n (patch rules (popOf rule) n rs .faces)
+  our-parents = parents-pass n rules (popOf rule) (popEntryOf rule) fair (popOf-keeps rule) (popEntryOf-follows rule) (popEntryOf-keeps rule) rs
+
+  pub our-origins : pairs (traceOf rules rule n rs .parents) (traceOf rules rule n rs .places) ≡ originsPass (marksFrom rules (popOf rule) n rs (blank n)) n (patch rules (popOf rule) n rs .faces)
+  our-origins = origins-pass n rules (popOf rule) (popEntryOf rule) fair (popOf-keeps rule) (popEntryOf-follows rule) (popEntryOf-keeps rule) rs
+
+  pub our-one-way :
+      OneWay (turned (traceOf rules rule n rs .parents) (patch rules (popOf rule) n rs .faces)) (patch rules (popOf rule) n rs .seedFlags)
+      (length (patch rules (popOf rule) n rs .faces)) (seedsOf (patch rules (popOf rule) n rs)) (patch rules (popOf rule) n rs .looks) (patch rules (popOf rule) n rs .pivots)
+  our-one-way = patch-one-way n rules (popOf rule) (popEntryOf rule) fair (popOf-keeps rule) (popEntryOf-follows rule) (popEntryOf-keeps rule) rs

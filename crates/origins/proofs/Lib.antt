@@ -7,3 +7,4 @@ pub mod Passing
 pub mod Places
 pub mod Shapes
 pub mod Claim
+pub mod Example
