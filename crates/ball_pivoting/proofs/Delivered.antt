@@ -32,7 +32,7 @@ listed-slots rs r h =
     ∙ ap (λ (l : List Float). rs ++ l) (h .zeros)
     ∙ ap (λ (k : ℕ). rs ++ replicate (17 - k) (f32 0)) (h .counted)
 
-module _ (why : ℕ) (f : Found) (rs : List Float) (lent slice : List ℕ) (r : Finding) (named : NoTriangle why) (h : Finds why f rs lent r slice) where
+module _ (why : ℕ) (f : Found) (rs : List Float) (ms lent slice : List ℕ) (r : Finding) (named : NoTriangle why) (h : Finds why f rs ms lent r slice) where
   room : length slice ≡ length lent
   room = ap length (h .written-in) ∙ length-written (f .faces) lent
 

@@ -12,7 +12,7 @@ use Rattle.settings.specs.Settled.{Settled}
 use Rattle.grid.specs.Index.{Indexed}
 use Rattle.grid.proofs.Near.{indexed-kept}
 use Rattle.lists.specs.Lists.{any}
-use Rattle.patch.specs.Lay.{patch, blank}
+use Rattle.patch.specs.Lay.{State, patch, blank}
 use Rattle.patch.specs.Frontier.{popOf}
 use Rattle.patch.specs.Search.{searching}
 use Rattle.patch.specs.Shape.{touches}
@@ -31,13 +31,14 @@ use Rattle.decisions.proofs.Within.{within}
 use Rattle.radii.specs.Radii.{adaptiveRadii}
 use Rattle.radii.specs.Steps as radii
 use Rattle.radii.specs.declared.Radii.{Radii}
+use Rattle.origins.specs.Following.{marksFrom}
 use Rattle.laying.specs.Laying.{AllSearchable, rulesOf}
 use Rattle.laying.proofs.Claim.{laid-shape, laid-few}
 use Rattle.plain.specs.Reached.{plainReached}
 use Rattle.plain.proofs.Plain.{plain-most}
 use Rattle.reaching.specs.Reaching.{reaches}
 use Rattle.ball_pivoting.specs.Reconstruct.{pointCount, sceneOf, radiiOf, laidOf, laid, plainly, Found, foundAt, found, reasonBy, reason}
-use Rattle.ball_pivoting.specs.Parts.{Sized, Ready, Finds}
+use Rattle.ball_pivoting.specs.Parts.{Sized, Ready, marksOf, Finds}
 use Rattle.ball_pivoting.specs.declared.Finding.{Finding}
 use Rattle.ball_pivoting.proofs.Judged.{reason-laid, reason-plain}
 
@@ -111,6 +112,13 @@ unfolding found foundAt
 found-laid c pts [] e some = absurd (some refl)
 found-laid c pts (x ∷ xs) e some = ap (foundAt c pts) e
 
+-- without radii there are no marks
+marks-none : (c : BallPivotingConfig) (pts : List Float) → radiiOf c pts ≡ [] → marksOf c pts ≡ []
+unfolding marksOf marksFrom
+marks-none c pts e =
+    let n = pointCount pts in
+    ap (λ (rs : List Float). marksFrom (searching (floatsOf (sceneOf c pts) pts) n) (popOf (c .«frontier_rule»)) n rs (blank n)) e
+
 -- at most 10,000 faces are found over 4,096 points, so a face slice of 30,000 is never too short
 pub found-most : (c : BallPivotingConfig) (pts : List Float) → pointCount pts ≤ 4096 → length (found c pts .faces) ≤ 10000
 unfolding found foundAt laid plainly laidOf sceneOf
@@ -122,20 +130,28 @@ found-most c pts few = go (radiiOf c pts)
 
 module _ (c : BallPivotingConfig) (pts : List Float) (s : Scene) (g : Radii) (lent : List ℕ) (r : Finding) (slice : List ℕ) (e : s ≡ sceneOf c pts) where
   -- by way of the scene's own index and number of points
-  pub finds-plain : radii.Listed (radiiOf c pts) g → g .count ≡ 0 → Finds (reasonBy (pointCount pts) (plainReached pts (c .radius))) (plainly c pts) [] lent r slice → Finds (reason c pts) (found c pts) (radiiOf c pts) lent r slice
+  pub finds-plain : radii.Listed (radiiOf c pts) g → g .count ≡ 0 → Finds (reasonBy (pointCount pts) (plainReached pts (c .radius))) (plainly c pts) [] [] lent r slice
+      → Finds (reason c pts) (found c pts) (radiiOf c pts) (marksOf c pts) lent r slice
   finds-plain h none f =
       let no : radiiOf c pts ≡ [] = no-radii (radiiOf c pts) g h none in
-      subst (λ (why : ℕ). Finds why (found c pts) (radiiOf c pts) lent r slice) (reason-plain c pts no) (rw (found-plain c pts no, no) f)
+      subst (λ (why : ℕ). Finds why (found c pts) (radiiOf c pts) (marksOf c pts) lent r slice) (reason-plain c pts no) (rw (found-plain c pts no, marks-none c pts no, no) f)
+
+  -- the state and the marks at some radii, over a scene
+  abbrev at : Scene → List Float → State
+  at t xs = patch (rulesOf t pts) (popOf (c .«frontier_rule»)) (t .n) xs
+
+  abbrev marksAt : Scene → List Float → List ℕ
+  marksAt t xs = marksFrom (rulesOf t pts) (popOf (c .«frontier_rule»)) (t .n) xs (blank (t .n))
 
   pub finds-laid : Settled c → {w : List ℕ} → Sized pts w → radii.Listed (radiiOf c pts) g → (g .count ≡ 0 → ⊥)
-      → Finds (reasonBy (s .n) (reaches (floatsOf s pts) (s .n) (getD (g .list) (g .count - 1) nan))) (laid (patch (rulesOf s pts) (popOf (c .«frontier_rule»)) (s .n) (take (g .count) (g .list)))) (take (g .count) (g .list)) lent r slice
-      → Finds (reason c pts) (found c pts) (radiiOf c pts) lent r slice
-  unfolding laidOf sceneOf
+      → Finds (reasonBy (s .n) (reaches (floatsOf s pts) (s .n) (getD (g .list) (g .count - 1) nan))) (laid (at s (take (g .count) (g .list)))) (take (g .count) (g .list)) (marksAt s (take (g .count) (g .list))) lent r slice
+      → Finds (reason c pts) (found c pts) (radiiOf c pts) (marksOf c pts) lent r slice
+  unfolding laidOf sceneOf marksOf
   finds-laid settled z h some f =
       let why = reason c pts in
       let there : radiiOf c pts ≡ [] → ⊥ = λ q. some (h .counted ∙ ap length q) in
-      let told : Finds why (laid (patch (rulesOf s pts) (popOf (c .«frontier_rule»)) (s .n) (take (g .count) (g .list)))) (take (g .count) (g .list)) lent r slice =
-      subst (λ (y : ℕ). Finds y (laid (patch (rulesOf s pts) (popOf (c .«frontier_rule»)) (s .n) (take (g .count) (g .list)))) (take (g .count) (g .list)) lent r slice) (reason-laid c pts settled (z .some) (z .numbers) s g e h some) f in
-      let one : Finds why (laid (patch (rulesOf s pts) (popOf (c .«frontier_rule»)) (s .n) (radiiOf c pts))) (radiiOf c pts) lent r slice = subst (λ (xs : List Float). Finds why (laid (patch (rulesOf s pts) (popOf (c .«frontier_rule»)) (s .n) xs)) xs lent r slice) (h .kept) told in
-      let two : Finds why (laid (laidOf c pts)) (radiiOf c pts) lent r slice = subst (λ (t : Scene). Finds why (laid (patch (rulesOf t pts) (popOf (c .«frontier_rule»)) (t .n) (radiiOf c pts))) (radiiOf c pts) lent r slice) e one in
-      subst (λ (x : Found). Finds why x (radiiOf c pts) lent r slice) (sym (found-laid c pts (radiiOf c pts) refl there)) two
+      let told : Finds why (laid (at s (take (g .count) (g .list)))) (take (g .count) (g .list)) (marksAt s (take (g .count) (g .list))) lent r slice =
+      subst (λ (y : ℕ). Finds y (laid (at s (take (g .count) (g .list)))) (take (g .count) (g .list)) (marksAt s (take (g .count) (g .list))) lent r slice) (reason-laid c pts settled (z .some) (z .numbers) s g e h some) f in
+      let one : Finds why (laid (at s (radiiOf c pts))) (radiiOf c pts) (marksAt s (radiiOf c pts)) lent r slice = subst (λ (xs : List Float). Finds why (laid (at s xs)) xs (marksAt s xs) lent r slice) (h .kept) told in
+      let two : Finds why (laid (laidOf c pts)) (radiiOf c pts) (marksOf c pts) lent r slice = subst (λ (t : Scene). Finds why (laid (at t (radiiOf c pts))) (radiiOf c pts) (marksAt t (radiiOf c pts)) lent r slice) e one in
+      subst (λ (x : Found). Finds why x (radiiOf c pts) (marksOf c pts) lent r slice) (sym (found-laid c pts (radiiOf c pts) refl there)) two

@@ -1,5 +1,5 @@
 // The main call: a cloud, its normals and the settings in; the patch's faces, counts and radii back.
-mod paths;
+pub mod paths;
 
 use radii::Radii;
 use settings::BallPivotingConfig;
@@ -23,7 +23,8 @@ pub struct Patch {
     pub radii: [f32; 17],
 }
 
-// What was found, before it is known whether it fits; and what is answered if it is nothing.
+// What was found, before it is known whether it fits; what is answered if it is nothing; and how many faces there were
+// after each radius.
 pub struct Finding {
     pub faces: usize,
     pub seeds: u32,
@@ -31,6 +32,7 @@ pub struct Finding {
     pub pivots: u32,
     pub reason: u32,
     pub radii: Radii,
+    pub marks: [usize; 17],
 }
 
 fn refuse(answer: u32, detail: u32) -> Patch

@@ -9,7 +9,7 @@ ghost use mathlib.Core.List.{[]};
 ghost use Prim.Native.Nat.{_-_, _/_, _≤_, _<_};
 ghost use lib.ListN.{length, take, getD};
 ghost use lib.Ieee.{nan};
-ghost use Rattle.patch.specs.Lay.{patch};
+ghost use Rattle.patch.specs.Lay.{patch, blank};
 ghost use Rattle.patch.specs.Frontier.{popOf};
 ghost use Rattle.laying.specs.Laying.{AllSearchable, rulesOf};
 ghost use Rattle.radii.specs.Steps.{Listed};
@@ -19,12 +19,20 @@ ghost use Rattle.reaching.specs.Reaching.{reaches};
 ghost use Rattle.judged.specs.Triples.{Fresh};
 ghost use Rattle.ball_pivoting.specs.Reconstruct.{pointCount, sceneOf, radiiOf, laid, plainly, found, reasonBy};
 ghost use Rattle.ball_pivoting.specs.Reconstruct.{reason};
-ghost use Rattle.ball_pivoting.specs.Parts.{Sized, Ready, Finds};
+ghost use Rattle.origins.specs.Following.{marksFrom};
+ghost use Rattle.ball_pivoting.specs.Parts.{Sized, Ready, marksOf, Finds};
 
 // The cloud's points, indexed and hashed.
 pub struct Site {
     pub scene: Scene,
     pub hash: Hash,
+}
+
+// The same, with the radii.
+pub struct Surveyed {
+    pub scene: Scene,
+    pub hash: Hash,
+    pub radii: Radii,
 }
 
 // Indexes and hashes the cloud's points.
@@ -49,6 +57,37 @@ fn index_points(points: &[f32], settings: BallPivotingConfig, words: &mut [u32])
     Site {
         scene: scene,
         hash: hash,
+    }
+}
+
+// What is known of the cloud before a face is laid.
+pub fn survey(
+    points: &[f32],
+    settings: BallPivotingConfig,
+    words: &mut [u32],
+    floats: &mut [f32],
+) -> Surveyed
+    requires { ⌜ Ready settings (now points) (now words) (now floats) ⌝ }
+    ensures { λ r. ⌜ (r .scene ≡ sceneOf settings (now (points .entry)))
+        × AllSearchable (r .scene) (r .hash) (now (points .entry)) (now (words .exit))
+        × Listed (radiiOf settings (now (points .entry))) (r .radii) ⌝ }
+{
+    let site = index_points(points, settings, words);
+    let scene = site.scene;
+    let hash = site.hash;
+    let radii = radii::compute_adaptive_radii(
+        points,
+        scene.n,
+        settings,
+        scene.grid,
+        hash,
+        words,
+        floats,
+    );
+    Surveyed {
+        scene: scene,
+        hash: hash,
+        radii: radii,
     }
 }
 
@@ -87,7 +126,7 @@ fn reason_after(
 }
 
 // There are no radii.
-fn find_plain(
+pub fn find_plain(
     points: &[f32],
     settings: BallPivotingConfig,
     radii: Radii,
@@ -99,7 +138,7 @@ fn find_plain(
         × (length (now points) / 3 ≤ length (now floats)) × Listed [] radii ⌝ }
     ensures { λ r. ⌜ Finds
         (reasonBy (pointCount (now (points .entry))) (plainReached (now (points .entry)) (settings .radius)))
-        (plainly settings (now (points .entry))) [] (now (faces .entry)) r (now (faces .exit)) ⌝ }
+        (plainly settings (now (points .entry))) [] [] (now (faces .entry)) r (now (faces .exit)) ⌝ }
 {
     let laid = plain::simple_triangulate(points, settings.radius, words, floats, faces);
     let reason = reason_by(points.len() / 3, laid.judged);
@@ -110,11 +149,12 @@ fn find_plain(
         pivots: 0,
         reason: reason,
         radii: radii,
+        marks: [0; 17],
     }
 }
 
 // All radii in turn.
-fn find_pivoting(
+pub fn find_pivoting(
     scene: Scene,
     points: &[f32],
     radii: Radii,
@@ -129,11 +169,14 @@ fn find_pivoting(
         (reasonBy (scene .n)
         (reaches (floatsOf scene (now (points .entry))) (scene .n) (getD (radii .list) (radii .count - 1) nan)))
         (laid (patch (rulesOf scene (now (points .entry))) (popOf rule) (scene .n) (take (radii .count) (radii .list))))
-        (take (radii .count) (radii .list)) (now (faces .entry)) r (now (faces .exit)) ⌝ }
+        (take (radii .count) (radii .list))
+        (marksFrom (rulesOf scene (now (points .entry))) (popOf rule) (scene .n) (take (radii .count) (radii .list))
+        (blank (scene .n)))
+        (now (faces .entry)) r (now (faces .exit)) ⌝ }
 {
     let list = radii.list;
     let count = radii.count as usize;
-    let counts = laying::advanced_ball_pivoting(
+    let course = laying::advanced_ball_pivoting(
         scene,
         points,
         list,
@@ -143,6 +186,8 @@ fn find_pivoting(
         hash,
         rule,
     );
+    let counts = course.counts;
+    let marks = course.marks;
     let reason = reason_after(scene, points, words, hash, list[count - 1], counts.faces);
     Finding {
         faces: counts.faces,
@@ -151,6 +196,7 @@ fn find_pivoting(
         pivots: counts.pivots,
         reason: reason,
         radii: radii,
+        marks: marks,
     }
 }
 
@@ -164,20 +210,13 @@ pub fn find(
 ) -> Finding
     requires { ⌜ Ready settings (now points) (now words) (now floats) ⌝ }
     ensures { λ r. ⌜ Finds (reason settings (now (points .entry))) (found settings (now (points .entry)))
-        (radiiOf settings (now (points .entry))) (now (faces .entry)) r (now (faces .exit)) ⌝ }
+        (radiiOf settings (now (points .entry))) (marksOf settings (now (points .entry))) (now (faces .entry)) r
+        (now (faces .exit)) ⌝ }
 {
-    let site = index_points(points, settings, words);
-    let scene = site.scene;
-    let hash = site.hash;
-    let radii = radii::compute_adaptive_radii(
-        points,
-        scene.n,
-        settings,
-        scene.grid,
-        hash,
-        words,
-        floats,
-    );
+    let known = survey(points, settings, words, floats);
+    let scene = known.scene;
+    let hash = known.hash;
+    let radii = known.radii;
     if radii.count == 0 {
         return find_plain(points, settings, radii, faces, words, floats);
     }

@@ -10,7 +10,7 @@ refuse-requires c κs = search needs
 
 returns : tie.Need-returns
 returns c =
-    λ why f rs lent named h. delivers-none why f rs lent _ _ named h _ (c .refuse .ensures) (c .before .if1 .taken)
+    λ why f rs ms lent named h. delivers-none why f rs ms lent _ _ named h _ (c .refuse .ensures) (c .before .if1 .taken)
 
 clear-u32-requires : tie.Need-clear-u32-requires
 clear-u32-requires c κs = search needs
@@ -23,14 +23,14 @@ same-length c = search needs
 
 returns-2 : tie.Need-returns-2
 returns-2 c =
-    λ why f rs lent named h. delivers-over why f rs lent _ _ named h _ _ (c .refuse2 .ensures) (c .before .before .before .clear-u32 .ensures) (c .before .before .before .before .before .before .if1 .left) (c .before .before .before .before .before .if2 .taken)
+    λ why f rs ms lent named h. delivers-over why f rs ms lent _ _ named h _ _ (c .refuse2 .ensures) (c .before .before .before .clear-u32 .ensures) (c .before .before .before .before .before .before .if1 .left) (c .before .before .before .before .before .if2 .taken)
 
 cast-t12 : tie.Need-cast-t12
 cast-t12 c = search needs
 
 returns-3 : tie.Need-returns-3
 returns-3 c =
-    λ why f rs lent named h. delivers-faces why f rs lent _ _ named h (c .before .before .before .if1 .left) (c .before .before .if2 .left) _ refl
+    λ why f rs ms lent named h. delivers-faces why f rs ms lent _ _ named h (c .before .before .before .if1 .left) (c .before .before .if2 .left) _ refl
 
 pub deliver-spec : {M : Type 1} → statement M
 deliver-spec = tie.close (tie.spec refuse-requires returns clear-u32-requires refuse-requires-2 same-length returns-2 cast-t12 returns-3)

@@ -47,7 +47,7 @@ returns-2 c =
     let found = c .before .before .before .before .before .before .before .before .before .before .before .before .before .before .before .before .before .before .find in
     let a = c .before .before .before .before .before .before .before .before .before .before .before .before .before .before .before .before .before .before .before .before .before .before .before .before .before .before .before .before .before .before .args in
     taken _ _ _ _ _ _ _ (c .before .before .before .before .before .before .before .before .before .before .before .before .before .before .before .before .before .before .before .before .before .before .before .before .refusal-of-reconstruct .ensures) _ _ _ _ (c .before .before .before .before .before .before .before .before .before .before .before .before .before .before .before .before .before .before .before .before .before .before .if1 .left)
-    (c .before .before .deliver .ensures _ _ _ _ (reason-is (a .settings) (a .points .now)) (found .ensures))
+    (c .before .before .deliver .ensures _ _ _ _ _ (reason-is (a .settings) (a .points .now)) (found .ensures))
     (c .before .before .before .before .before .before .before .before .before .before .clear-u32 .ensures ∙ ap (λ (k : ℕ). replicate k 0) (found .kept .1 .1 .1 .0))
     (c .before .before .before .before .before .before .clear-f32 .ensures ∙ ap (λ (k : ℕ). replicate k (f32 0)) (found .kept .1 .1 .1 .1 .0))
 

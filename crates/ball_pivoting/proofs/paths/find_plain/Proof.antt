@@ -1,6 +1,8 @@
 -- The plain path's faces, with no seeds, looks and pivots. Assumes nothing.
 use mathlib.Core.Path.{refl, ap, _∙_}
+use Prim.Native.Nat.{ℕ}
 use native.Mathlib.Omega.{arith}
+use lib.ListN.{take, replicate}
 use Rattle.plain.proofs.Plain.{plain-most}
 use Rattle.ball_pivoting.specs.Reconstruct.{pointCount, plainly, reasonBy}
 use borrow.Author.Needs.{needs}
@@ -34,6 +36,7 @@ returns c =
       looks = refl;
       pivots = refl;
       radii = c .before .before .before .before .before .before .before .before .before .before .before .before .before .before .before .pre .3;
+      marks = ap (λ (k : ℕ). take k (replicate 17 0)) (c .before .before .before .before .before .before .before .before .before .before .before .before .before .before .before .pre .3 .counted);
       reason = λ z. c .reason-by .ensures ∙ ap (reasonBy (pointCount (a .points .now))) (e .2 z);
       written-in = e .1;
     }
