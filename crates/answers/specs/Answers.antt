@@ -56,6 +56,9 @@ allTurnedDown = 16
 abbrev pub equalNumbers : ℕ
 equalNumbers = 17
 
+abbrev pub turnedPlain : ℕ
+turnedPlain = 18
+
 abbrev pub tallyFull : ℕ
 tallyFull = 19
 
@@ -103,6 +106,7 @@ answers =
     ∷ says noneClose "no triangle was found: no three points lie close enough together"
     ∷ says allTurnedDown "no triangle was found: all that were judged were turned down"
     ∷ says equalNumbers "two of three point numbers are equal"
+    ∷ says turnedPlain "a turned patch was asked for, and the plain path ran"
     ∷ says tallyFull "the tally has 100,000 patches"
     ∷ says badSeasonPatch "the patch's counts can't be entered"
     ∷ says tallyEmpty "the tally is empty"

@@ -35,6 +35,8 @@ pub const ALL_TURNED_DOWN: u32 = 16;
 
 pub const EQUAL_NUMBERS: u32 = 17;
 
+pub const TURNED_PLAIN: u32 = 18;
+
 pub const TALLY_FULL: u32 = 19;
 
 pub const SEASON_PATCH: u32 = 20;

@@ -24,7 +24,7 @@ no-faces [] slice e = written-none slice
 no-faces (f ∷ fs) slice e = absurd (omega arith)
 
 -- the radii fill the first slots
-listed-slots : (rs : List Float) (r : Radii) → Listed rs r → r .list ≡ slots rs
+pub listed-slots : (rs : List Float) (r : Radii) → Listed rs r → r .list ≡ slots rs
 unfolding slots
 listed-slots rs r h =
     sym (take-append-drop (r .count) (r .list))

@@ -103,7 +103,7 @@ listed-self xs r h = subst (λ (l : List Float). radii.Listed l r) (sym (h .kept
 
 -- ---- what is found
 
-found-plain : (c : BallPivotingConfig) (pts : List Float) → radiiOf c pts ≡ [] → found c pts ≡ plainly c pts
+pub found-plain : (c : BallPivotingConfig) (pts : List Float) → radiiOf c pts ≡ [] → found c pts ≡ plainly c pts
 unfolding found foundAt
 found-plain c pts e = ap (foundAt c pts) e
 

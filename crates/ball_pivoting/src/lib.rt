@@ -35,7 +35,8 @@ pub struct Finding {
     pub marks: [usize; 17],
 }
 
-fn refuse(answer: u32, detail: u32) -> Patch
+// A refusal: no counts and no radii.
+pub fn refuse(answer: u32, detail: u32) -> Patch
     ensures { λ r. ⌜ r ≡ refused answer detail ⌝ }
 {
     Patch {

@@ -1,0 +1,6 @@
+-- What is found comes back, with where each face came from.
+pub mod Slices
+pub mod Traces
+pub mod Finding
+pub mod Delivered
+pub mod Claim

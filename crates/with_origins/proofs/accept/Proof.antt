@@ -1,0 +1,16 @@
+-- The account as the public struct has it. Assumes nothing.
+use mathlib.Core.Path.{refl}
+use Rattle.with_origins.specs.Parts.{acceptedBy}
+use borrow.Author.Needs.{needs}
+use Rattle.with_origins.proofs.accept.Statement.{statement}
+use Rattle.with_origins.proofs.accept.Tie as tie
+
+cast-t4 : tie.Need-cast-t4
+cast-t4 c = search needs
+
+returns : tie.Need-returns
+unfolding acceptedBy
+returns c = refl
+
+pub accept-spec : {M : Type 1} → statement M
+accept-spec = tie.close (tie.spec cast-t4 returns)

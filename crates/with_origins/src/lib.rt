@@ -1,0 +1,194 @@
+// The main call with the record of where each face came from, and the patch turned to face one way where that is asked
+// for.
+use ball_pivoting::Finding;
+use ball_pivoting::Patch;
+use radii::Radii;
+use settings::BallPivotingConfig;
+ghost use mathlib.Core.Path.{_≡_};
+ghost use mathlib.Core.Bool.{cond};
+ghost use mathlib.Core.List.{[]};
+ghost use Prim.Native.Nat.{_/_, _*_, _≤_, _<_};
+ghost use lib.ListN.{length, take};
+ghost use lib.Seq.{sets};
+ghost use Rattle.patch.specs.View.{flat};
+ghost use Rattle.radii.specs.Steps.{Listed};
+ghost use Rattle.plain.specs.Reached.{plainReached};
+ghost use Rattle.origins.specs.Pass.{originsFrom};
+ghost use Rattle.origins.specs.Turned.{turnedFrom};
+ghost use Rattle.tracing.specs.Read.{facesFrom};
+ghost use Rattle.looks.specs.Looks.{parentIn};
+ghost use Rattle.ball_pivoting.specs.Reconstruct.{pointCount, plainly, reasonBy};
+ghost use Rattle.ball_pivoting.specs.Parts.{Ready, Finds};
+ghost use Rattle.with_origins.specs.Call.{over};
+ghost use Rattle.with_origins.specs.Outcome.{Reconstructs};
+ghost use Rattle.with_origins.specs.Parts.{FindsFor, acceptedBy, Held, Delivers};
+
+// How many plain faces there are: the path runs over a slice without room, and none is written.
+fn count_plain(
+    points: &[f32],
+    settings: BallPivotingConfig,
+    radii: Radii,
+    faces: &mut [u32],
+    words: &mut [u32],
+    floats: &mut [f32],
+) -> Finding
+    requires { ⌜ (length (now points) / 3 ≤ 4096) × (length (now points) / 3 ≤ length (now words))
+        × (length (now points) / 3 ≤ length (now floats)) × Listed [] radii ⌝ }
+    ensures { λ r. ⌜ Finds
+        (reasonBy (pointCount (now (points .entry))) (plainReached (now (points .entry)) (settings .radius)))
+        (plainly settings (now (points .entry))) [] [] [] r []
+        × (now (faces .exit) ≡ now (faces .entry)) ⌝ }
+{
+    let none: usize = 0;
+    ball_pivoting::paths::find_plain(points, settings, radii, &mut faces[..none], words, floats)
+}
+
+// What is found over the cloud; of plain faces that were to be turned only the number.
+fn find(
+    points: &[f32],
+    settings: BallPivotingConfig,
+    turned: bool,
+    faces: &mut [u32],
+    words: &mut [u32],
+    floats: &mut [f32],
+) -> Finding
+    requires { ⌜ Ready settings (now points) (now words) (now floats) ⌝ }
+    ensures { λ r. ⌜ FindsFor turned settings (now (points .entry)) (now (faces .entry)) r (now (faces .exit)) ⌝ }
+{
+    let known = ball_pivoting::paths::survey(points, settings, words, floats);
+    let scene = known.scene;
+    let hash = known.hash;
+    let radii = known.radii;
+    if radii.count != 0 {
+        let rule = settings.frontier_rule;
+        return ball_pivoting::paths::find_pivoting(scene, points, radii, faces, words, hash, rule);
+    }
+    if turned {
+        return count_plain(points, settings, radii, faces, words, floats);
+    }
+    ball_pivoting::paths::find_plain(points, settings, radii, faces, words, floats)
+}
+
+// Whether there are more faces than fit one of the slices.
+fn is_over(count: usize, room: usize, places: usize) -> bool
+    ensures { λ r. ⌜ r ≡ over count room places ⌝ }
+{
+    if room / 3 < count {
+        return true;
+    }
+    places / 2 < count
+}
+
+// The faces of the multi-radius path fit: their origins are written, and they are turned where that is asked for.
+fn write_laid(
+    found: Finding,
+    turned: bool,
+    n: usize,
+    faces: &mut [u32],
+    origins: &mut [u32],
+    words: &mut [u32],
+)
+    requires { ⌜ (found .faces ≤ 10000) × (found .radii .count ≤ 17) × (found .faces ≤ n) × (n ≤ length (now words))
+        × (3 * found .faces ≤ length (now faces)) × (2 * found .faces ≤ length (now origins)) ⌝ }
+    ensures { λ _. ⌜ (now (origins .exit) ≡ sets (now (origins .entry)) 0
+        (originsFrom (take (found .radii .count) (found .marks)) 0 (take n (now (words .entry)))
+        (facesFrom (now (faces .entry)) 0 (found .faces))))
+        × (now (faces .exit) ≡ cond turned
+        (sets (now (faces .entry)) 0
+        (flat (turnedFrom (parentIn (now (origins .exit))) 0 (facesFrom (now (faces .entry)) 0 (found .faces)))))
+        (now (faces .entry))) ⌝ }
+{
+    let count = found.faces;
+    let marks = found.marks;
+    let radii = found.radii;
+    let places = radii.count as usize;
+    tracing::write_origins(faces, count, marks, places, &mut words[..n], origins);
+    if turned {
+        looks::turn(origins, words, faces, count);
+    }
+}
+
+fn accept(found: Finding) -> Patch
+    requires { ⌜ found .faces ≤ 10000 ⌝ }
+    ensures { λ r. ⌜ r ≡ acceptedBy found ⌝ }
+{
+    let radii = found.radii;
+    let list = radii.list;
+    Patch {
+        answer: 0,
+        detail: 0,
+        faces: found.faces as u32,
+        seeds: found.seeds,
+        looks: found.looks,
+        pivots: found.pivots,
+        radii_count: radii.count,
+        radii: list,
+    }
+}
+
+// What is found over n points comes back if it is some faces, they fit, and they can be turned if they are to be.
+fn deliver(
+    found: Finding,
+    turned: bool,
+    n: usize,
+    faces: &mut [u32],
+    origins: &mut [u32],
+    words: &mut [u32],
+) -> Patch
+    requires { ⌜ Held found n (now words) ⌝ }
+    ensures { λ r. ⌜ Delivers turned n found (now (faces .entry)) (now (origins .entry)) (now (words .entry)) r
+        (now (faces .exit)) (now (origins .exit)) ⌝ }
+{
+    let count = found.faces;
+    if count == 0 {
+        return ball_pivoting::refuse(found.reason, 0);
+    }
+    if is_over(count, faces.len(), origins.len()) {
+        clearing::clear_u32(faces);
+        clearing::clear_u32(origins);
+        return ball_pivoting::refuse(answers::FACES, 0);
+    }
+    let radii = found.radii;
+    if radii.count != 0 {
+        write_laid(found, turned, n, faces, origins, words);
+        return accept(found);
+    }
+    if turned {
+        return ball_pivoting::refuse(answers::TURNED_PLAIN, 0);
+    }
+    tracing::write_plain_origins(count, origins);
+    accept(found)
+}
+
+// Lays a patch over a cloud, and says where each face came from.
+pub fn reconstruct_with_origins(
+    points: &[f32],
+    normals: &[f32],
+    settings: BallPivotingConfig,
+    turned: bool,
+    faces: &mut [u32],
+    origins: &mut [u32],
+    words: &mut [u32],
+    floats: &mut [f32],
+) -> Patch
+    ensures { λ r. ⌜ Reconstructs (now (points .entry)) (now (normals .entry)) settings turned (now (faces .entry))
+        (now (origins .entry)) (now (words .entry)) (now (floats .entry)) r (now (faces .exit)) (now (origins .exit))
+        (now (words .exit)) (now (floats .exit)) ⌝ }
+{
+    let refusal = domain::refusal_of_reconstruct(
+        points,
+        normals,
+        settings,
+        words.len(),
+        floats.len(),
+    );
+    if refusal.answer != 0 {
+        return ball_pivoting::refuse(refusal.answer, refusal.detail);
+    }
+    let found = find(points, settings, turned, faces, words, floats);
+    clearing::clear_u32(words);
+    clearing::clear_f32(floats);
+    let patch = deliver(found, turned, points.len() / 3, faces, origins, words);
+    clearing::clear_u32(words);
+    patch
+}
