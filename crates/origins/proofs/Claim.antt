@@ -1,7 +1,7 @@
 -- The claims about parents, places and the turned patch, for every patch that the definition lays, in any order of popping that loses and repeats no entry; then under our rules. Assumes nothing.
-use Prim.Native.Nat.{ℕ, zero, suc, _+_, _≤_, _<_}
+use Prim.Native.Nat.{ℕ, suc, _+_, _<_}
 use mathlib.Core.Path.{_≡_, refl, sym, ap, ap₂, _∙_, subst}
-use mathlib.Core.Bool.{Bool, true, false}
+use mathlib.Core.Bool.{Bool, true}
 use mathlib.Core.List.{List, [], _∷_}
 use native.Mathlib.Omega.{arith}
 use lib.ListN.{length, getD, replicate}
@@ -18,7 +18,7 @@ use Rattle.patch.proofs.Inv.{touched-used}
 use Rattle.patch.proofs.Laying.{layAll-rest, blank-rest, patch-shape}
 use Rattle.patch.proofs.Pops.{popOf-keeps}
 use Rattle.patch.proofs.Searching.{searching-fair}
-use Rattle.orders.specs.Order.{faceAt, greedy, accepted, Rearranged, Valid}
+use Rattle.orders.specs.Order.{greedy, accepted, Rearranged, Valid}
 use Rattle.orders.proofs.Decide.{accepted-valid}
 use Rattle.orders.proofs.Patches.{shape-accepted, shape-different}
 use Rattle.origins.specs.Origins.{PopEntry, popEntryOf, Trace, trace, traceOf, pairs}
@@ -27,7 +27,7 @@ use Rattle.origins.specs.Pass.{parentsFrom, parentsPass, parentAt, broug
 use Rattle.origins.specs.Following.{Follows, KeepsEntries, parentOf, marksFrom}
 use Rattle.origins.proofs.Running.{Running, patch-running}
 use Rattle.origins.proofs.Turning.{turned-once}
-use Rattle.origins.proofs.Tracing.{KnownTrace, Known, trace-known, trace-state, trace-parents, popEntryOf-follows, popEntryOf-keeps}
+use Rattle.origins.proofs.Tracing.{Known, trace-known, trace-state, trace-parents, popEntryOf-follows, popEntryOf-keeps}
 use Rattle.origins.proofs.Passing.{pass-parents, pass-length}
 use Rattle.origins.proofs.Places.{places-length, place-is}
 use Rattle.origins.proofs.Shapes.{turned-shape, turned-congr}

@@ -10,7 +10,7 @@ use lib.Dec.{leb}
 use lib.Ieee.{binary32, ofBits, lt}
 use Rattle.lists.specs.Lists.{count, any, upFrom}
 use Rattle.lists.proofs.Bools.{true-not-false}
-use Rattle.patch.specs.Lay.{same, Face, face, push, marked, withFace, seeded, cleared, popped, met, pivoted, judged, look, next, run, begun, layOne, layAll, blank, patch}
+use Rattle.patch.specs.Lay.{same, Face, face, push, marked, withFace, seeded, cleared, popped, met, pivoted, judged, look, next, run, begun, layOne, blank}
 use Rattle.patch.specs.Frontier.{sift, afterPop, waitingAfter, popOf}
 use Rattle.patch.specs.Search.{Floats, isSecond, isThird, thirdOf, secondOf, firstOf, scoreOf, bestOf, searching}
 use Rattle.origins.specs.Origins.{lookTrace, nextTrace, runTrace, seededTrace, begunTrace, traceFrom, trace, traceOf, pairs}

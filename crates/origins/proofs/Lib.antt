@@ -1,10 +1,11 @@
 pub mod Directed
 pub mod Looking
+pub mod Shapes
 pub mod Running
 pub mod Turning
 pub mod Tracing
 pub mod Passing
 pub mod Places
-pub mod Shapes
+pub mod Pairs
 pub mod Claim
 pub mod Example

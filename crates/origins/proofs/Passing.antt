@@ -12,7 +12,7 @@ use lib.ListN.{length, getD, set, take, replicate, length-set, length-replicate,
 use lib.Seq.{take-suc, getD-set-same, getD-set-other}
 use Rattle.lists.specs.Lists.{bit, count, any}
 use Rattle.lists.proofs.Bools.{either}
-use Rattle.lists.proofs.Counts.{bit-le, bit-true, true-any, count-append}
+use Rattle.lists.proofs.Counts.{bit-true, true-any, count-append}
 use Rattle.patch.specs.Lay.{edge, Face, State}
 use Rattle.patch.specs.Shape.{touches, noFace}
 use Rattle.patch.specs.Fair.{Shaped}

@@ -1,6 +1,6 @@
 -- The place of each face's radius is how many of the numbers of faces after each radius are at most its number. Assumes nothing.
 use Prim.Native.Nat.{ℕ, zero, suc, _+_, _-_, _*_, _≤_, _<_}
-use mathlib.Core.Path.{_≡_, refl, sym, ap, ap₂, _∙_}
+use mathlib.Core.Path.{_≡_, refl, sym, ap, _∙_}
 use mathlib.Core.Bool.{Bool, true, false, not}
 use mathlib.Core.List.{List, [], _∷_, _++_, append-assoc, append-nil}
 use mathlib.Core.Option.{Option, none, some}
@@ -10,12 +10,12 @@ use lib.Dec.{ltb}
 use borrow.Author.Tests.{lt-ltb, le-ltb}
 use lib.ListN.{length, getD, take, replicate, length-append, length-replicate, getD-replicate, replicate-append-replicate, List·getD-append}
 use lib.Seq.{getD-append-add}
-use Rattle.lists.specs.Lists.{bit, count, any}
+use Rattle.lists.specs.Lists.{bit, any}
 use Rattle.patch.specs.Lay.{Edge, same, face, State, Rules, Pop, withFace, cleared, seeded, popped, met, pivoted, judged, look, next, run, begun, layOne, layAll, blank, patch}
 use Rattle.origins.specs.Origins.{Entry, edgesIn, PopEntry, Trace, lookTrace, nextTrace, runTrace, seededTrace, begunTrace, traceFrom, blankTrace, trace}
 use Rattle.origins.specs.Pass.{placeOf}
 use Rattle.origins.specs.Following.{Follows, KeepsEntries, marksFrom}
-use Rattle.origins.proofs.Tracing.{KnownTrace, begun-known, all-known, blank-known}
+use Rattle.origins.proofs.Tracing.{KnownTrace, begun-known, blank-known}
 
 abbrev many : State → ℕ
 many s = length (s .faces)

@@ -11,7 +11,7 @@ use borrow.Author.Tests.{eq-eqb}
 use lib.ListN.{length, getD, take, length-append, List·getD-append}
 use lib.Seq.{take-append-le, take-at, getD-at}
 use Rattle.lists.specs.Lists.{bit, count, any}
-use Rattle.patch.specs.Lay.{Edge, edge, same, Face, face, edgesOf, State, Rules, Pop, push, withFace, cleared, seeded, popped, met, pivoted, judged, look, next, run, begun, layOne, layAll, blank, patch}
+use Rattle.patch.specs.Lay.{Edge, same, Face, face, edgesOf, State, Rules, Pop, push, withFace, cleared, seeded, popped, met, pivoted, judged, look, next, run, begun, layOne, layAll, blank, patch}
 use Rattle.patch.specs.Fair.{Keeps}
 use Rattle.patch.specs.Shape.{noFace}
 use Rattle.lists.proofs.Bools.{either, true-not-false}

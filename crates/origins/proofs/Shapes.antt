@@ -1,5 +1,5 @@
 -- All that is said of points, edges, looks and pivots holds of the turned patch, whatever the parents. Assumes nothing.
-use Prim.Native.Nat.{ℕ, zero, suc, _+_, _≤_, _<_}
+use Prim.Native.Nat.{ℕ, zero, suc, _+_, _<_}
 use mathlib.Core.Path.{_≡_, refl, sym, ap, ap₂, _∙_, subst}
 use mathlib.Core.Logic.{_≢_}
 use mathlib.Core.Bool.{Bool, true, false, not, _&&_, _||_}
@@ -10,7 +10,7 @@ use lib.ListN.{length, getD, take}
 use Rattle.lists.specs.Lists.{bit, count, any}
 use Rattle.lists.proofs.Counts.{count-ext}
 use Rattle.patch.specs.Lay.{Edge, edge, same, Face, pointsOf, edgesOf}
-use Rattle.patch.specs.Shape.{touches, has, newPoints, noFace, Laid, Shape}
+use Rattle.patch.specs.Shape.{touches, has, newPoints, Laid, Shape}
 use Rattle.orders.specs.Order.{faceAt, swapped}
 use Rattle.origins.specs.Sides.{looksIn}
 use Rattle.origins.specs.Turned.{turnedFace, turnedFrom}

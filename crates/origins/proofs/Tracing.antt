@@ -15,14 +15,14 @@ use Rattle.lists.specs.Lists.{bit, count, any}
 use Rattle.patch.specs.Lay.{Edge, same, Face, face, edgesOf, State, Rules, Pop, push, withFace, cleared, seeded, popped, met, pivoted, judged, look, next, run, begun, layOne, layAll, patch}
 use Rattle.patch.specs.Fair.{Fair, Keeps, Shaped}
 use Rattle.patch.specs.Frontier.{sift, afterPop, waitingAfter, noEdge, popOf}
-use Rattle.patch.proofs.Pops.{pop-count, popOf-keeps}
+use Rattle.patch.proofs.Pops.{pop-count}
 use Rattle.patch.proofs.Laying.{patch-shape}
 use Rattle.patch.specs.Shape.{noFace}
 use Rattle.lists.proofs.Bools.{either, true-not-false, and-both}
 use Rattle.lists.proofs.Counts.{any-true, any-false, true-any, count-append}
 use Rattle.orders.specs.Order.{faceAt}
 use Rattle.origins.specs.Turned.{exactly, runs}
-use Rattle.origins.specs.Origins.{Entry, entry, edgesIn, PopEntry, popEntryOf, Trace, lookTrace, nextTrace, runTrace, seededTrace, begunTrace, traceFrom, blankTrace, trace}
+use Rattle.origins.specs.Origins.{Entry, entry, PopEntry, popEntryOf, Trace, lookTrace, nextTrace, runTrace, seededTrace, begunTrace, traceFrom, blankTrace, trace}
 use Rattle.origins.specs.Following.{parentOf, Follows, KeepsEntries}
 use Rattle.origins.proofs.Directed.{runs-has}
 use Rattle.origins.proofs.Running.{Running, patch-running}

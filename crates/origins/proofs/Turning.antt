@@ -15,7 +15,7 @@ use Rattle.patch.specs.Fair.{Shaped}
 use Rattle.lists.proofs.Bools.{either}
 use Rattle.lists.proofs.Counts.{bit-le, bit-true, any-true, any-false, true-any, count-append, count-mono}
 use Rattle.patch.proofs.Edges.{touches-v1, touches-v2, Distinct, ab-of, bc-of, ca-of, laid-v1, laid-v2, has-congr, key-same}
-use Rattle.orders.specs.Order.{faceAt, swapped}
+use Rattle.orders.specs.Order.{faceAt}
 use Rattle.orders.proofs.Sums.{sum, sum-ext}
 use Rattle.origins.specs.Sides.{looksOut, looksIn}
 use Rattle.origins.specs.Turned.{runs, turnedFace, turnedFrom}
@@ -23,6 +23,7 @@ use Rattle.origins.specs.Following.{find, parentOf}
 use Rattle.origins.proofs.Directed.{has-runs, swapped-runs, Is, runs-which, runs-first, runs-has}
 use Rattle.origins.proofs.Looking.{in-not-out, other-in}
 use Rattle.origins.proofs.Running.{Running}
+use Rattle.origins.proofs.Shapes.{turned-lies}
 
 -- ---- the first that passes
 find-yes : (p : Face → Bool) (f : Face) (fs : List Face) → p f ≡ true → find p (f ∷ fs) ≡ 0
@@ -213,12 +214,6 @@ module _ (s : State) (shape : Shaped s) (running : Running s) where
 
     shared : (x y : ℕ) → runs x y (at i) ≡ true → 1 ≤ count (has (edge x y)) (take i fs) → (flag i ≡ false) × Is x y (ab-of (at i))
     shared x y r h = brought x y r (omega (arith, laid-v1 (edge x y) (take i fs))) (omega (arith, laid-v2 (edge x y) (take i fs)))
-
-  falls : (i : ℕ) → i < length fs → (j : ℕ) → j ≤ i → (parent j ≡ j) ⊎ (parent j < j)
-  falls i b j l = ⊎-elim
-      (λ (t : flag j ≡ true). inl (seed-parent j (omega arith) t))
-      (λ (t : flag j ≡ false). inr (other-parent j (omega arith) t .0))
-      (either (flag j))
 
   -- ---- the turned patch, by place
   abbrev inward : ℕ → Bool
@@ -417,31 +412,11 @@ module _ (s : State) (shape : Shaped s) (running : Running s) where
       omega (arith, g .0)))
       (either (flag i))
 
-  -- ---- the theorem: an edge lies in as many faces as before, and where those are two it runs once each way
-  turned-bits : (o : Bool) (f : Face) (x y : ℕ) → Distinct f → bit (has (edge x y) (turnedFace o f)) ≡ bit (has (edge x y) f)
-  turned-bits false f x y d = refl
-  turned-bits true f x y d =
-      let e : Distinct (swapped f) = record { ab = λ q. d .ab (sym q); bc = λ q. d .ca (sym q); ca = λ q. d .bc (sym q) } in
-      let a = has-runs (swapped f) e x y in
-      let b = has-runs f d x y in
-      let c = ap bit (swapped-runs f x y) in
-      let g = ap bit (swapped-runs f y x) in
-      omega arith
-
-  sum-places : (f g : ℕ → ℕ) (m : ℕ) → ((i : ℕ) → i < m → f i ≡ g i) → sum f m ≡ sum g m
-  sum-places f g zero h = refl
-  sum-places f g (suc m) h = let ih = sum-places f g m (λ i l. h i (omega arith)) in let e = h m (omega arith) in omega arith
-
-  pub turned-has : (x y : ℕ) → count (has (edge x y)) (turnedFrom parent 0 fs) ≡ count (has (edge x y)) fs
-  turned-has x y =
-      turned-place (has (edge x y))
-      ∙ sum-places (λ i. bit (has (edge x y) (face-of i))) (λ i. bit (has (edge x y) (at i))) (length fs) (λ i l. turned-bits (inward i) (at i) x y (distinct i l))
-      ∙ sym (ap (count (has (edge x y))) (sym (take-length fs)) ∙ take-sum (has (edge x y)) fs (length fs) (omega arith))
-
+  -- ---- the theorem: an edge that lies in two faces runs once each way
   pub turned-once : (x y : ℕ) → count (has (edge x y)) (turnedFrom parent 0 fs) ≡ 2 → (count (runs x y) (turnedFrom parent 0 fs) ≡ 1) × (count (runs y x) (turnedFrom parent 0 fs) ≡ 1)
   turned-once x y h =
       let d = ap (count (has (edge x y))) (sym (take-length fs)) ∙ take-sum (has (edge x y)) fs (length fs) (omega arith) in
-      let e = turned-has x y in
+      let e = turned-lies parent (edge x y) 0 fs in
       let a = turned-place (runs x y) in
       let b = turned-place (runs y x) in
       let o = once x y (length fs) (omega arith) (omega arith) in

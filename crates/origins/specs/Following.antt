@@ -1,6 +1,6 @@
 -- What is asked of an order of popping over entries, and the parent of a face as the faces alone tell it. For laws
 -- inside. Definitions only.
-use Prim.Native.Nat.{ℕ, zero, suc, _+_}
+use Prim.Native.Nat.{ℕ, suc, _+_}
 use mathlib.Core.Path.{_≡_}
 use mathlib.Core.Bool.{Bool, true, false}
 use mathlib.Core.List.{List, [], _∷_}

@@ -1,6 +1,6 @@
 -- Parents and places in one pass over the faces of a patch in the order in which they were laid, as the code finds
 -- them: see the law `pass-parents`. For contracts inside. Definitions only.
-use Prim.Native.Nat.{ℕ, zero, suc, _+_, _-_, max}
+use Prim.Native.Nat.{ℕ, _+_, _-_, max}
 use mathlib.Core.Bool.{Bool, cond, not}
 use mathlib.Core.List.{List, [], _∷_}
 use lib.Dec.{eqb, ltb}

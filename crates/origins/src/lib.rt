@@ -1,2 +1,2 @@
-// Where each face of a patch came from, and the patch turned so that it faces one way. No code: the definitions are in specs/, the
-// theorems in proofs/.
+// Where each face of a patch came from, and the patch turned so that it faces one way. Definitions in specs/, theorems
+// in proofs/. No code.
