@@ -18,9 +18,6 @@ use Rattle.patch.proofs.Inv.{touched-used}
 use Rattle.patch.proofs.Laying.{layAll-rest, blank-rest, patch-shape}
 use Rattle.patch.proofs.Pops.{popOf-keeps}
 use Rattle.patch.proofs.Searching.{searching-fair}
-use Rattle.orders.specs.Order.{greedy, accepted, Rearranged, Valid}
-use Rattle.orders.proofs.Decide.{accepted-valid}
-use Rattle.orders.proofs.Patches.{shape-accepted, shape-different}
 use Rattle.origins.specs.Origins.{PopEntry, popEntryOf, Trace, trace, traceOf, pairs}
 use Rattle.origins.specs.Turned.{runs, turnedFrom, turned, Traced, OneWay}
 use Rattle.origins.specs.Pass.{parentsFrom, parentsPass, parentAt, broughtAfter, placeOf, originsFrom, originsPass}
@@ -30,7 +27,7 @@ use Rattle.origins.proofs.Turning.{turned-once}
 use Rattle.origins.proofs.Tracing.{Known, trace-known, trace-state, trace-parents, popEntryOf-follows, popEntryOf-keeps}
 use Rattle.origins.proofs.Passing.{pass-parents, pass-length}
 use Rattle.origins.proofs.Places.{places-length, place-is}
-use Rattle.origins.proofs.Shapes.{turned-shape, turned-congr}
+use Rattle.origins.proofs.Shapes.{turned-shape, turned-inside, turned-congr}
 
 -- parents and places one after the other, as the pass writes them
 pass-pairs : (marks : List ℕ) (k : ℕ) (brought : List ℕ) (fs : List Face) (places : List ℕ) → length places ≡ length fs → ((i : ℕ) → i < length fs → getD places i 0 ≡ placeOf marks (k + i))
@@ -52,13 +49,10 @@ pub shape-turned : (parents : List ℕ) (fs : List Face) (flags : List Bool) (F 
 unfolding turned
 shape-turned parents fs flags F S looks pivots h = turned-shape (λ i. getD parents i 0) fs flags F S looks pivots h
 
--- so it could be a patch of ours in shape, its lines in any order
-module _ (parents : List ℕ) (fs : List Face) (flags : List Bool) (F S looks pivots : ℕ) (h : Shape fs flags F S looks pivots) (hs : List Face) (order : List ℕ) (k : Rearranged (turned parents fs) hs order) where
-  pub turned-accepted : accepted hs ≡ true
-  turned-accepted = shape-accepted (turned parents fs) flags F S looks pivots (shape-turned parents fs flags F S looks pivots h) hs order k
-
-  pub turned-valid : Valid hs (greedy hs)
-  turned-valid = accepted-valid hs (shape-different (turned parents fs) flags F S looks pivots (shape-turned parents fs flags F S looks pivots h) hs order k) turned-accepted
+-- and so are the points that it touches
+pub inside-turned : (parents : List ℕ) (n : ℕ) (fs : List Face) → ((x : ℕ) → any (touches x) fs ≡ true → x < n) → (x : ℕ) → any (touches x) (turned parents fs) ≡ true → x < n
+unfolding turned
+inside-turned parents n fs h = turned-inside (λ i. getD parents i 0) n fs h
 
 module _ {R : Type 0} (n : ℕ) (rules : Rules R) (pop : Pop) (popEntry : PopEntry) (fair : Fair n rules) (keeps : Keeps pop) (follows : Follows popEntry pop) (keeps-entries : KeepsEntries popEntry) (rs : List R) where
   abbrev s : State

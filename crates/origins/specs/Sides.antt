@@ -3,8 +3,8 @@ use Prim.Native.Nat.{ℕ, zero, suc}
 use mathlib.Core.Bool.{Bool, true, false, cond}
 use lib.Dec.{ltb}
 
--- `parent` has the number of each face's parent; a seed is its own, any other parent comes earlier.
--- Whether the face looks out, or in, told in so many steps back at most.
+-- `parent` tells the number of each face's parent: any parent comes earlier but a seed's, which is its own. Whether
+-- the face looks out, or in, told in so many steps back at most:
 unfoldable mutual
   pub outAfter : ℕ → (ℕ → ℕ) → ℕ → Bool
   outAfter zero parent face = true
