@@ -3,7 +3,7 @@
 use Prim.Native.Nat.{ℕ, zero, suc, _-_, _*_}
 use mathlib.Core.List.{List, [], _∷_, _++_, map}
 use mathlib.Core.Option.{Option, none, some}
-use lib.ListN.{length, drop, replicate}
+use lib.ListN.{length, getD, drop, replicate}
 use Rattle.patch.specs.Lay.{Edge, State, Rules, Pop, cleared, seeded, look, blank}
 use Rattle.patch.specs.Frontier.{noEdge, waitingAfter, popOf}
 
@@ -107,3 +107,12 @@ unfoldable pub pairs : List ℕ → List ℕ → List ℕ
 pairs [] places = []
 pairs (p ∷ parents) [] = []
 pairs (p ∷ parents) (q ∷ places) = p ∷ q ∷ pairs parents places
+
+-- the first k parents, or places, in a slice that has two numbers a face
+unfoldable pub parentsIn : ℕ → List ℕ → List ℕ
+parentsIn zero slice = []
+parentsIn (suc k) slice = getD slice 0 0 ∷ parentsIn k (drop 2 slice)
+
+unfoldable pub placesIn : ℕ → List ℕ → List ℕ
+placesIn zero slice = []
+placesIn (suc k) slice = getD slice 1 0 ∷ placesIn k (drop 2 slice)
