@@ -5,6 +5,8 @@ use expect::{bits, Lent, BUDGET};
 use generate::clouds::{self, Cloud};
 use generate::{work_lengths, Case, Random};
 use oracle::Settings;
+use std::cell::RefCell;
+use std::hint::black_box;
 use std::time::Instant;
 
 const UNLIMITED: u64 = u64::MAX;
@@ -77,8 +79,8 @@ pub fn reconstruct_times(most: usize, points: &[f32], normals: &[f32], settings:
     assert!(lent.is_same(&expected), "the lent slices differ");
     let times = race(
         most,
-        || _ = std::hint::black_box(lay(points, normals, settings, UNLIMITED)),
-        || _ = std::hint::black_box(port::reconstruct(points, normals, settings, &mut lent)),
+        || _ = black_box(lay(points, normals, settings, UNLIMITED)),
+        || _ = black_box(port::reconstruct(points, normals, settings, &mut lent)),
     );
     (found.faces, times)
 }
@@ -179,31 +181,39 @@ pub fn without_area() -> bool {
     reached
 }
 
-/// Rows of `bench clouds`, the port against itself: how many times as long it takes under rule 2 as under rule 1. What it
-/// lays under rule 2 is held to the Rust over a queue first.
+/// A line of the table of the port against itself; true if the second call takes at most so many times the first's time.
+fn beside(name: &str, points: usize, faces: u32, [first, second]: [f64; 2], most: f64) -> bool {
+    let times = second / first;
+    let short = if times > most { "  short" } else { "" };
+    println!("{name:<40} {points:>6} {faces:>6} {first:>10.3} {second:>10.3} {times:>8.2} most {most}{short}");
+    short.is_empty()
+}
+
+/// Rounds of the port against itself, within the second that a row takes: a tenth or a twentieth has to show. Both calls are
+/// lent the same slices, since where these lie may cost more than that.
+const ROUNDS: usize = 3_000;
+
+/// Rows of `bench clouds`: how many times as long the port takes under rule 2 as under rule 1. What it lays under rule 2 is
+/// held to the Rust over a queue first.
 fn rules(races: &[Race]) -> bool {
-    const MOST: f64 = 1.1;
     let mut reached = true;
     for Race { name, points, settings, .. } in races {
         let normals = vec![0.0; points.len()];
         let [heap, queue] = [1, 2].map(|frontier_rule| Settings { frontier_rule, ..*settings });
         let faces = reconstruct_times(0, points, &normals, &queue).0;
-        let (mut one, mut other) = (lend(points.len() / 3), lend(points.len() / 3));
-        let times = race(
-            100,
-            || _ = std::hint::black_box(port::reconstruct(points, &normals, &heap, &mut one)),
-            || _ = std::hint::black_box(port::reconstruct(points, &normals, &queue, &mut other)),
-        );
-        let (points, part) = (points.len() / 3, times.port / times.rust);
-        let short = if part > MOST { "  short" } else { "" };
-        let name = format!("{name}, rule 1 and 2");
-        println!(
-            "{name:<40} {points:>6} {faces:>6} {:>10.3} {:>10.3} {part:>8.2} most {MOST}{short}",
-            times.rust, times.port
-        );
-        reached &= short.is_empty();
+        let lent = RefCell::new(lend(points.len() / 3));
+        let lay =
+            |settings: &Settings| _ = black_box(port::reconstruct(points, &normals, settings, &mut lent.borrow_mut()));
+        let times = race(ROUNDS, || lay(&heap), || lay(&queue));
+        let name = format!("{name}, rules 1, 2");
+        reached &= beside(&name, points.len() / 3, faces, [times.rust, times.port], 1.1);
     }
     reached
+}
+
+/// `bench rules`: those rows alone.
+pub fn rules_alone() -> bool {
+    rules(&races(&mut Random::new(1, 0)))
 }
 
 fn estimates() -> bool {
@@ -218,8 +228,8 @@ fn estimates() -> bool {
         assert!(lent.is_same(&expected), "the lent slices differ");
         let times = race(
             100,
-            || _ = std::hint::black_box(oracle::estimate(&cloud.points, 0.5, UNLIMITED)),
-            || _ = std::hint::black_box(port::estimate(&cloud.points, 0.5, &mut lent.words, &mut lent.floats)),
+            || _ = black_box(oracle::estimate(&cloud.points, 0.5, UNLIMITED)),
+            || _ = black_box(port::estimate(&cloud.points, 0.5, &mut lent.words, &mut lent.floats)),
         );
         reached &= line("estimate, bell wall", cloud.points.len() / 3, "", times, reach);
     }
