@@ -22,7 +22,7 @@
  *    6  the percentile is not within 0 to 1
  *    7  a work slice, or the index, is too short
  *    8  no triangle was found: there are fewer than three points
- *    9  the faces found don't fit the face slice
+ *    9  the faces found don't fit the face slice, or the origins' slice
  *   10  a line of the file is malformed; detail: the first such line, from 1
  *   11  all lines are well formed, but the points don't fit the slices
  *   12  the bytes are no STL file: fewer than 84, or not 84 + 50 times the count that they name
@@ -31,6 +31,7 @@
  *   15  no triangle was found: of the triples that were tried none lay close enough together to be judged, at any radius
  *   16  no triangle was found: all triples that were judged were turned down
  *   17  two of three point numbers are equal
+ *   18  a turned patch was asked for, and the plain path ran
  *   19  the tally is full: it has 100,000 patches
  *   20  a season's patch has no points, more than 4,096, more covered than scanned or more than 10,000 faces
  *   21  figures are asked of an empty tally
@@ -82,6 +83,7 @@ typedef enum {
     YB_NONE_CLOSE = 15,
     YB_ALL_TURNED_DOWN = 16,
     YB_EQUAL_NUMBERS = 17,
+    YB_TURNED_PLAIN = 18,
     YB_TALLY_FULL = 19,
     YB_SEASON_PATCH = 20,
     YB_TALLY_EMPTY = 21,
@@ -111,6 +113,7 @@ static inline const char *yb_answer_text(uint32_t answer) {
     case YB_NONE_CLOSE: return "no triangle was found: no three points lie close enough together";
     case YB_ALL_TURNED_DOWN: return "no triangle was found: all that were judged were turned down";
     case YB_EQUAL_NUMBERS: return "two of three point numbers are equal";
+    case YB_TURNED_PLAIN: return "a turned patch was asked for, and the plain path ran";
     case YB_TALLY_FULL: return "the tally has 100,000 patches";
     case YB_SEASON_PATCH: return "the patch's counts can't be entered";
     case YB_TALLY_EMPTY: return "the tally is empty";
@@ -133,6 +136,9 @@ static inline const char *yb_answer_text(uint32_t answer) {
 
 /* The length of a face slice that never gets a 9, whatever the cloud: 3 numbers a face, at most 10,000 faces. */
 #define YB_FACE_NUMBERS 30000
+
+/* The same of an origins' slice: 2 numbers a face. */
+#define YB_ORIGIN_NUMBERS 20000
 
 /* The length of an STL file of n faces. */
 #define YB_STL_BYTES(n) (84 + 50 * (size_t)(n))
@@ -392,6 +398,31 @@ YbEstimate yb_estimate_optimal_radius(const float *points, size_t points_len, fl
 YbPatch yb_reconstruct_with_normals(const float *points, size_t points_len, const float *normals, size_t normals_len,
                                     YbBallPivotingConfig settings, uint32_t *faces, size_t faces_len,
                                     uint32_t *words, size_t words_len, float *floats, size_t floats_len);
+
+/*
+ * The same, and where each face came from; turned, a patch that faces one way.
+ *
+ * origins: gets two numbers a face, both from 0: its parent's number, and the place of its radius in the list of radii
+ * that comes back, in which a radius that lays nothing counts too. A seed is its own parent; any other face's parent is
+ * the face over whose edge the ball was pivoted: it comes earlier and has the face's first two points as an edge, in
+ * this direction. Without radii each face is its own parent, at place 0. YB_ORIGIN_NUMBERS entries are always enough.
+ *
+ * turned: as a face is laid along its parent's edge in the same direction, neighbours face opposite ways. In a turned
+ * patch a seed looks out; any other face looks out when its parent looks in, and looks in when its parent looks out;
+ * those that look in have their first two points swapped. Then every edge that lies in two faces runs once each way,
+ * which is proved. Order, parents and places are the same as without.
+ *
+ * Answers 0 to 5, 7 to 9, 15, 16 and 18, which is tried last, after 9. What it leaves:
+ *   0             faces and origins at the front of their slices, the rest of these as it was; both work slices zeros
+ *   1 to 5 and 7  all four slices as they were
+ *   8, 15 and 16  both slices for faces and origins as they were; both work slices zeros
+ *   9             all four slices zeros (9 means more faces than faces_len / 3 or than origins_len / 2)
+ *   18            both slices for faces and origins as they were; both work slices zeros
+ */
+YbPatch yb_reconstruct_with_origins(const float *points, size_t points_len, const float *normals, size_t normals_len,
+                                    YbBallPivotingConfig settings, bool turned, uint32_t *faces, size_t faces_len,
+                                    uint32_t *origins, size_t origins_len, uint32_t *words, size_t words_len,
+                                    float *floats, size_t floats_len);
 
 /*
  * Reads a cloud file: a line with the radius, then a line x,y,z,nx,ny,nz for each point, each line ended by LF. A

@@ -9,7 +9,7 @@
 #define OLD 0xa5 /* every byte of a lent slice before a call */
 
 static const float triangle[3 * N] = {0, 0, 0, 1, 0, 0, 0, 1, 0};
-static uint32_t faces[6], words[YB_WORDS(N)];
+static uint32_t faces[6], origins[5], words[YB_WORDS(N)];
 static float floats[YB_FLOATS(N)];
 static int failures;
 
@@ -30,6 +30,7 @@ static bool all(const void *slice, size_t size, uint8_t byte) {
 
 static void fill(void) {
     memset(faces, OLD, sizeof faces);
+    memset(origins, OLD, sizeof origins);
     memset(words, OLD, sizeof words);
     memset(floats, OLD, sizeof floats);
 }
@@ -304,6 +305,50 @@ static void tallies(void) {
     CHECK(yb_tally_add(&t, season[0]) == 19 && yb_tally_add(&t, bad[0]) == 20 && yb_tally_figures(&t).answer == 0);
 }
 
+static YbPatch trace(Call c, bool turned, size_t origins_len) {
+    fill();
+    return yb_reconstruct_with_origins(c.points, c.points_len, c.normals, c.normals_len, c.settings, turned,
+                                       c.faces_len ? faces : NULL, c.faces_len, origins_len ? origins : NULL,
+                                       origins_len, c.words_len ? words : NULL, c.words_len,
+                                       c.floats_len ? floats : NULL, c.floats_len);
+}
+
+/* True if the number, no detail and nothing else came back. */
+static bool only(YbPatch r, uint32_t answer) {
+    const size_t rest = offsetof(YbPatch, detail);
+    return r.answer == answer && all((const char *)&r + rest, sizeof r - rest, 0);
+}
+
+/* Origins: 9 if either slice is too short, 18 after it, and what each leaves. */
+static void traced(void) {
+    for (int turned = 0; turned < 2; turned++) {
+        YbPatch r = trace(good(), turned, 5);
+        CHECK(r.answer == 0 && r.faces == 1 && faces[0] == 0 && faces[1] == 1 && faces[2] == 2 && work_is(0));
+        CHECK(origins[0] == 0 && origins[1] < r.radii_count && r.radii[origins[1]] == 1);
+        CHECK(all(faces + 3, 12, OLD) && all(origins + 2, 12, OLD));
+        for (size_t length = 0; length < 2; length++) {
+            CHECK(only(trace(good(), turned, length), 9) && work_is(0) && all(faces, sizeof faces, 0));
+            CHECK(all(origins, 4 * length, 0) && all(origins + length, sizeof origins - 4 * length, OLD));
+        }
+        Call c = good();
+        c.faces_len = 2;
+        CHECK(only(trace(c, turned, 5), 9) && work_is(0) && all(origins, sizeof origins, 0));
+        CHECK(all(faces, 8, 0) && all(faces + 2, 16, OLD));
+        c = good(), c.words_len--;
+        CHECK(only(trace(c, turned, 5), 7) && work_is(OLD) && all(faces, sizeof faces, OLD) && all(origins, 20, OLD));
+        c = good(), c.settings.min_triangle_area = 100;
+        CHECK(only(trace(c, turned, 5), 16) && work_is(0) && all(faces, sizeof faces, OLD) && all(origins, 20, OLD));
+    }
+    Call c = good();
+    c.settings.adaptive_radius = false;
+    YbPatch r = trace(c, false, 5);
+    CHECK(r.answer == 0 && r.faces == 1 && r.radii_count == 0 && origins[0] == 0 && origins[1] == 0);
+    CHECK(only(trace(c, true, 5), 18) && work_is(0) && all(faces, sizeof faces, OLD) && all(origins, 20, OLD));
+    CHECK(only(trace(c, true, 1), 9) && all(faces, sizeof faces, 0) && all(origins, 4, 0));
+    c.faces_len = 2;
+    CHECK(only(trace(c, true, 5), 9) && all(faces, 8, 0) && all(origins, 20, 0));
+}
+
 int main(void) {
     library();
     marks();
@@ -312,6 +357,7 @@ int main(void) {
     defaults();
     settings();
     face_slices();
+    traced();
     choices();
     estimates();
     files();

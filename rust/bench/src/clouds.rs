@@ -211,9 +211,44 @@ fn rules(races: &[Race]) -> bool {
     reached
 }
 
+/// Rows of `bench clouds`: how many times as long a call takes that tells where each face came from, as laid and turned.
+/// What it gives is held to the reference first.
+fn origins(races: &[Race]) -> bool {
+    let mut reached = true;
+    for (Race { name, points, settings, .. }, turned) in races.iter().flat_map(|race| [(race, false), (race, true)]) {
+        let normals = vec![0.0; points.len()];
+        let (mut lent, mut origins) = (lend(points.len() / 3), vec![u32::MAX; 20_000]);
+        let (mut expected, mut expected_origins) = (lent.clone(), origins.clone());
+        let work = [lent.words.len(), lent.floats.len()];
+        let found = expect::find(points, &normals, settings, work, UNLIMITED).expect("a run without a limit");
+        let patch = expect::origins::deliver(&found, turned, &mut expected, &mut expected_origins);
+        let got = port::reconstruct_with_origins(points, &normals, settings, turned, &mut lent, &mut origins);
+        assert_eq!((got, bits(&got.radii)), (patch, bits(&patch.radii)), "the answers differ");
+        assert!(lent.is_same(&expected) && origins == expected_origins, "the lent slices differ");
+        let lent = RefCell::new(lent);
+        let times = race(
+            ROUNDS,
+            || _ = black_box(port::reconstruct(points, &normals, settings, &mut lent.borrow_mut())),
+            || {
+                let lent = &mut lent.borrow_mut();
+                let traced = port::reconstruct_with_origins(points, &normals, settings, turned, lent, &mut origins);
+                _ = black_box(traced);
+            },
+        );
+        let name = format!("{name}, {}", if turned { "turned" } else { "origins" });
+        reached &= beside(&name, points.len() / 3, got.faces, [times.rust, times.port], 1.05);
+    }
+    reached
+}
+
 /// `bench rules`: those rows alone.
 pub fn rules_alone() -> bool {
     rules(&races(&mut Random::new(1, 0)))
+}
+
+/// `bench origins`: those rows alone.
+pub fn origins_alone() -> bool {
+    origins(&races(&mut Random::new(1, 0)))
 }
 
 fn estimates() -> bool {
@@ -276,6 +311,7 @@ pub fn bench() -> bool {
         walls.push(times.port);
     }
     reached &= rules(&races);
+    reached &= origins(&races);
     reached &= without_area();
     reached &= slow::rows(None, None);
     reached &= estimates();

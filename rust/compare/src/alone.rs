@@ -2,7 +2,7 @@
 
 use crate::report::Report;
 use crate::sides::{Mirror, Number};
-use crate::{clouds, lengths, numbers, triangles, verdicts};
+use crate::{clouds, lengths, numbers, origins, triangles, verdicts};
 use expect::{Found, BUDGET};
 use generate::{case, Case};
 use std::cell::Cell;
@@ -28,7 +28,8 @@ fn check_amended(report: &mut Report, case: &Case, found: &Found, differs: bool,
     report.check("a face without area", false, oracle::lays_no_area(&case.points, &laid), &context);
 }
 
-/// On the multi-radius path looks are 3F and pivots 2F + S; on the plain path seeds, looks and pivots are 0.
+/// On the multi-radius path looks are 3F and pivots 2F + S, parents share the pivoted edge, and turned each shared edge runs
+/// once each way; on the plain path seeds, looks and pivots are 0.
 pub fn oracle(count: u64, seed: u64, first: u64) -> Report {
     let mut report = Report::new("oracle");
     for number in first..first + count {
@@ -61,6 +62,12 @@ pub fn oracle(count: u64, seed: u64, first: u64) -> Report {
             report.note(if faces > tally.seeds { "multi-radius path with pivots" } else { "multi-radius path" });
             [3 * faces, 2 * faces + tally.seeds, tally.seeds.max(1)]
         };
+        if !laid.radii.is_empty() {
+            let context = || format!("case {number} of seed {seed}: {:?}", expect::origins::fault(&laid));
+            report.check("origins", true, expect::origins::fault(&laid).is_none(), context);
+            let turned = expect::origins::unturned(&expect::origins::faces(&laid, true));
+            report.check("turned", true, turned.is_none(), context);
+        }
         for (name, expected, got) in [
             ("looks", expected[0], tally.looks),
             ("pivots", expected[1], tally.pivots),
@@ -88,6 +95,8 @@ const PATCH_FAULTS: [&str; 13] = [
     "last work word",
     "last work float",
 ];
+const ORIGIN_FAULTS: [&str; 5] =
+    ["answer", "first face word", "last work word", "first origin word", "last origin word"];
 const ESTIMATE_FAULTS: [&str; 4] = ["answer", "radius", "last work word", "last work float"];
 const TRIANGLE_FAULTS: [&str; 4] = ["circumradius", "aspect_ratio", "quality_score", "acceptable"];
 
@@ -129,6 +138,7 @@ pub fn selftest() -> Report {
     found("", 0, &|| triangles::triangles(&Mirror::new(""), count, seed, first));
     found("", 0, &|| clouds::estimate(&Mirror::new(""), count, seed, first));
     found("", 0, &|| clouds::reconstruct(&Mirror::new(""), count, seed, first));
+    found("", 0, &|| origins::origins(&Mirror::new(""), count, seed, first));
     found("", 0, &|| lengths::lengths(&stretched(0), count, seed));
     // Another length than the machine's; and, further off, one past the bound.
     found("length", 1, &|| lengths::lengths(&stretched(1), count, seed));
@@ -147,6 +157,9 @@ pub fn selftest() -> Report {
     }
     for place in PATCH_FAULTS {
         found(place, 1, &|| clouds::reconstruct(&Mirror::new(place), count, seed, first));
+    }
+    for place in ORIGIN_FAULTS {
+        found(place, 1, &|| origins::origins(&Mirror::new(place), count / 2, seed, first));
     }
     report
 }

@@ -19,18 +19,20 @@ fn unlike<T: Same>(what: &str, expected: T, got: T) -> Option<String> {
     (!expected.same(got)).then(|| format!("{what}: expected {}, got {}", expected.show(), got.show()))
 }
 
-/// The first word that differs; a lent float is compared by its bits.
-fn unlike_slices(expected: &Lent, got: &Lent) -> Option<String> {
-    let words = |name: &str, a: &[u32], b: &[u32]| {
-        let at = (0..a.len()).find(|i| a[*i] != b[*i])?;
-        Some(format!("{name}[{at}] of {}: expected {:08x}, got {:08x}", a.len(), a[at], b[at]))
-    };
-    words("faces", &expected.faces, &got.faces)
-        .or_else(|| words("work u32", &expected.words, &got.words))
-        .or_else(|| words("work f32", &bits(&expected.floats), &bits(&got.floats)))
+/// The first word that differs.
+pub fn unlike_words(name: &str, expected: &[u32], got: &[u32]) -> Option<String> {
+    let at = (0..expected.len()).find(|i| expected[*i] != got[*i])?;
+    Some(format!("{name}[{at}] of {}: expected {:08x}, got {:08x}", expected.len(), expected[at], got[at]))
 }
 
-fn unlike_patch(expected: &Patch, got: &Patch) -> Option<String> {
+/// The same of three slices; a lent float is compared by its bits.
+pub fn unlike_slices(expected: &Lent, got: &Lent) -> Option<String> {
+    unlike_words("faces", &expected.faces, &got.faces)
+        .or_else(|| unlike_words("work u32", &expected.words, &got.words))
+        .or_else(|| unlike_words("work f32", &bits(&expected.floats), &bits(&got.floats)))
+}
+
+pub fn unlike_patch(expected: &Patch, got: &Patch) -> Option<String> {
     let whole = [
         ("answer", expected.answer, got.answer),
         ("detail", expected.detail, got.detail),
@@ -51,7 +53,7 @@ fn unlike_estimate(expected: &Estimate, got: &Estimate) -> Option<String> {
 }
 
 /// Everything that is needed to make the case again.
-fn describe(case: &Case, number: u64, seed: u64) -> String {
+pub fn describe(case: &Case, number: u64, seed: u64) -> String {
     let bits = |x: &[f32]| x.iter().map(|x| format!("{:08x}", x.to_bits())).collect::<Vec<_>>().join(" ");
     format!(
         "case {number} of seed {seed} ({}), {} coordinates, {} normal numbers, work {} and {}, slack {}, percentile {:?}\n\
@@ -68,7 +70,7 @@ fn describe(case: &Case, number: u64, seed: u64) -> String {
     )
 }
 
-fn note_answer(report: &mut Report, answer: u32) {
+pub fn note_answer(report: &mut Report, answer: u32) {
     match answer {
         0 => report.note("accepted"),
         refusal => report.note(&format!("refused {refusal}:")),
@@ -102,7 +104,7 @@ pub fn estimate(side: &dyn Side, count: u64, seed: u64, first: u64) -> Report {
 pub const AMENDED: &str = "held against the amended Rust";
 
 /// The note of patches laid under rule 2, by the published code over a queue.
-const QUEUED: &str = "laid under rule 2";
+pub const QUEUED: &str = "laid under rule 2";
 
 /// What the reconstruction gives on one case.
 struct Called {

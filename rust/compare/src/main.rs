@@ -6,6 +6,7 @@ mod alone;
 mod clouds;
 mod lengths;
 mod numbers;
+mod origins;
 mod report;
 mod shrink;
 mod sides;
@@ -23,6 +24,7 @@ const USAGE: &str = "usage:
   compare verdicts COUNT SEED [FIRST]     why a triangle was turned down, of points of generated clouds
   compare estimate COUNT SEED [FIRST]     the radius estimate on generated clouds
   compare reconstruct COUNT SEED [FIRST]  the reconstruction on generated clouds
+  compare origins COUNT SEED [FIRST]      the same with where each face came from, as laid and turned
   compare refused COUNT SEED [FIRST]      clouds without a triangle, for each of the reasons
   compare shrink NUMBER SEED              the smallest cloud left of a case on which the two differ
   compare oracle COUNT SEED [FIRST]       needs no port: what must hold of the oracle's counts, and of the amended one
@@ -44,6 +46,7 @@ fn main() {
         ("verdicts", [count, seed, first @ ..]) => verdicts::verdicts(&port::judge, *count, *seed, start(first)),
         ("estimate", [count, seed, first @ ..]) => clouds::estimate(&Linked, *count, *seed, start(first)),
         ("reconstruct", [count, seed, first @ ..]) => clouds::reconstruct(&Linked, *count, *seed, start(first)),
+        ("origins", [count, seed, first @ ..]) => origins::origins(&Linked, *count, *seed, start(first)),
         ("refused", [count, seed, first @ ..]) => clouds::refused(&Linked, *count, *seed, start(first)),
         ("oracle", [count, seed, first @ ..]) => alone::oracle(*count, *seed, start(first)),
         ("selftest", []) => alone::selftest(),

@@ -14,6 +14,7 @@ pub trait Side {
     fn acceptable(&self, quality: Quality, radius: f32, limits: &Limits) -> bool;
     fn estimate(&self, case: &Case, lent: &mut Lent) -> Estimate;
     fn reconstruct(&self, case: &Case, lent: &mut Lent) -> Patch;
+    fn origins(&self, case: &Case, turned: bool, lent: &mut Lent, origins: &mut [u32]) -> Patch;
 }
 
 /// The calls on one to three numbers.
@@ -97,6 +98,10 @@ impl Side for Linked {
 
     fn reconstruct(&self, case: &Case, lent: &mut Lent) -> Patch {
         port::reconstruct(&case.points, &case.normals, &case.settings, lent)
+    }
+
+    fn origins(&self, case: &Case, turned: bool, lent: &mut Lent, origins: &mut [u32]) -> Patch {
+        port::reconstruct_with_origins(&case.points, &case.normals, &case.settings, turned, lent, origins)
     }
 }
 
@@ -203,6 +208,26 @@ impl Side for Mirror {
         let found =
             expect::find(&case.points, &case.normals, &case.settings, work, BUDGET).expect("compared cases only");
         let mut patch = found.deliver(lent);
+        self.patch(&mut patch);
+        self.slices(lent);
+        patch
+    }
+
+    fn origins(&self, case: &Case, turned: bool, lent: &mut Lent, origins: &mut [u32]) -> Patch {
+        let work = [lent.words.len(), lent.floats.len()];
+        let found =
+            expect::find(&case.points, &case.normals, &case.settings, work, BUDGET).expect("compared cases only");
+        let mut patch = expect::origins::deliver(&found, turned, lent, origins);
+        self.patch(&mut patch);
+        self.slices(lent);
+        origins.iter_mut().last().into_iter().for_each(|x| self.word("last origin word", x));
+        origins.iter_mut().take(1).for_each(|x| self.word("first origin word", x));
+        patch
+    }
+}
+
+impl Mirror {
+    fn patch(&self, patch: &mut Patch) {
         for (place, x) in [
             ("answer", &mut patch.answer),
             ("detail", &mut patch.detail),
@@ -216,7 +241,5 @@ impl Side for Mirror {
         }
         self.float("first radius", &mut patch.radii[0]);
         self.float("last radius", &mut patch.radii[16]);
-        self.slices(lent);
-        patch
     }
 }

@@ -90,6 +90,39 @@ fn reconstructions() {
     assert!(laid > 60 && plain > 5 && refused > 20, "{laid} laid, {plain} of them plain, {refused} refused");
 }
 
+/// The same with where each face came from, as laid and turned.
+#[test]
+fn origins() {
+    let (mut turned_patches, mut plain) = (0, 0);
+    for case in cases(120) {
+        let (words, floats) = work_lengths(case.points.len() / 3);
+        let Ok(found) = expect::find(&case.points, &case.normals, &case.settings, [words, floats], BUDGET / 8) else {
+            continue;
+        };
+        let (points, normals) = (threes(&case.points), threes(&case.normals));
+        for turned in [false, true] {
+            let got = yarrowbleat::reconstruct_with_origins(&points, &normals, &config(&case.settings), turned);
+            let Found::Laid(laid) = &found else {
+                same(&found, &got.map(|traced| traced.patch), points.len());
+                continue;
+            };
+            if turned && laid.radii.is_empty() {
+                assert_eq!(got, Err(Error::TurnedPlain));
+                plain += 1;
+                continue;
+            }
+            let traced = got.expect("a patch");
+            let origins: Vec<[usize; 2]> =
+                traced.origins.iter().map(|o| [o.parent as usize, o.place as usize]).collect();
+            assert_eq!(origins, laid.origins);
+            let laid = oracle::Laid { faces: expect::origins::faces(laid, turned), ..laid.clone() };
+            same(&Found::Laid(laid), &Ok(traced.patch), points.len());
+            turned_patches += u32::from(turned);
+        }
+    }
+    assert!(turned_patches > 25 && plain > 2, "{turned_patches} turned, {plain} plain");
+}
+
 #[test]
 fn estimates() {
     let mut accepted = 0;

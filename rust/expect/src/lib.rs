@@ -1,6 +1,7 @@
 //! What a call must answer: the scope's list of refusals, in its order, over the oracle.
 
 pub mod checks;
+pub mod origins;
 pub mod verdicts;
 
 use oracle::{Error, Laid, Settings, Skip, Tried};

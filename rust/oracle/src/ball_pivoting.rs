@@ -4,7 +4,7 @@
 //! capabilities, adaptive radius selection, and improved quality metrics.
 
 use crate::parallel;
-use crate::{acosf::Acosf, tally}; // yarrowbleat: added
+use crate::{acosf::Acosf, origins, tally}; // yarrowbleat: added
 use std::cmp::Ordering;
 use {crate::frontier::BinaryHeap, std::collections::{HashMap, HashSet}}; // yarrowbleat: was|use std::collections::{BinaryHeap, HashMap, HashSet};
 use threecrate_core::{Error, NormalPoint3f, Point3f, PointCloud, Result, TriangleMesh};
@@ -401,6 +401,7 @@ impl BallPivotingReconstructor {
 
         // Process each radius scale
         for &radius in &self.adaptive_radii {
+            origins::radius(); // yarrowbleat: added
             let mut triangles = Vec::new();
             let mut frontier = BinaryHeap::new();
             let mut processed_edges = HashSet::new();
@@ -408,6 +409,7 @@ impl BallPivotingReconstructor {
             // Find seed triangle for this radius
             if let Some(seed) = self.find_seed_triangle(points, normals, radius, &used_points) {
                 tally::seed(); // yarrowbleat: added
+                origins::seed(); // yarrowbleat: added
                 triangles.push(seed);
                 used_points.insert(seed[0]);
                 used_points.insert(seed[1]);
@@ -446,6 +448,7 @@ impl BallPivotingReconstructor {
                         );
 
                         if self.is_triangle_acceptable(&quality, radius) {
+                            origins::pivot(); // yarrowbleat: added
                             triangles.push(triangle);
                             used_points.insert(triangle[2]);
 

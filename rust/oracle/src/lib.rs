@@ -10,11 +10,13 @@ pub mod acosf;
 #[rustfmt::skip]
 pub mod ball_pivoting;
 mod frontier;
+mod origins;
 mod settings;
 mod stand_ins;
 mod tally;
 
 pub use ball_pivoting::TriangleQuality;
+pub use origins::Origin;
 pub use settings::Settings;
 pub use stand_ins::*;
 pub use tally::{Skip, Tally, MAX_RANGE};
@@ -27,6 +29,8 @@ pub struct Laid {
     pub faces: Vec<[usize; 3]>,
     pub radii: Vec<f32>,
     pub tally: Tally,
+    /// An entry for each face.
+    pub origins: Vec<Origin>,
 }
 
 /// The points of a flat slice of coordinates, three to a point.
@@ -63,11 +67,18 @@ pub fn reconstruct_judged(
     let with_normal = |(position, normal): (Point3f, Point3f)| NormalPoint3f { position, normal: normal.coords };
     let cloud = PointCloud { points: points_of(points).into_iter().zip(points_of(normals)).map(with_normal).collect() };
     let mut reconstructor = BallPivotingReconstructor::new(settings.to_config());
-    let (mesh, tally) = frontier::ruled(settings.frontier_rule, || {
-        tally::run(budget, || reconstructor.reconstruct_with_normals(&cloud))
-    })?;
-    let laid = mesh.map(|mesh| Laid { faces: mesh.faces, radii: reconstructor.radii().to_vec(), tally });
-    Ok((laid, Tried { judged: tally.judged, plain: reconstructor.radii().is_empty() }))
+    let (run, origins) = frontier::ruled(settings.frontier_rule, || {
+        origins::noted(|| tally::run(budget, || reconstructor.reconstruct_with_normals(&cloud)))
+    });
+    let (mesh, tally) = run?;
+    let radii = reconstructor.radii().to_vec();
+    let tried = Tried { judged: tally.judged, plain: radii.is_empty() };
+    let laid = mesh.map(|TriangleMesh { faces, .. }| {
+        // A plain face names itself and place 0.
+        let origins = if tried.plain { (0..faces.len()).map(|face| [face, 0]).collect() } else { origins };
+        Laid { faces, radii, tally, origins }
+    });
+    Ok((laid, tried))
 }
 
 /// The same with the amended acceptance, which turns down an area of exactly zero.

@@ -51,6 +51,31 @@ pub fn reconstruct(points: &[f32], normals: &[f32], settings: &Settings, lent: &
         &mut lent.words,
         &mut lent.floats,
     );
+    patch(r)
+}
+
+/// The same with where each face came from, and turned where asked.
+pub fn reconstruct_with_origins(
+    points: &[f32],
+    normals: &[f32],
+    settings: &Settings,
+    turned: bool,
+    lent: &mut Lent,
+    origins: &mut [u32],
+) -> Patch {
+    patch(sys::reconstruct_with_origins(
+        points,
+        normals,
+        config(settings),
+        turned,
+        &mut lent.faces,
+        origins,
+        &mut lent.words,
+        &mut lent.floats,
+    ))
+}
+
+fn patch(r: sys::Patch) -> Patch {
     Patch {
         answer: r.answer,
         detail: r.detail,

@@ -22,7 +22,7 @@ pub enum Error {
     Work,
     /// 8. There are fewer than three points, so no triangle was found.
     TooFewPoints,
-    /// 9. The faces found don't fit the face slice.
+    /// 9. The faces found don't fit the face slice, or the origins' slice.
     Faces,
     /// 10. This line of the file, from 1, is malformed.
     Line(usize),
@@ -40,6 +40,8 @@ pub enum Error {
     AllTurnedDown,
     /// 17. Two of three point numbers are equal.
     EqualNumbers,
+    /// 18. A turned patch was asked for, and the plain path ran, whose faces have no parents.
+    TurnedPlain,
     /// 19. The tally has 100,000 patches.
     TallyFull,
     /// 20. A season's patch has no points, more than 4,096, more covered than scanned or more than 10,000 faces.
@@ -82,6 +84,7 @@ pub fn answer_text(answer: u32) -> &'static str {
         15 => "no triangle was found: no three points lie close enough together",
         16 => "no triangle was found: all that were judged were turned down",
         17 => "two of three point numbers are equal",
+        18 => "a turned patch was asked for, and the plain path ran",
         19 => "the tally has 100,000 patches",
         20 => "the patch's counts can't be entered",
         21 => "the tally is empty",
@@ -126,6 +129,7 @@ impl Error {
             15 => Error::NoneClose,
             16 => Error::AllTurnedDown,
             17 => Error::EqualNumbers,
+            18 => Error::TurnedPlain,
             19 => Error::TallyFull,
             20 => Error::SeasonPatch,
             21 => Error::TallyEmpty,
@@ -156,6 +160,7 @@ impl Error {
             Error::NoneClose => 15,
             Error::AllTurnedDown => 16,
             Error::EqualNumbers => 17,
+            Error::TurnedPlain => 18,
             Error::TallyFull => 19,
             Error::SeasonPatch => 20,
             Error::TallyEmpty => 21,

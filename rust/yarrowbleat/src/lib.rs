@@ -114,10 +114,82 @@ pub fn reconstruct_with_normals(
         &mut words,
         &mut floats,
     );
+    patch_of(points.len(), r, faces)
+}
+
+/// Where a face came from; both numbers from 0.
+#[derive(Clone, Copy, Debug, PartialEq, Eq)]
+#[non_exhaustive]
+pub struct Origin {
+    /// The face over whose edge the ball was pivoted: an earlier one, which has the face's first two points as an edge, in
+    /// this direction. A seed and a face of the plain path name themselves.
+    pub parent: u32,
+    /// The place of the face's radius in [`Patch::radii`]; 0 on the plain path.
+    pub place: u32,
+}
+
+/// A patch, and where each of its faces came from.
+#[derive(Clone, Debug, PartialEq)]
+#[non_exhaustive]
+pub struct TracedPatch {
+    /// The patch, turned or as it was laid.
+    pub patch: Patch,
+    /// An entry for each face.
+    pub origins: Vec<Origin>,
+}
+
+/// Lays a patch over the points, and says where each face came from.
+///
+/// As faces are laid, neighbours face opposite ways, since a new face has its parent's edge in the same direction. A turned
+/// patch faces one way: a seed looks out, any other face looks out when its parent looks in and the other way about, and
+/// those that look in have their first two points swapped; then each edge that lies in two faces runs once each way.
+/// Order, parents and places are the same. [`Error::TurnedPlain`] where the plain path ran and a turned patch was asked for.
+///
+/// ```
+/// use yarrowbleat::{reconstruct_with_origins, BallPivotingConfig};
+///
+/// // A square of four points: a seed, and a face over one of its edges.
+/// let points = [[0.0, 0.0, 0.0], [1.0, 0.0, 0.0], [0.0, 1.0, 0.0], [1.0, 1.0, 0.0]];
+/// let config = BallPivotingConfig::new(1.0);
+/// let laid = reconstruct_with_origins(&points, &points, &config, false)?;
+/// let turned = reconstruct_with_origins(&points, &points, &config, true)?;
+/// assert_eq!(laid.patch.faces, [[0, 1, 2], [1, 2, 3]]);
+/// assert_eq!(turned.patch.faces, [[0, 1, 2], [2, 1, 3]]);
+/// assert_eq!([laid.origins[0].parent, laid.origins[1].parent], [0, 0]);
+/// assert_eq!(laid.origins, turned.origins);
+/// # Ok::<(), yarrowbleat::Error>(())
+/// ```
+pub fn reconstruct_with_origins(
+    points: &[[f32; 3]],
+    normals: &[[f32; 3]],
+    config: &BallPivotingConfig,
+    turned: bool,
+) -> Result<TracedPatch, Error> {
+    let (mut words, mut floats) = work(points.len());
+    let mut faces = vec![[0; 3]; MAX_FACES];
+    let mut origins = vec![[0; 2]; MAX_FACES];
+    let r = sys::reconstruct_with_origins(
+        points.as_flattened(),
+        normals.as_flattened(),
+        config.into(),
+        turned,
+        faces.as_flattened_mut(),
+        origins.as_flattened_mut(),
+        &mut words,
+        &mut floats,
+    );
+    let patch = patch_of(points.len(), r, faces)?;
+    origins.truncate(patch.faces.len());
+    let origins = origins.into_iter().map(|[parent, place]| Origin { parent, place }).collect();
+    Ok(TracedPatch { patch, origins })
+}
+
+/// The patch that came back, whose faces stand in front.
+fn patch_of(points: usize, r: sys::Patch, mut faces: Vec<[u32; 3]>) -> Result<Patch, Error> {
     Error::check(r.answer, r.detail as usize)?;
     faces.truncate(r.faces as usize);
     let radii = r.radii[..r.radii_count as usize].to_vec();
-    Ok(Patch { points: points.len(), faces, radii, seeds: r.seeds, looks: r.looks, pivots: r.pivots })
+    Ok(Patch { points, faces, radii, seeds: r.seeds, looks: r.looks, pivots: r.pivots })
 }
 
 /// Lays a patch with the default settings but for the radius.

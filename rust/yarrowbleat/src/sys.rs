@@ -412,6 +412,22 @@ mod linked {
             floats: *mut f32,
             floats_len: usize,
         ) -> Patch;
+        pub fn yb_reconstruct_with_origins(
+            points: *const f32,
+            points_len: usize,
+            normals: *const f32,
+            normals_len: usize,
+            settings: BallPivotingConfig,
+            turned: bool,
+            faces: *mut u32,
+            faces_len: usize,
+            origins: *mut u32,
+            origins_len: usize,
+            words: *mut u32,
+            words_len: usize,
+            floats: *mut f32,
+            floats_len: usize,
+        ) -> Patch;
         pub fn yb_read_cloud(
             bytes: *const u8,
             bytes_len: usize,
@@ -616,6 +632,39 @@ pub fn reconstruct_with_normals(
             settings,
             faces.as_mut_ptr(),
             faces.len(),
+            words.as_mut_ptr(),
+            words.len(),
+            floats.as_mut_ptr(),
+            floats.len(),
+        )
+    }
+}
+
+/// The same, with a second lent slice for where each face came from, two numbers a face: its parent's number and the
+/// place of its radius; turned, a patch that faces one way.
+#[allow(clippy::too_many_arguments)]
+pub fn reconstruct_with_origins(
+    points: &[f32],
+    normals: &[f32],
+    settings: BallPivotingConfig,
+    turned: bool,
+    faces: &mut [u32],
+    origins: &mut [u32],
+    words: &mut [u32],
+    floats: &mut [f32],
+) -> Patch {
+    unsafe {
+        linked::yb_reconstruct_with_origins(
+            points.as_ptr(),
+            points.len(),
+            normals.as_ptr(),
+            normals.len(),
+            settings,
+            turned,
+            faces.as_mut_ptr(),
+            faces.len(),
+            origins.as_mut_ptr(),
+            origins.len(),
             words.as_mut_ptr(),
             words.len(),
             floats.as_mut_ptr(),

@@ -127,6 +127,29 @@ fn orders_of_popping() {
     assert_eq!([last(FrontierRule::Heap), last(FrontierRule::Queue)], [[3, 0, 4], [1, 3, 4]]);
 }
 
+/// Where each face came from, and the patch that faces one way.
+#[test]
+fn origins() {
+    let points = [[0.0, 0.0, 1.0], [1.0, 0.0, 0.0], [3.0, 0.0, 1.0], [0.0, 1.0, 1.0], [1.0, 1.0, 0.0]];
+    let config = BallPivotingConfig { additional_radii: vec![0.01], ..BallPivotingConfig::new(2.0) };
+    let config = BallPivotingConfig { adaptive_percentiles: vec![], ..config };
+    let traced = |turned| reconstruct_with_origins(&points, &points, &config, turned).unwrap();
+    let (laid, turned) = (traced(false), traced(true));
+    assert_eq!(laid.patch, reconstruct_with_normals(&points, &points, &config).unwrap());
+    assert_eq!(laid.patch.faces, [[0, 1, 2], [0, 1, 3], [3, 0, 4]]);
+    assert_eq!(turned.patch.faces, [[0, 1, 2], [1, 0, 3], [3, 0, 4]]);
+    assert_eq!(laid.origins, turned.origins);
+    // The first radius lays nothing, and counts.
+    assert_eq!(laid.patch.radii, [0.01, 2.0]);
+    let pairs: Vec<[u32; 2]> = laid.origins.iter().map(|origin| [origin.parent, origin.place]).collect();
+    assert_eq!(pairs, [[0, 1], [0, 1], [1, 1]]);
+    let plain = BallPivotingConfig { adaptive_radius: false, ..config };
+    let traced = reconstruct_with_origins(&points, &points, &plain, false).unwrap();
+    assert!((0..).zip(&traced.origins).all(|(face, origin)| (origin.parent, origin.place) == (face, 0)));
+    assert_eq!(told(reconstruct_with_origins(&points, &points, &plain, true)), (18, 0));
+    assert_eq!(told(reconstruct_with_origins(&points, &points[1..], &plain, true)), (2, 0));
+}
+
 #[test]
 fn files() {
     assert_eq!(told(read_cloud(b"")), (10, 1));
