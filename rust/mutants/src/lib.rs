@@ -12,13 +12,15 @@
 //! - `same: REASON`: why no comparison can notice it.
 
 /// The files that are changed, the published one first, and how each asks for the number of the change that is in force.
-pub const CHANGED: [(&str, &str); 6] = [
+pub const CHANGED: [(&str, &str); 8] = [
     ("rust/oracle/src/ball_pivoting.rs", "crate::mutant()"),
     ("rust/oracle/src/stand_ins.rs", "crate::mutant()"),
     ("rust/oracle/src/frontier.rs", "crate::mutant()"),
+    ("rust/oracle/src/origins.rs", "crate::mutant()"),
     ("rust/oracle/src/acosf.rs", "crate::mutant()"),
     ("rust/expect/src/checks.rs", "oracle::mutant()"),
     ("rust/expect/src/lib.rs", "oracle::mutant()"),
+    ("rust/expect/src/origins.rs", "oracle::mutant()"),
 ];
 
 /// The list.

@@ -75,6 +75,7 @@ pub const STEPS: &[Step] = &[
     Step { name: "lay cases", run: lay_cases },
     Step { name: "lay files", run: |root| compare(root, "lay_check", &["files", "300", "1"]) },
     Step { name: "stored answers", run: answers },
+    Step { name: "origins", run: |root| compare(root, "compare", &["origins", "400", "1"]) },
     Step { name: "drawn clouds", run: |root| compare(root, "compare", &["reconstruct", "2000", "1"]) },
 ];
 
