@@ -18,9 +18,10 @@ use Rattle.patch.specs.Lay.{Face, State, seedsOf}
 use Rattle.patch.specs.Shape.{touches, Shape}
 use Rattle.patch.specs.Fair.{Shaped}
 use Rattle.patch.specs.View.{flat}
-use Rattle.origins.specs.Origins.{Trace, pairs}
+use Rattle.origins.specs.Origins.{Trace, pairs, parentsIn, placesIn}
 use Rattle.origins.specs.Turned.{turned, Traced, OneWay}
 use Rattle.origins.proofs.Shapes.{turned-length, turned-inside}
+use Rattle.origins.proofs.Pairs.{parents-read, places-read}
 use Rattle.ball_pivoting.specs.Reconstruct.{Found, pointCount, radiiOf, laidOf, laid, found, reason, refused, accepted}
 use Rattle.ball_pivoting.specs.Outcome.{facesIn}
 use Rattle.ball_pivoting.specs.Unsplit.{NoTriangle}
@@ -29,9 +30,9 @@ use Rattle.ball_pivoting.proofs.Reasons.{not-zero, reason-is}
 use Rattle.ball_pivoting.proofs.Found.{found-laid, shape-of, touched-inside}
 use Rattle.ball_pivoting.proofs.Outcome.{reconstruct-early}
 use Rattle.with_origins.specs.Call.{traceIn, originsOf, facesAs, over, turnsPlain, deliveredWith, reconstructedWith, sliceAfter}
-use Rattle.with_origins.specs.Outcome.{parentsIn, placesIn, Returned, Reconstructs}
-use Rattle.with_origins.proofs.Slices.{faces-in-flat, parents-in, places-in}
-use Rattle.with_origins.proofs.Traces.{state-same, traced-so, one-way-so, places-as-parents, origins-laid}
+use Rattle.with_origins.specs.Outcome.{Returned, Reconstructs}
+use Rattle.with_origins.proofs.Slices.{faces-in-flat}
+use Rattle.with_origins.proofs.Traces.{state-same, traced-so, one-way-so, parents-as-places, origins-laid}
 use Rattle.with_origins.proofs.Delivered.{not-both, after-accepted}
 
 -- ---- an answer of 0: what was found comes back
@@ -121,8 +122,8 @@ module _ (c : BallPivotingConfig) (points : List Float) (turn : Bool) (faces ori
       let front : facesIn (p .faces) faces' ≡ cond turn (turned ps (laidOf c points .faces)) (laidOf c points .faces) =
       ap (λ (k : ℕ). facesIn k faces') (count ∙ sym (as-many turn)) ∙ ap (facesIn (length (facesAs turn c points))) stored
       ∙ faces-in-flat (facesAs turn c points) (drop (length (flat (facesAs turn c points))) faces) ∙ as-laid turn f in
-      let a : parentsIn (p .faces) origins' ≡ ps = ap (λ (k : ℕ). parentsIn k origins') parents-many ∙ ap (parentsIn (length ps)) noted ∙ parents-in ps qs (drop (length (pairs ps qs)) origins) (places-as-parents c points) in
-      let b : placesIn (p .faces) origins' ≡ qs = ap (λ (k : ℕ). placesIn k origins') parents-many ∙ ap (placesIn (length ps)) noted ∙ places-in ps qs (drop (length (pairs ps qs)) origins) (places-as-parents c points) in
+      let a : parentsIn (p .faces) origins' ≡ ps = ap (λ (k : ℕ). parentsIn k origins') parents-many ∙ ap (parentsIn (length ps)) noted ∙ parents-read ps qs (drop (length (pairs ps qs)) origins) (parents-as-places c points) in
+      let b : placesIn (p .faces) origins' ≡ qs = ap (λ (k : ℕ). placesIn k origins') parents-many ∙ ap (placesIn (length ps)) noted ∙ places-read ps qs (drop (length (pairs ps qs)) origins) (parents-as-places c points) in
       returned (pointCount points) (laidOf c points) (traceIn c points) (state-same c points) (traced-so c points) (shape-of c points) (touched-inside c points) (one-way-so c points)
       turn (facesIn (p .faces) faces') (parentsIn (p .faces) origins') (placesIn (p .faces) origins') (p .faces) (p .seeds) (p .looks) (p .pivots) front a b number
       (ap (λ (q : Patch). q .seeds) d ∙ ap (λ (g : Found). g .seeds) f)

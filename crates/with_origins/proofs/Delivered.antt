@@ -18,7 +18,8 @@ use Rattle.radii.specs.Steps.{Listed}
 use Rattle.origins.specs.Origins.{pairs}
 use Rattle.origins.specs.Pass.{originsFrom}
 use Rattle.origins.specs.Turned.{turnedFrom, turned}
-use Rattle.origins.proofs.Shapes.{turned-length, turned-congr}
+use Rattle.origins.proofs.Shapes.{turned-length}
+use Rattle.origins.proofs.Pairs.{pairs-length, turned-by}
 use Rattle.tracing.specs.Read.{facesFrom}
 use Rattle.tracing.specs.Plain.{plainOrigin, plainOrigins}
 use Rattle.words.proofs.Chunks.{chunks-length}
@@ -32,8 +33,8 @@ use Rattle.ball_pivoting.proofs.Found.{found-laid, found-plain}
 use Rattle.ball_pivoting.proofs.Delivered.{listed-slots}
 use Rattle.with_origins.specs.Call.{traceIn, originsOf, facesAs, over, turnsPlain, deliveredWith, sliceAfter}
 use Rattle.with_origins.specs.Parts.{FindsFor, acceptedBy}
-use Rattle.with_origins.proofs.Slices.{sets-front, written-fits, front-again, faces-from-written, pairs-length, parent-in}
-use Rattle.with_origins.proofs.Traces.{traced-so, pass-so, places-as-parents, origins-laid, origins-plain}
+use Rattle.with_origins.proofs.Slices.{sets-front, written-fits, front-again, faces-from-written, parent-in}
+use Rattle.with_origins.proofs.Traces.{traced-so, pass-so, parents-as-places, origins-laid, origins-plain}
 
 pub not-both : true ≡ false → ⊥
 not-both e = let z : bit true ≡ bit false = ap bit e in omega arith
@@ -223,7 +224,7 @@ module _ (turn : Bool) (c : BallPivotingConfig) (pts : List Float) (lent : List 
           noted : origins' ≡ told-list ++ drop (length told-list) origins
           noted =
               let blank : take n words ≡ replicate (pointCount pts) 0 = ap (take n) zeros ∙ take-zeros n (length words) within ∙ ap (λ (k : ℕ). replicate k 0) over-points in
-              let size : length told-list ≤ length origins = omega (arith, pairs-length (traceIn c pts .parents) (traceIn c pts .places) (places-as-parents c pts), many, origins-fit) in
+              let size : length told-list ≤ length origins = omega (arith, pairs-length (traceIn c pts .parents) (traceIn c pts .places) (parents-as-places c pts), many, origins-fit) in
               e
               ∙ ap (λ (ms : List ℕ). sets origins 0 (originsFrom ms 0 (take n words) (facesFrom slice 0 (r .faces)))) (h .finds .marks)
               ∙ ap (λ (w : List ℕ). sets origins 0 (originsFrom (marksOf c pts) 0 w (facesFrom slice 0 (r .faces)))) blank
@@ -235,11 +236,10 @@ module _ (turn : Bool) (c : BallPivotingConfig) (pts : List Float) (lent : List 
           parent i = getD (traceIn c pts .parents) i 0
 
           turned-is : turnedFrom (parentIn origins') 0 (facesFrom slice 0 (r .faces)) ≡ turned (traceIn c pts .parents) fs
-          unfolding turned
           turned-is =
               ap (turnedFrom (parentIn origins') 0) read
-              ∙ turned-congr (parentIn origins') parent 0 fs (λ i b. ap (λ (l : List ℕ). parentIn l i) noted
-              ∙ parent-in (traceIn c pts .parents) (traceIn c pts .places) (drop (length told-list) origins) i (places-as-parents c pts) (omega (arith, many)))
+              ∙ turned-by (parentIn origins') (traceIn c pts .parents) fs (λ i b. ap (λ (l : List ℕ). parentIn l i) noted
+              ∙ parent-in (traceIn c pts .parents) (traceIn c pts .places) (drop (length told-list) origins) i (parents-as-places c pts) (omega (arith, many)))
 
           by-turn : (b : Bool) → cond b (sets slice 0 (flat (turnedFrom (parentIn origins') 0 (facesFrom slice 0 (r .faces))))) slice ≡ flat (facesAs b c pts) ++ drop (length (flat (facesAs b c pts))) lent
           unfolding facesAs turned

@@ -1,19 +1,19 @@
 -- Faces and origins in front of a slice: how they are read back. Assumes nothing.
-use Prim.Native.Nat.{ℕ, zero, suc, _+_, _*_, _/_, _≤_, _<_}
+use Prim.Native.Nat.{ℕ, _+_, _*_, _/_, _≤_, _<_}
 use mathlib.Core.Path.{_≡_, refl, sym, ap, _∙_}
 use mathlib.Core.List.{List, [], _∷_, _++_, append-assoc}
 use native.Mathlib.Omega.{arith}
-use lib.ListN.{length, getD, drop, length-append}
+use lib.ListN.{length, getD, drop, length-append, List·getD-append}
 use lib.Seq.{sets, sets-eq, take-all, getD-append-add, drop-at}
 use borrow.Author.Tests.{lt-ltb}
-use Rattle.patch.specs.Lay.{Face, face}
+use Rattle.patch.specs.Lay.{Face}
 use Rattle.patch.specs.View.{flat, written}
 use Rattle.patch.proofs.View.{length-flat, length-written}
 use Rattle.origins.specs.Origins.{pairs}
+use Rattle.origins.proofs.Pairs.{pairs-length, pairs-parent}
 use Rattle.tracing.specs.Read.{faceOf, facesFrom}
 use Rattle.looks.specs.Looks.{parentIn}
 use Rattle.ball_pivoting.specs.Outcome.{facesIn}
-use Rattle.with_origins.specs.Outcome.{parentsIn, placesIn}
 
 -- ---- numbers put in front
 pub sets-front : (vs l : List ℕ) → length vs ≤ length l → sets l 0 vs ≡ vs ++ drop (length vs) l
@@ -64,39 +64,11 @@ unfolding facesIn flat
 faces-in-flat [] rest = refl
 faces-in-flat (f ∷ fs) rest = ap (λ (l : List Face). f ∷ l) (faces-in-flat fs rest)
 
--- ---- parents and places read back
-pub pairs-length : (ps qs : List ℕ) → length qs ≡ length ps → length (pairs ps qs) ≡ 2 * length ps
-unfolding pairs
-pairs-length [] qs e = refl
-pairs-length (p ∷ ps) [] e = absurd (omega arith)
-pairs-length (p ∷ ps) (q ∷ qs) e = let ih = pairs-length ps qs (omega arith) in omega arith
-
-pub parents-in : (ps qs rest : List ℕ) → length qs ≡ length ps → parentsIn (length ps) (pairs ps qs ++ rest) ≡ ps
-unfolding pairs parentsIn
-parents-in [] qs rest e = refl
-parents-in (p ∷ ps) [] rest e = absurd (omega arith)
-parents-in (p ∷ ps) (q ∷ qs) rest e = ap (λ (l : List ℕ). p ∷ l) (parents-in ps qs rest (omega arith))
-
-pub places-in : (ps qs rest : List ℕ) → length qs ≡ length ps → placesIn (length ps) (pairs ps qs ++ rest) ≡ qs
-unfolding pairs placesIn
-places-in [] [] rest e = refl
-places-in [] (q ∷ qs) rest e = absurd (omega arith)
-places-in (p ∷ ps) [] rest e = absurd (omega arith)
-places-in (p ∷ ps) (q ∷ qs) rest e = ap (λ (l : List ℕ). q ∷ l) (places-in ps qs rest (omega arith))
-
-parent-at : (ps qs rest : List ℕ) (i : ℕ) → length qs ≡ length ps → i < length ps → getD (pairs ps qs ++ rest) (2 * i) 0 ≡ getD ps i 0
-unfolding pairs
-parent-at [] qs rest i e h = absurd (omega arith)
-parent-at (p ∷ ps) [] rest i e h = absurd (omega arith)
-parent-at (p ∷ ps) (q ∷ qs) rest zero e h = refl
-parent-at (p ∷ ps) (q ∷ qs) rest (suc i) e h =
-    let two : 2 * suc i ≡ suc (suc (2 * i)) = omega arith in
-    ap (λ (k : ℕ). getD (p ∷ q ∷ (pairs ps qs ++ rest)) k 0) two ∙ parent-at ps qs rest i (omega arith) (omega arith)
-
-pub parent-in : (ps qs rest : List ℕ) (i : ℕ) → length qs ≡ length ps → i < length ps → parentIn (pairs ps qs ++ rest) i ≡ getD ps i 0
+-- ---- the parent read back
+pub parent-in : (ps qs rest : List ℕ) (i : ℕ) → length ps ≡ length qs → i < length ps → parentIn (pairs ps qs ++ rest) i ≡ getD ps i 0
 unfolding parentIn
 parent-in ps qs rest i e h =
     let l = length-append (pairs ps qs) rest in
     let m = pairs-length ps qs e in
     let there : i < length (pairs ps qs ++ rest) / 2 = omega arith in
-    rw (lt-ltb i (length (pairs ps qs ++ rest) / 2) there) (parent-at ps qs rest i e h)
+    rw (lt-ltb i (length (pairs ps qs ++ rest) / 2) there) (List·getD-append (pairs ps qs) rest 0 (2 * i) (omega arith) ∙ pairs-parent ps qs e i h)

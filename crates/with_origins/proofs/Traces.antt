@@ -45,8 +45,8 @@ module _ (c : BallPivotingConfig) (pts : List Float) where
       let rule = c .«frontier_rule» in
       places-length (searching (floatsOf (sceneOf c pts) pts) (pointCount pts)) (popOf rule) (popEntryOf rule) (popEntryOf-follows rule) (popEntryOf-keeps rule) (pointCount pts) (radiiOf c pts)
 
-  pub places-as-parents : length (traceIn c pts .places) ≡ length (traceIn c pts .parents)
-  places-as-parents = places-many ∙ sym (traced-so .long)
+  pub parents-as-places : length (traceIn c pts .parents) ≡ length (traceIn c pts .places)
+  parents-as-places = traced-so .long ∙ sym places-many
 
   -- the origins on either path
   at-laid : (rs : List Float) → (rs ≡ [] → ⊥) → originsAt c pts rs ≡ pairs (traceIn c pts .parents) (traceIn c pts .places)

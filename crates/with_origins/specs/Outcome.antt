@@ -1,9 +1,9 @@
 -- The one claim about the call with origins: its whole result, for all input. Definitions only.
-use Prim.Native.Nat.{ℕ, zero, suc, _<_}
+use Prim.Native.Nat.{ℕ, _<_}
 use mathlib.Core.Path.{_≡_}
 use mathlib.Core.Bool.{Bool, true, cond}
-use mathlib.Core.List.{List, [], _∷_}
-use lib.ListN.{length, getD, drop}
+use mathlib.Core.List.{List}
+use lib.ListN.{length}
 use lib.Ieee.{Float}
 use Rattle.numbers.specs.Rounded.{f32}
 use Rattle.settings.specs.declared.BallPivotingConfig.{BallPivotingConfig}
@@ -12,21 +12,12 @@ use Rattle.lists.specs.Lists.{any}
 use Rattle.patch.specs.Lay.{Face, State, seedsOf}
 use Rattle.patch.specs.Shape.{touches, Shape}
 use Rattle.patch.specs.View.{flat}
-use Rattle.origins.specs.Origins.{Trace}
+use Rattle.origins.specs.Origins.{Trace, parentsIn, placesIn}
 use Rattle.origins.specs.Turned.{turned, Traced, OneWay}
 use Rattle.ball_pivoting.specs.Reconstruct.{pointCount, laidOf}
 use Rattle.ball_pivoting.specs.Outcome.{passes, facesIn}
 use Rattle.ball_pivoting.specs.declared.Patch.{Patch}
 use Rattle.with_origins.specs.Call.{traceIn, originsOf, facesAs, reconstructedWith, sliceAfter}
-
--- the parents and the places of the first k faces in a slice, two numbers a face
-unfoldable pub parentsIn : ℕ → List ℕ → List ℕ
-parentsIn zero slice = []
-parentsIn (suc k) slice = getD slice 0 0 ∷ parentsIn k (drop 2 slice)
-
-unfoldable pub placesIn : ℕ → List ℕ → List ℕ
-placesIn zero slice = []
-placesIn (suc k) slice = getD slice 1 0 ∷ placesIn k (drop 2 slice)
 
 -- what comes back of the multi-radius path over n points, turned or not: the faces fs, of each its parent and the place
 -- of its radius, their number F, the number S of seeds, the looks and the pivots
