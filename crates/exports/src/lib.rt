@@ -11,6 +11,7 @@ ghost use Rattle.settings.specs.Settings.{defaults};
 ghost use Rattle.estimate.specs.Estimate.{Estimated};
 ghost use Rattle.cloud.specs.Answers.{Answered, outcome};
 ghost use Rattle.ball_pivoting.specs.Outcome.{Reconstructs};
+ghost use Rattle.with_origins.specs.Outcome.{ReconstructsWithOrigins};
 ghost use Rattle.coverage.specs.Coverage.{Marked};
 ghost use Rattle.stl_file.specs.Answers.{Wrote, Got};
 ghost use Rattle.patch_order.specs.Ordering.{OrdersPatch};
@@ -202,6 +203,33 @@ pub extern "C" fn yb_reconstruct_with_normals(
         (now (words .entry)) (now (floats .entry)) r (now (faces .exit)) (now (words .exit)) (now (floats .exit)) ⌝ }
 {
     ball_pivoting::reconstruct_with_normals(points, normals, settings, faces, words, floats)
+}
+
+#[no_mangle]
+pub extern "C" fn yb_reconstruct_with_origins(
+    points: &[f32],
+    normals: &[f32],
+    settings: BallPivotingConfig,
+    turned: bool,
+    faces: &mut [u32],
+    origins: &mut [u32],
+    words: &mut [u32],
+    floats: &mut [f32],
+) -> Patch
+    ensures { λ r. ⌜ ReconstructsWithOrigins (now (points .entry)) (now (normals .entry)) settings turned
+        (now (faces .entry)) (now (origins .entry)) (now (words .entry)) (now (floats .entry)) r (now (faces .exit))
+        (now (origins .exit)) (now (words .exit)) (now (floats .exit)) ⌝ }
+{
+    with_origins::reconstruct_with_origins(
+        points,
+        normals,
+        settings,
+        turned,
+        faces,
+        origins,
+        words,
+        floats,
+    )
 }
 
 #[no_mangle]

@@ -85,8 +85,8 @@ pub fn tell_sides(origins: &[u32], sides: &mut [u32], n: usize)
 // The first two numbers of a face that stands there change places.
 fn swap_first(faces: &mut [u32], at: usize)
     requires { ⌜ at + 1 < length (now faces) ⌝ }
-    ensures { λ _. ⌜ now (faces .exit) ≡ set (set (now (faces .entry)) at (getD (now (faces .entry)) (at + 1) 0)) (at + 1)
-        (getD (now (faces .entry)) at 0) ⌝ }
+    ensures { λ _. ⌜ now (faces .exit) ≡ set (set (now (faces .entry)) at (getD (now (faces .entry)) (at + 1) 0))
+        (at + 1) (getD (now (faces .entry)) at 0) ⌝ }
 {
     let a = faces[at];
     let b = faces[at + 1];

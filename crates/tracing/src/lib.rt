@@ -45,14 +45,15 @@ fn trace_face(words: &mut [u32], k: u32, a: u32, b: u32, c: u32) -> u32
         × (now (words .exit) ≡ broughtAfter k (now (words .entry)) (face a b c)) ⌝ }
 {
     let first = word_at(words, a);
+    let word = k + 1;
     if first == 0 {
-        put_word(words, a, k + 1);
-        put_word(words, b, k + 1);
-        put_word(words, c, k + 1);
+        put_word(words, a, word);
+        put_word(words, b, word);
+        put_word(words, c, word);
         return k;
     }
     let last = later(first, word_at(words, b));
-    put_word(words, c, k + 1);
+    put_word(words, c, word);
     last - 1
 }
 

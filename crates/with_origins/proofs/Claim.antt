@@ -30,7 +30,7 @@ use Rattle.ball_pivoting.proofs.Reasons.{not-zero, reason-is}
 use Rattle.ball_pivoting.proofs.Found.{found-laid, shape-of, touched-inside}
 use Rattle.ball_pivoting.proofs.Outcome.{reconstruct-early}
 use Rattle.with_origins.specs.Call.{traceIn, originsOf, facesAs, over, turnsPlain, deliveredWith, reconstructedWith, sliceAfter}
-use Rattle.with_origins.specs.Outcome.{Returned, Reconstructs}
+use Rattle.with_origins.specs.Outcome.{Returned, ReconstructsWithOrigins}
 use Rattle.with_origins.proofs.Slices.{faces-in-flat}
 use Rattle.with_origins.proofs.Traces.{state-same, traced-so, one-way-so, parents-as-places, origins-laid}
 use Rattle.with_origins.proofs.Delivered.{not-both, after-accepted}
@@ -132,7 +132,7 @@ module _ (c : BallPivotingConfig) (points : List Float) (turn : Bool) (faces ori
 
 -- ---- the result, turned away or taken
 module _ (points normals : List Float) (c : BallPivotingConfig) (turn : Bool) (faces origins words : List ℕ) (floats : List Float) (r : Refusal) (e : r ≡ reconstructRefusal points normals c (length words) (length floats)) where
-  pub turned-away : (p : Patch) → p ≡ refused (r .answer) (r .detail) → (r .answer ≡ 0 → ⊥) → Reconstructs points normals c turn faces origins words floats p faces origins words floats
+  pub turned-away : (p : Patch) → p ≡ refused (r .answer) (r .detail) → (r .answer ≡ 0 → ⊥) → ReconstructsWithOrigins points normals c turn faces origins words floats p faces origins words floats
   unfolding reconstructedWith swept sliceAfter refused
   turned-away p is bad =
       let early : r .answer ≤ 7 = subst (λ (q : Refusal). q .answer ≤ 7) (sym e) (reconstruct-early points normals c (length words) (length floats)) in
@@ -150,7 +150,7 @@ module _ (points normals : List Float) (c : BallPivotingConfig) (turn : Bool) (f
       → (p ≡ deliveredWith (reason c points) (found c points) (radiiOf c points) turn (length faces) (length origins))
       × (faces' ≡ sliceAfter p (flat (facesAs turn c points)) faces) × (origins' ≡ sliceAfter p (originsOf c points) origins)
       → words' ≡ replicate (length words) 0 → floats' ≡ replicate (length floats) (f32 0)
-      → Reconstructs points normals c turn faces origins words floats p faces' origins' words' floats'
+      → ReconstructsWithOrigins points normals c turn faces origins words floats p faces' origins' words' floats'
   unfolding reconstructedWith swept
   taken p faces' origins' words' floats' good d zeros zero-floats = record {
     result = rw (sym e, eq-eqb (r .answer) 0 good) (d .0);

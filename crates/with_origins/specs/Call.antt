@@ -15,13 +15,15 @@ use Rattle.decisions.specs.Decisions.{floatsOf}
 use Rattle.origins.specs.Origins.{Trace, traceOf, pairs}
 use Rattle.origins.specs.Turned.{turned}
 use Rattle.tracing.specs.Plain.{plainOrigins}
-use Rattle.ball_pivoting.specs.Reconstruct.{pointCount, sceneOf, radiiOf, Found, plainly, found, reason, refused, accepted}
+use Rattle.ball_pivoting.specs.Reconstruct.{pointCount, sceneOf, radiiOf, Found, plainly, found, reason}
+use Rattle.ball_pivoting.specs.Reconstruct.{refused, accepted}
 use Rattle.ball_pivoting.specs.declared.Patch.{Patch}
 
 -- the multi-radius path, with the record of where each face came from
 unfoldable pub traceIn : BallPivotingConfig → List Float → Trace
 traceIn c pts =
-    traceOf (searching (floatsOf (sceneOf c pts) pts) (pointCount pts)) (c .«frontier_rule») (pointCount pts) (radiiOf c pts)
+    let n = pointCount pts in
+    traceOf (searching (floatsOf (sceneOf c pts) pts) n) (c .«frontier_rule») n (radiiOf c pts)
 
 -- parent and place of each face found, two numbers a face; a plain face names itself and place 0
 unfoldable pub originsAt : BallPivotingConfig → List Float → List Float → List ℕ

@@ -43,11 +43,12 @@ pub record Returned
   pub one-way : turn ≡ true → OneWay fs (s .seedFlags) F S looks pivots
 
 -- `faces`, `origins`, `words` and `floats` are the lent slices before the call, those with a mark after it
-pub record Reconstructs
+pub record ReconstructsWithOrigins
     (points normals : List Float) (c : BallPivotingConfig) (turn : Bool) (faces origins words : List ℕ)
     (floats : List Float) (p : Patch) (faces' origins' words' : List ℕ) (floats' : List Float) : Type 0 where
   -- the answer, detail, counts and radii are the definition's
-  pub result : p ≡ reconstructedWith points normals c turn (length faces) (length origins) (length words) (length floats)
+  pub result :
+      p ≡ reconstructedWith points normals c turn (length faces) (length origins) (length words) (length floats)
   -- and so is every lent slice
   pub faces-after : faces' ≡ sliceAfter p (flat (facesAs turn c points)) faces
   pub origins-after : origins' ≡ sliceAfter p (originsOf c points) origins

@@ -13,10 +13,11 @@ use Rattle.ball_pivoting.specs.declared.Finding.{Finding}
 use Rattle.ball_pivoting.specs.declared.Patch.{Patch}
 use Rattle.with_origins.specs.Call.{turnsPlain, originsOf, facesAs, deliveredWith, sliceAfter}
 
--- what is found before it is known whether it fits: the code's account r of it, with whatever slice it was written into;
--- plain faces that were to be turned are not written
+-- what is found before it is known whether it fits: the code's account r of it, with whatever slice it was written
+-- into; plain faces that were to be turned are not written
 pub record FindsFor
-    (turn : Bool) (c : BallPivotingConfig) (pts : List Float) (lent : List ℕ) (r : Finding) (slice : List ℕ) : Type 0 where
+    (turn : Bool) (c : BallPivotingConfig) (pts : List Float) (lent : List ℕ) (r : Finding) (slice : List ℕ)
+    : Type 0 where
   pub room : List ℕ
   pub back : List ℕ
   pub finds : Finds (reason c pts) (found c pts) (radiiOf c pts) (marksOf c pts) room r back

@@ -20,7 +20,7 @@ ghost use Rattle.looks.specs.Looks.{parentIn};
 ghost use Rattle.ball_pivoting.specs.Reconstruct.{pointCount, plainly, reasonBy};
 ghost use Rattle.ball_pivoting.specs.Parts.{Ready, Finds};
 ghost use Rattle.with_origins.specs.Call.{over};
-ghost use Rattle.with_origins.specs.Outcome.{Reconstructs};
+ghost use Rattle.with_origins.specs.Outcome.{ReconstructsWithOrigins};
 ghost use Rattle.with_origins.specs.Parts.{FindsFor, acceptedBy, Held, Delivers};
 
 // How many plain faces there are: the path runs over a slice without room, and none is written.
@@ -171,9 +171,9 @@ pub fn reconstruct_with_origins(
     words: &mut [u32],
     floats: &mut [f32],
 ) -> Patch
-    ensures { λ r. ⌜ Reconstructs (now (points .entry)) (now (normals .entry)) settings turned (now (faces .entry))
-        (now (origins .entry)) (now (words .entry)) (now (floats .entry)) r (now (faces .exit)) (now (origins .exit))
-        (now (words .exit)) (now (floats .exit)) ⌝ }
+    ensures { λ r. ⌜ ReconstructsWithOrigins (now (points .entry)) (now (normals .entry)) settings turned
+        (now (faces .entry)) (now (origins .entry)) (now (words .entry)) (now (floats .entry)) r (now (faces .exit))
+        (now (origins .exit)) (now (words .exit)) (now (floats .exit)) ⌝ }
 {
     let refusal = domain::refusal_of_reconstruct(
         points,

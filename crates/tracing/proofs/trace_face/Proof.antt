@@ -8,20 +8,14 @@ use Rattle.tracing.proofs.trace_face.Tie as tie
 word-at-requires : tie.Need-word-at-requires
 word-at-requires c κs = search needs
 
-add-put-word : tie.Need-add-put-word
-add-put-word c = search needs
+add-word : tie.Need-add-word
+add-word c = search needs
 
 put-word-requires : tie.Need-put-word-requires
 put-word-requires c κs = search needs
 
-add-put-word-2 : tie.Need-add-put-word-2
-add-put-word-2 c = search needs
-
 put-word-requires-2 : tie.Need-put-word-requires-2
 put-word-requires-2 c κs = search needs
-
-add-put-word-3 : tie.Need-add-put-word-3
-add-put-word-3 c = search needs
 
 put-word-requires-3 : tie.Need-put-word-requires-3
 put-word-requires-3 c κs = search needs
@@ -37,9 +31,6 @@ word-at-requires-2 c κs = search needs
 
 later-requires : tie.Need-later-requires
 later-requires c κs = search needs
-
-add-put-word-4 : tie.Need-add-put-word-4
-add-put-word-4 c = search needs
 
 put-word-requires-4 : tie.Need-put-word-requires-4
 put-word-requires-4 c κs = search needs
@@ -58,17 +49,14 @@ trace-face-spec =
     tie.close
     (tie.spec
     word-at-requires
-    add-put-word
+    add-word
     put-word-requires
-    add-put-word-2
     put-word-requires-2
-    add-put-word-3
     put-word-requires-3
     same-length
     returns
     word-at-requires-2
     later-requires
-    add-put-word-4
     put-word-requires-4
     sub-result
     same-length-2
