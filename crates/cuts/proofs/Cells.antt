@@ -20,7 +20,7 @@ use Rattle.numbers.proofs.OrderLaws.{unsigned-le, le-trans, le-top, le-left}
 use Rattle.numbers.proofs.SumOrder.{sub-nonnegative}
 use Rattle.numbers.proofs.QuotientOrder.{div-monotone, div-unsigned, div-antitone}
 use Rattle.numbers.proofs.CutOrder.{cut-monotone}
-use Rattle.numbers.proofs.CutTypes.{signed-cut, ceil-unsigned, ceil-most}
+use Rattle.cutting.proofs.CutTypes.{signed-cut, ceil-unsigned, ceil-most}
 use Rattle.numbers.proofs.Bounded.{bounded-finite, sub-bounded}
 use Rattle.ranges.specs.Range.{inside, farthest}
 use Rattle.lists.proofs.Bools.{and-both}

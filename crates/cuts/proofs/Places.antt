@@ -9,7 +9,7 @@ use lib.Dec.{T, eqb}
 use lib.ListN.{length}
 use lib.Ieee.{Float, inf, lt, le}
 use Rattle.numbers.specs.Rounded.{f32, _⊗_}
-use Rattle.numbers.proofs.CutTypes.{usize-cut}
+use Rattle.cutting.proofs.CutTypes.{usize-cut}
 use Rattle.points.specs.Points.{stepsFrom}
 use Rattle.sorting.specs.Sorted.{insert, insertAll, sorted, whole}
 use Rattle.sorting.proofs.Insertion.{insert-length}

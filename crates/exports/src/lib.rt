@@ -64,21 +64,21 @@ pub extern "C" fn yb_sqrt(x: f32) -> f32
 pub extern "C" fn yb_acos(v: f32) -> f32
     ensures { λ r. ⌜ r ≡ acos v ⌝ }
 {
-    numbers::acos(v)
+    arc_cosine::acos(v)
 }
 
 #[no_mangle]
 pub extern "C" fn yb_cut(x: f32) -> u32
     ensures { λ r. ⌜ r ≡ cut x ⌝ }
 {
-    numbers::cut(x)
+    cutting::cut(x)
 }
 
 #[no_mangle]
 pub extern "C" fn yb_ceil_cut(x: f32) -> u32
     ensures { λ r. ⌜ r ≡ cut (ceil x) ⌝ }
 {
-    numbers::ceil_cut(x)
+    cutting::ceil_cut(x)
 }
 
 #[no_mangle]

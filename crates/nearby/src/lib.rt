@@ -69,7 +69,7 @@ pub fn filter_of(s: Scene, center: Point3f, place: Point3f, radius: f32) -> Filt
 {
     let limit = bounds::square_limit(radius);
     let cell = grid::cell_of(s.grid, place);
-    let range = numbers::ceil_cut(radius / s.grid.cell_size);
+    let range = cutting::ceil_cut(radius / s.grid.cell_size);
     Filter {
         center: center,
         limit: limit,

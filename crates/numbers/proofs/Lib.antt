@@ -18,7 +18,4 @@ pub mod AtLeastOne
 pub mod CutOrder
 pub mod RootExamples
 pub mod Compare
-pub mod FieldCases
-pub mod Cuts
-pub mod CutTypes
 pub mod AcosExamples

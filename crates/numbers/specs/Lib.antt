@@ -4,6 +4,5 @@ pub mod Root
 pub mod Nearest
 pub mod Order
 pub mod Cut
-pub mod CutFields
 pub mod Acos
 pub mod Bounds

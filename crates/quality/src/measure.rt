@@ -10,7 +10,7 @@ ghost use Rattle.quality.specs.Shape.{shape, flat};
 fn angle(a: f32, b: f32, c: f32) -> f32
     ensures { λ r. ⌜ r ≡ angle a b c ⌝ }
 {
-    numbers::acos(numbers::clamp((b * b + c * c - a * a) / (2.0 * b * c), -1.0, 1.0))
+    arc_cosine::acos(numbers::clamp((b * b + c * c - a * a) / (2.0 * b * c), -1.0, 1.0))
 }
 
 fn least(a: f32, b: f32, c: f32) -> f32

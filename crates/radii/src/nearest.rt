@@ -31,7 +31,7 @@ fn around_of(config: BallPivotingConfig, grid: SpatialGrid, place: Point3f) -> A
     let cell = grid::cell_of(grid, place);
     Around {
         indexed: config.use_spatial_index,
-        range: numbers::ceil_cut(config.radius * 3.0 / grid.cell_size),
+        range: cutting::ceil_cut(config.radius * 3.0 / grid.cell_size),
         cell: cell,
     }
 }

@@ -48,7 +48,7 @@ pub fn side_for(n: usize) -> usize
 fn slot(scale: f32, least: f32, v: f32) -> u32
     ensures { λ r. ⌜ r ≡ slot scale least v ⌝ }
 {
-    numbers::cut((v - least) * scale)
+    cutting::cut((v - least) * scale)
 }
 
 // What is left of that number when it is divided by the side.

@@ -1,0 +1,4 @@
+-- The laws that the proofs cite, leaves first.
+pub mod FieldCases
+pub mod Cuts
+pub mod CutTypes
