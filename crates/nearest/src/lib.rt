@@ -14,8 +14,8 @@ ghost use Rattle.nearest.specs.Scan.{lengthTo};
 ghost use Rattle.nearest.specs.Parts.{closer, scanned, nearOf, Limited, Keeps};
 ghost use Rattle.nearest.specs.Boxes.{wordAt, clampTo, reachOf, boxesBelow, Six, Known, Ready};
 
-// The nearest point so far, by its square. A square above the limit has a root above this one's, so that few points need
-// a root.
+// The nearest point so far, by its square. A square above the limit has a root above this one's, so that few points
+// need a root.
 pub struct Best {
     pub square: f32,
     pub number: u32,

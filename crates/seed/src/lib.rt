@@ -93,8 +93,8 @@ fn is_growing(s: Scene, radius: f32) -> bool
     is_number(radius)
 }
 
-// What is noted where a larger radius was asked in vain after a search at this one: a number below 0, which tells nothing
-// of any radius.
+// What is noted where a larger radius was asked in vain after a search at this one: a number below 0, which tells
+// nothing of any radius.
 fn in_vain(radius: f32) -> f32
     ensures { λ r. ⌜ Silent r ⌝ }
 {
@@ -140,9 +140,9 @@ fn ask_at(
     in_vain(radius)
 }
 
-// A radius up to which none has a seed, after one that was known or searched; not a number, or a note below 0, where none
-// is known. After a search in vain the largest radius is asked, with what that search has left to pay with: what is
-// accepted at a radius is accepted at every larger one.
+// A radius up to which none has a seed, after one that was known or searched; not a number, or a note below 0, where
+// none is known. After a search in vain the largest radius is asked, with what that search has left to pay with: what
+// is accepted at a radius is accepted at every larger one.
 pub fn known_to(
     s: Scene,
     points: &[f32],
