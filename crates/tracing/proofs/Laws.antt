@@ -1,22 +1,20 @@
 -- The pass, one face after the other: what each leaves, and that what is left leads to the whole. Assumes nothing.
-use mathlib.Core.Path.{_≡_, refl, sym, ap, _∙_, subst}
+use mathlib.Core.Path.{_≡_, refl, sym, ap, _∙_}
 use mathlib.Core.Bool.{not}
 use mathlib.Core.List.{List, [], _∷_, _++_, append-nil, append-assoc}
 use Prim.Native.Nat.{ℕ, zero, suc, _+_, _-_, _*_, _≤_, _<_, max}
 use native.Mathlib.Omega.{arith}
 use native.Mathlib.Numerals.{add-one}
-use lib.Dec.{eqb, ltb}
+use lib.Dec.{ltb}
 use lib.ListN.{length, getD, set, take, length-append}
 use lib.Seq.{sets, take-suc}
 use borrow.Author.Tests.{eq-eqb, ne-eqb, lt-ltb, le-ltb}
 use Rattle.lists.specs.Lists.{bit, count}
 use Rattle.lists.proofs.Counts.{count-append}
-use Rattle.patch.specs.Lay.{Face, face}
+use Rattle.patch.specs.Lay.{face}
 use Rattle.origins.specs.Pass.{parentAt, broughtAfter, placeOf, originsFrom}
-use Rattle.words.specs.Chunks.{chunks}
 use Rattle.words.proofs.Laws.{sets-then}
 use Rattle.tracing.specs.Read.{faceOf, facesFrom}
-use Rattle.tracing.specs.Plain.{plainOrigin, plainOrigins}
 
 -- ---- a face
 module _ (k a b c first : ℕ) (w : List ℕ) (is : first ≡ getD w a 0) where

@@ -1,8 +1,8 @@
 -- Of what comes back of the multi-radius path holds the one claim, turned or not. Assumes nothing.
-use Prim.Native.Nat.{ℕ, _*_, _/_, _≤_, _<_}
+use Prim.Native.Nat.{ℕ, _≤_, _<_}
 use mathlib.Core.Path.{_≡_, refl, sym, ap, _∙_, subst}
 use mathlib.Core.Bool.{Bool, true, false, cond}
-use mathlib.Core.List.{List, [], _∷_, _++_}
+use mathlib.Core.List.{List, [], _++_}
 use native.Mathlib.Omega.{arith}
 use lib.Dec.{eqb}
 use lib.ListN.{length, getD, drop, replicate}
@@ -15,7 +15,7 @@ use Rattle.settings.specs.declared.BallPivotingConfig.{BallPivotingConfig}
 use Rattle.clearing.specs.Swept.{swept}
 use Rattle.lists.specs.Lists.{any}
 use Rattle.patch.specs.Lay.{Face, State, seedsOf}
-use Rattle.patch.specs.Shape.{touches, Shape}
+use Rattle.patch.specs.Shape.{touches}
 use Rattle.patch.specs.Fair.{Shaped}
 use Rattle.patch.specs.View.{flat}
 use Rattle.origins.specs.Origins.{Trace, pairs, parentsIn, placesIn}

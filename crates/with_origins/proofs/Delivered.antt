@@ -1,20 +1,19 @@
 -- Whatever was found comes back as the definition says: nothing, too much, a plain patch that was to be turned, or the faces with their origins. Assumes nothing.
-use Prim.Native.Nat.{ℕ, zero, suc, _+_, _*_, _/_, _≤_, _<_}
-use mathlib.Core.Path.{_≡_, refl, sym, ap, _∙_, subst}
-use mathlib.Core.Bool.{Bool, true, false, cond, _&&_, _||_}
+use Prim.Native.Nat.{ℕ, zero, suc, _*_, _/_, _≤_}
+use mathlib.Core.Path.{_≡_, refl, sym, ap, _∙_}
+use mathlib.Core.Bool.{Bool, true, false, cond, _||_}
 use mathlib.Core.List.{List, [], _∷_, _++_}
 use native.Mathlib.Omega.{arith}
-use lib.Dec.{eqb, ltb}
+use lib.Dec.{ltb}
 use lib.ListN.{length, getD, take, drop, replicate}
 use lib.Seq.{sets}
 use lib.Ieee.{Float}
-use borrow.Author.Tests.{eq-eqb, ne-eqb, ltb-false, eqb-false}
+use borrow.Author.Tests.{eq-eqb, ne-eqb, ltb-false}
 use Rattle.settings.specs.declared.BallPivotingConfig.{BallPivotingConfig}
 use Rattle.lists.specs.Lists.{bit}
 use Rattle.patch.specs.Lay.{Face}
 use Rattle.patch.specs.View.{flat, written}
-use Rattle.patch.proofs.View.{length-flat, length-written, written-none}
-use Rattle.radii.specs.Steps.{Listed}
+use Rattle.patch.proofs.View.{length-written, written-none}
 use Rattle.origins.specs.Origins.{pairs}
 use Rattle.origins.specs.Pass.{originsFrom}
 use Rattle.origins.specs.Turned.{turnedFrom, turned}
@@ -24,8 +23,8 @@ use Rattle.tracing.specs.Read.{facesFrom}
 use Rattle.tracing.specs.Plain.{plainOrigin, plainOrigins}
 use Rattle.words.proofs.Chunks.{chunks-length}
 use Rattle.looks.specs.Looks.{parentIn}
-use Rattle.ball_pivoting.specs.Reconstruct.{Found, pointCount, radiiOf, laidOf, laid, plainly, foundAt, found, reason, refused, accepted}
-use Rattle.ball_pivoting.specs.Parts.{marksOf, Finds}
+use Rattle.ball_pivoting.specs.Reconstruct.{Found, pointCount, radiiOf, laidOf, laid, found, reason, refused, accepted}
+use Rattle.ball_pivoting.specs.Parts.{marksOf}
 use Rattle.ball_pivoting.specs.declared.Finding.{Finding}
 use Rattle.ball_pivoting.specs.declared.Patch.{Patch}
 use Rattle.ball_pivoting.proofs.Reasons.{not-zero, not-nine, reason-is}

@@ -1,15 +1,13 @@
 -- What is found, on whichever path, by whatever slice it was written into. Assumes nothing.
-use Prim.Native.Nat.{ℕ, _+_, _*_, _≤_, _<_}
+use Prim.Native.Nat.{ℕ, _≤_, _<_}
 use mathlib.Core.Path.{_≡_, refl, sym, ap, _∙_}
-use mathlib.Core.Bool.{Bool, true, false, cond, _&&_}
+use mathlib.Core.Bool.{Bool, true, false}
 use mathlib.Core.List.{List, [], _∷_, _++_}
 use native.Mathlib.Omega.{arith}
-use lib.Dec.{eqb}
 use lib.ListN.{length, replicate, length-replicate}
 use lib.Ieee.{Float}
 use borrow.Author.Tests.{eq-eqb, ne-eqb}
 use Rattle.settings.specs.declared.BallPivotingConfig.{BallPivotingConfig}
-use Rattle.patch.specs.View.{written}
 use Rattle.patch.proofs.View.{length-written}
 use Rattle.radii.specs.Steps.{Listed}
 use Rattle.radii.specs.declared.Radii.{Radii}

@@ -1,16 +1,16 @@
 -- What the pass writes over the laid faces is what the laying noted. Assumes nothing.
-use Prim.Native.Nat.{ℕ, _≤_, _<_}
+
 use mathlib.Core.Path.{_≡_, refl, sym, ap, _∙_}
 use mathlib.Core.List.{List, [], _∷_}
 use lib.ListN.{length, replicate}
 use lib.Ieee.{Float}
 use Rattle.settings.specs.declared.BallPivotingConfig.{BallPivotingConfig}
-use Rattle.patch.specs.Lay.{State, seedsOf}
+use Rattle.patch.specs.Lay.{seedsOf}
 use Rattle.patch.specs.Search.{searching}
 use Rattle.patch.specs.Frontier.{popOf}
 use Rattle.decisions.specs.Decisions.{floatsOf}
 use Rattle.decisions.proofs.Within.{within}
-use Rattle.origins.specs.Origins.{Trace, popEntryOf, pairs}
+use Rattle.origins.specs.Origins.{popEntryOf, pairs}
 use Rattle.origins.specs.Turned.{turned, Traced, OneWay}
 use Rattle.origins.specs.Pass.{originsFrom}
 use Rattle.origins.proofs.Tracing.{popEntryOf-follows, popEntryOf-keeps}

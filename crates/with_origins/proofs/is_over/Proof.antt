@@ -1,7 +1,6 @@
 -- One slice or the other is too short. Assumes nothing.
 use Prim.Native.Nat.{_/_}
 use borrow.Author.Tests.{lt-ltb, le-ltb}
-use borrow.Author.Needs.{needs}
 use Rattle.with_origins.proofs.is_over.Statement.{statement}
 use Rattle.with_origins.proofs.is_over.Tie as tie
 

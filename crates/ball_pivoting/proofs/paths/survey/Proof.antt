@@ -1,5 +1,5 @@
 -- The points indexed and hashed, and the radii. Assumes nothing.
-use native.Mathlib.Omega.{arith}
+
 use Rattle.laying.proofs.Kept.{all-searchable-searched}
 use Rattle.ball_pivoting.proofs.Found.{radii-ready, listed-at}
 use borrow.Author.Needs.{needs}
