@@ -8,8 +8,9 @@ use lib.Ieee.{Float, binary32, lt, le, ofBits, nanBits}
 use lib.Ieee.Scale.{finite}
 use lib.ListN.{length, getD, take, drop}
 use Rattle.lists.specs.Members.{In}
+use Rattle.numbers.specs.Rounded.{_⊖_, f32}
 use Rattle.numbers.specs.Root.{root}
-use Rattle.vector.specs.Vector.{Finite, point, squared}
+use Rattle.vector.specs.Vector.{Finite, point, magnitudeSquared}
 use Rattle.vector.specs.declared.Point3f.{Point3f}
 use Rattle.points.specs.Points.{pointAt}
 use Rattle.nearest.specs.declared.Best.{Best}
@@ -19,20 +20,24 @@ use Rattle.nearest.specs.Parts.{Length, Limited}
 abbrev pub wordAt : List ℕ → ℕ → Float
 wordAt words k = ofBits binary32 (getD words k 0)
 
--- the nearest number to v between lo and hi
-unfoldable pub clampTo : Float → Float → Float → Float
-clampTo v lo hi = cond (lt v lo) lo (cond (lt hi v) hi v)
+unfoldable pub greater : Float → Float → Float
+greater a b = cond (lt a b) b a
 
--- the place nearest to the spot in the box that stands at a word: three least coordinates, then three greatest
-abbrev pub clamped : List ℕ → ℕ → Point3f → Point3f
-clamped words at spot =
-    point (clampTo (spot .x) (wordAt words at) (wordAt words (at + 3)))
-    (clampTo (spot .y) (wordAt words (at + 1)) (wordAt words (at + 4)))
-    (clampTo (spot .z) (wordAt words (at + 2)) (wordAt words (at + 5)))
+-- how far v is outside of lo to hi, 0 within
+unfoldable pub gap : Float → Float → Float → Float
+unfolding greater
+gap v lo hi = greater (greater (lo ⊖ v) (v ⊖ hi)) (f32 0)
+
+-- how far the spot is, on each axis, outside of the box at a word: three least coordinates, then three greatest
+abbrev pub gaps : List ℕ → ℕ → Point3f → Point3f
+gaps words at spot =
+    point (gap (spot .x) (wordAt words at) (wordAt words (at + 3)))
+    (gap (spot .y) (wordAt words (at + 1)) (wordAt words (at + 4)))
+    (gap (spot .z) (wordAt words (at + 2)) (wordAt words (at + 5)))
 
 -- how far the box is from the spot, squared
 unfoldable pub reachOf : List ℕ → ℕ → Point3f → Float
-reachOf words at spot = squared (clamped words at spot) spot
+reachOf words at spot = magnitudeSquared (gaps words at spot)
 
 -- a number between two, all three finite
 pub record Between (lo hi v : Float) : Type 0 where

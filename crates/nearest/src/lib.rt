@@ -12,7 +12,7 @@ ghost use Rattle.bounds.specs.Within.{Limit};
 ghost use Rattle.vector.specs.Vector.{distance};
 ghost use Rattle.nearest.specs.Scan.{lengthTo};
 ghost use Rattle.nearest.specs.Parts.{closer, scanned, nearOf, Limited, Keeps};
-ghost use Rattle.nearest.specs.Boxes.{wordAt, clampTo, reachOf, boxesBelow, Six, Known, Ready};
+ghost use Rattle.nearest.specs.Boxes.{wordAt, greater, gap, reachOf, boxesBelow, Six, Known, Ready};
 
 // The nearest point so far, by its square. A square above the limit has a root above this one's, so that few points
 // need a root.
@@ -22,15 +22,24 @@ pub struct Best {
     pub limit: f32,
 }
 
-// A number such that each square above it has a root above the given square's. Where no rounding comes near to a part
-// in a million it is that much more; elsewhere it is a guess, which is tested.
+fn greater(a: f32, b: f32) -> f32
+    ensures { λ r. ⌜ r ≡ greater a b ⌝ }
+{
+    if a < b {
+        return b;
+    }
+    a
+}
+
+// A number such that each square above it has a root above the given square's. No rounding comes near to a part in a
+// million, but where numbers are very small or large; there it is more, or a guess, which is tested.
 pub fn limit_of(square: f32) -> f32
     requires { ⌜ T (fits binary32 square) ⌝ }
     ensures { λ t. ⌜ Limit (root square) t ⌝ }
 {
-    if 7.888609e-31 <= square {
+    if 0.0 <= square {
         if square <= 1.2676506e30 {
-            return square * 1.000001;
+            return greater(square, 7.888609e-31) * 1.000001;
         }
     }
     bounds::square_limit(numbers::sqrt(square))
@@ -93,16 +102,11 @@ fn scan(points: &[f32], spot: Point3f, order: &[u32], best: Best) -> Best
     found
 }
 
-fn clamp_to(v: f32, lo: f32, hi: f32) -> f32
-    ensures { λ r. ⌜ r ≡ clampTo v lo hi ⌝ }
+// How far v is outside of lo to hi, 0 within.
+fn gap(v: f32, lo: f32, hi: f32) -> f32
+    ensures { λ r. ⌜ r ≡ gap v lo hi ⌝ }
 {
-    if v < lo {
-        return lo;
-    }
-    if hi < v {
-        return hi;
-    }
-    v
+    greater(greater(lo - v, v - hi), 0.0)
 }
 
 // The coordinate whose bits a word has.
@@ -118,10 +122,10 @@ pub fn reach(words: &[u32], at: usize, spot: Point3f) -> f32
     requires { ⌜ Six (now words) at ⌝ }
     ensures { λ r. ⌜ r ≡ reachOf (now (words .entry)) at spot ⌝ }
 {
-    let x = clamp_to(spot.x, word_at(words, at), word_at(words, at + 3));
-    let y = clamp_to(spot.y, word_at(words, at + 1), word_at(words, at + 4));
-    let z = clamp_to(spot.z, word_at(words, at + 2), word_at(words, at + 5));
-    vector::distance_squared(vector::point(x, y, z), spot)
+    let x = gap(spot.x, word_at(words, at), word_at(words, at + 3));
+    let y = gap(spot.y, word_at(words, at + 1), word_at(words, at + 4));
+    let z = gap(spot.z, word_at(words, at + 2), word_at(words, at + 5));
+    vector::magnitude_squared(vector::point(x, y, z))
 }
 
 // How many boxes a part of n points has.
@@ -168,9 +172,15 @@ pub fn search(
     let b = reach(words, second, spot);
     if b < a {
         let later = search(points, spot, words, second, below, b, &order[half..], best);
+        if later.limit < a {
+            return later;
+        }
         return search(points, spot, words, first, below, a, &order[..half], later);
     }
     let earlier = search(points, spot, words, first, below, a, &order[..half], best);
+    if earlier.limit < b {
+        return earlier;
+    }
     search(
         points,
         spot,

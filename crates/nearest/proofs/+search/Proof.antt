@@ -193,6 +193,18 @@ search-search-requires : (t : ℕ) → search-lts.Need-search-requires (
 ) (search-at t) search′.Post
 search-search-requires t c κs = let o = c .before .before .before .before .before .before .before .before .before .before .before .args .order .now in let r = c .before .before .before .before .before .before .before .before .before .before .before .pre .1 in let n : 8 < length o = c .before .before .before .before .before .if2 .left in (omega (arith, c .before .before .before .before .before .before .before .before .before .before .before .pre .0, second-size o (length o / 2)), second-ready r (r .best-length) (r .best-limit) n (c .before .before .before .before .boxes-below .ensures) (c .before .before .reach2 .ensures))
 
+search-returns-3 : (t : ℕ) → search-lts.Need-returns-3 (
+  scan-reads.Asked,
+  scan-reads.Learnt,
+  boxes-below-reads.Asked,
+  boxes-below-reads.Learnt,
+  reach-reads.Asked,
+  reach-reads.Learnt,
+  search-below t,
+  search′.Post,
+) (search-at t) search′.Post
+search-returns-3 t c = let o = c .before .before .before .before .before .before .before .before .before .before .before .before .before .before .args .order .now in let r = c .before .before .before .before .before .before .before .before .before .before .before .before .before .before .pre .1 in let n : 8 < length o = c .before .before .before .before .before .before .before .before .if2 .left in turned r (c .before .before .search .ensures) (left-out (first-ready r (second-length r (c .before .before .search .ensures)) (c .before .before .search .ensures .limited) n (c .before .before .before .before .before .before .reach .ensures)) (c .if4 .taken))
+
 search-slice-aggregate-search : (t : ℕ) → search-lts.Need-slice-aggregate-search (
   scan-reads.Asked,
   scan-reads.Learnt,
@@ -203,7 +215,7 @@ search-slice-aggregate-search : (t : ℕ) → search-lts.Need-slice-aggregate-se
   search-below t,
   search′.Post,
 ) (search-at t) search′.Post
-search-slice-aggregate-search t c = let o = c .before .before .before .before .before .before .before .before .before .before .before .before .before .args .order .now in sym (length-take-le (length o / 2) o (omega arith))
+search-slice-aggregate-search t c = let o = c .before .before .before .before .before .before .before .before .before .before .before .before .before .before .before .args .order .now in sym (length-take-le (length o / 2) o (omega arith))
 
 search-search-requires-2 : (t : ℕ) → search-lts.Need-search-requires-2 (
   scan-reads.Asked,
@@ -215,9 +227,9 @@ search-search-requires-2 : (t : ℕ) → search-lts.Need-search-requires-2 (
   search-below t,
   search′.Post,
 ) (search-at t) search′.Post
-search-search-requires-2 t c κs = let o = c .before .before .before .before .before .before .before .before .before .before .before .before .before .args .order .now in let r = c .before .before .before .before .before .before .before .before .before .before .before .before .before .pre .1 in let n : 8 < length o = c .before .before .before .before .before .before .before .if2 .left in (omega (arith, c .before .before .before .before .before .before .before .before .before .before .before .before .before .pre .0, length-take-le (length o / 2) o (omega arith)), first-ready r (second-length r (c .before .search .ensures)) (c .before .search .ensures .limited) n (c .before .before .before .before .before .reach .ensures))
+search-search-requires-2 t c κs = let o = c .before .before .before .before .before .before .before .before .before .before .before .before .before .before .before .args .order .now in let r = c .before .before .before .before .before .before .before .before .before .before .before .before .before .before .before .pre .1 in let n : 8 < length o = c .before .before .before .before .before .before .before .before .before .if2 .left in (omega (arith, c .before .before .before .before .before .before .before .before .before .before .before .before .before .before .before .pre .0, length-take-le (length o / 2) o (omega arith)), first-ready r (second-length r (c .before .before .before .search .ensures)) (c .before .before .before .search .ensures .limited) n (c .before .before .before .before .before .before .before .reach .ensures))
 
-search-returns-3 : (t : ℕ) → search-lts.Need-returns-3 (
+search-returns-4 : (t : ℕ) → search-lts.Need-returns-4 (
   scan-reads.Asked,
   scan-reads.Learnt,
   boxes-below-reads.Asked,
@@ -227,7 +239,7 @@ search-returns-3 : (t : ℕ) → search-lts.Need-returns-3 (
   search-below t,
   search′.Post,
 ) (search-at t) search′.Post
-search-returns-3 t c = turned (c .before .before .before .before .before .before .before .before .before .before .before .before .before .before .pre .1) (c .before .before .search .ensures) (c .search2 .ensures)
+search-returns-4 t c = turned (c .before .before .before .before .before .before .before .before .before .before .before .before .before .before .before .before .pre .1) (c .before .before .before .before .search .ensures) (c .search2 .ensures)
 
 search-slice-aggregate-search-2 : (t : ℕ) → search-lts.Need-slice-aggregate-search-2 (
   scan-reads.Asked,
@@ -252,6 +264,18 @@ search-search-requires-3 : (t : ℕ) → search-lts.Need-search-requires-3 (
   search′.Post,
 ) (search-at t) search′.Post
 search-search-requires-3 t c κs = let o = c .before .before .before .before .before .before .before .before .before .before .before .args .order .now in let r = c .before .before .before .before .before .before .before .before .before .before .before .pre .1 in let n : 8 < length o = c .before .before .before .before .before .if2 .left in (omega (arith, c .before .before .before .before .before .before .before .before .before .before .before .pre .0, length-take-le (length o / 2) o (omega arith)), first-ready r (r .best-length) (r .best-limit) n (c .before .before .before .reach .ensures))
+
+search-returns-5 : (t : ℕ) → search-lts.Need-returns-5 (
+  scan-reads.Asked,
+  scan-reads.Learnt,
+  boxes-below-reads.Asked,
+  boxes-below-reads.Learnt,
+  reach-reads.Asked,
+  reach-reads.Learnt,
+  search-below t,
+  search′.Post,
+) (search-at t) search′.Post
+search-returns-5 t c = let o = c .before .before .before .before .before .before .before .before .before .before .before .before .before .before .args .order .now in let r = c .before .before .before .before .before .before .before .before .before .before .before .before .before .before .pre .1 in let n : 8 < length o = c .before .before .before .before .before .before .before .before .if2 .left in in-turn r (c .before .before .search3 .ensures) (left-out (second-ready r (first-size r (c .before .before .search3 .ensures)) (c .before .before .search3 .ensures .limited) n (c .before .before .before .before .before .before .before .boxes-below .ensures) (c .before .before .before .before .before .reach2 .ensures)) (c .if5 .taken))
 
 search-mul-search-2 : (t : ℕ) → search-lts.Need-mul-search-2 (
   scan-reads.Asked,
@@ -311,9 +335,9 @@ search-search-requires-4 : (t : ℕ) → search-lts.Need-search-requires-4 (
   search-below t,
   search′.Post,
 ) (search-at t) search′.Post
-search-search-requires-4 t c κs = let o = c .before .before .before .before .before .before .before .before .before .before .before .before .before .args .order .now in let r = c .before .before .before .before .before .before .before .before .before .before .before .before .before .pre .1 in let n : 8 < length o = c .before .before .before .before .before .before .before .if2 .left in (omega (arith, c .before .before .before .before .before .before .before .before .before .before .before .before .before .pre .0, second-size o (length o / 2)), second-ready r (first-size r (c .before .search3 .ensures)) (c .before .search3 .ensures .limited) n (c .before .before .before .before .before .before .boxes-below .ensures) (c .before .before .before .before .reach2 .ensures))
+search-search-requires-4 t c κs = let o = c .before .before .before .before .before .before .before .before .before .before .before .before .before .before .before .args .order .now in let r = c .before .before .before .before .before .before .before .before .before .before .before .before .before .before .before .pre .1 in let n : 8 < length o = c .before .before .before .before .before .before .before .before .before .if2 .left in (omega (arith, c .before .before .before .before .before .before .before .before .before .before .before .before .before .before .before .pre .0, second-size o (length o / 2)), second-ready r (first-size r (c .before .before .before .search3 .ensures)) (c .before .before .before .search3 .ensures .limited) n (c .before .before .before .before .before .before .before .before .boxes-below .ensures) (c .before .before .before .before .before .before .reach2 .ensures))
 
-search-returns-4 : (t : ℕ) → search-lts.Need-returns-4 (
+search-returns-6 : (t : ℕ) → search-lts.Need-returns-6 (
   scan-reads.Asked,
   scan-reads.Learnt,
   boxes-below-reads.Asked,
@@ -323,7 +347,7 @@ search-returns-4 : (t : ℕ) → search-lts.Need-returns-4 (
   search-below t,
   search′.Post,
 ) (search-at t) search′.Post
-search-returns-4 t c = in-turn (c .before .before .before .before .before .before .before .before .before .before .before .before .before .before .pre .1) (c .before .before .search3 .ensures) (c .search4 .ensures)
+search-returns-6 t c = in-turn (c .before .before .before .before .before .before .before .before .before .before .before .before .before .before .before .before .pre .1) (c .before .before .before .before .search3 .ensures) (c .search4 .ensures)
 
 pub +search-spec : {M : Type 1} → statement M
 +search-spec = close μ-search λ t. search-lts.spec (
@@ -352,14 +376,16 @@ pub +search-spec : {M : Type 1} → statement M
     (search-part-search-start t)
     (search-part-search-end t)
     (search-search-requires t)
+    (search-returns-3 t)
     (search-slice-aggregate-search t)
     (search-search-requires-2 t)
-    (search-returns-3 t)
+    (search-returns-4 t)
     (search-slice-aggregate-search-2 t)
     (search-search-requires-3 t)
+    (search-returns-5 t)
     (search-mul-search-2 t)
     (search-sub-search-2 t)
     (search-part-search-start-2 t)
     (search-part-search-end-2 t)
     (search-search-requires-4 t)
-    (search-returns-4 t)
+    (search-returns-6 t)

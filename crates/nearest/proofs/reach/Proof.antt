@@ -1,13 +1,13 @@
 use native.Mathlib.Omega.{arith}
-use Rattle.nearest.proofs.Bounds.{reach-is, clamp-is, six-at}
+use Rattle.nearest.proofs.Bounds.{reach-is, gap-is, six-at}
 use borrow.Author.Needs.{needs}
 use Rattle.nearest.proofs.reach.Statement.{statement}
 use Rattle.nearest.proofs.reach.Tie as tie
 use Rattle.nearest.proofs.reach.Reads as reads
 use Rattle.nearest.proofs.reach.Lts as lts
-use Rattle.nearest.proofs.clamp_to.Reads as clamp-to-reads
+use Rattle.nearest.proofs.gap.Reads as gap-reads
 use Rattle.nearest.proofs.word_at.Reads as word-at-reads
-use Rattle.vector.proofs.distance_squared.Reads as distance-squared-reads
+use Rattle.vector.proofs.magnitude_squared.Reads as magnitude-squared-reads
 use Rattle.vector.proofs.point.Reads as point-reads
 
 word-at-requires : tie.Need-word-at-requires
@@ -19,8 +19,8 @@ add-word-at c = omega (arith, c .before .before .pre .long)
 word-at-requires-2 : tie.Need-word-at-requires-2
 word-at-requires-2 c κs = six-at (c .before .before .pre) 3 (omega arith) _ (omega arith)
 
-clamp-to-requires : tie.Need-clamp-to-requires
-clamp-to-requires c κs = search needs
+gap-requires : tie.Need-gap-requires
+gap-requires c κs = search needs
 
 add-word-at-2 : tie.Need-add-word-at-2
 add-word-at-2 c = omega (arith, c .before .before .before .before .pre .long)
@@ -34,8 +34,8 @@ add-word-at-3 c = omega (arith, c .before .before .before .before .before .pre .
 word-at-requires-4 : tie.Need-word-at-requires-4
 word-at-requires-4 c κs = six-at (c .before .before .before .before .before .pre) 4 (omega arith) _ (omega arith)
 
-clamp-to-requires-2 : tie.Need-clamp-to-requires-2
-clamp-to-requires-2 c κs = search needs
+gap-requires-2 : tie.Need-gap-requires-2
+gap-requires-2 c κs = search needs
 
 add-word-at-4 : tie.Need-add-word-at-4
 add-word-at-4 c = omega (arith, c .before .before .before .before .before .before .before .pre .long)
@@ -49,17 +49,17 @@ add-word-at-5 c = omega (arith, c .before .before .before .before .before .befor
 word-at-requires-6 : tie.Need-word-at-requires-6
 word-at-requires-6 c κs = six-at (c .before .before .before .before .before .before .before .before .pre) 5 (omega arith) _ (omega arith)
 
-clamp-to-requires-3 : tie.Need-clamp-to-requires-3
-clamp-to-requires-3 c κs = search needs
+gap-requires-3 : tie.Need-gap-requires-3
+gap-requires-3 c κs = search needs
 
 point-requires : tie.Need-point-requires
 point-requires c κs = search needs
 
-distance-squared-requires : tie.Need-distance-squared-requires
-distance-squared-requires c κs = search needs
+magnitude-squared-requires : tie.Need-magnitude-squared-requires
+magnitude-squared-requires c κs = search needs
 
 returns : tie.Need-returns
-returns c = reach-is (c .before .before .before .before .before .before .before .before .before .before .before .before .args .words .now) (c .before .before .before .before .before .before .before .before .before .before .before .before .args .at) (c .before .before .before .before .before .before .before .before .before .before .before .before .args .spot) (clamp-is (c .before .before .before .before .before .before .before .before .before .before .before .before .args .spot .x) (c .before .before .before .before .before .before .before .before .before .before .word-at .ensures) (c .before .before .before .before .before .before .before .before .before .word-at2 .ensures) (c .before .before .before .before .before .before .before .before .clamp-to .ensures)) (clamp-is (c .before .before .before .before .before .before .before .before .before .before .before .before .args .spot .y) (c .before .before .before .before .before .before .before .word-at3 .ensures) (c .before .before .before .before .before .before .word-at4 .ensures) (c .before .before .before .before .before .clamp-to2 .ensures)) (clamp-is (c .before .before .before .before .before .before .before .before .before .before .before .before .args .spot .z) (c .before .before .before .before .word-at5 .ensures) (c .before .before .before .word-at6 .ensures) (c .before .before .clamp-to3 .ensures)) (c .before .point .ensures) (c .distance-squared .ensures)
+returns c = reach-is (c .before .before .before .before .before .before .before .before .before .before .before .before .args .words .now) (c .before .before .before .before .before .before .before .before .before .before .before .before .args .at) (c .before .before .before .before .before .before .before .before .before .before .before .before .args .spot) (gap-is (c .before .before .before .before .before .before .before .before .before .before .before .before .args .spot .x) (c .before .before .before .before .before .before .before .before .before .before .word-at .ensures) (c .before .before .before .before .before .before .before .before .before .word-at2 .ensures) (c .before .before .before .before .before .before .before .before .gap .ensures)) (gap-is (c .before .before .before .before .before .before .before .before .before .before .before .before .args .spot .y) (c .before .before .before .before .before .before .before .word-at3 .ensures) (c .before .before .before .before .before .before .word-at4 .ensures) (c .before .before .before .before .before .gap2 .ensures)) (gap-is (c .before .before .before .before .before .before .before .before .before .before .before .before .args .spot .z) (c .before .before .before .before .word-at5 .ensures) (c .before .before .before .word-at6 .ensures) (c .before .before .gap3 .ensures)) (c .before .point .ensures) (c .magnitude-squared .ensures)
 
 pub reach-spec : {M : Type 1} → statement M
 reach-spec =
@@ -68,17 +68,17 @@ reach-spec =
     word-at-requires
     add-word-at
     word-at-requires-2
-    clamp-to-requires
+    gap-requires
     add-word-at-2
     word-at-requires-3
     add-word-at-3
     word-at-requires-4
-    clamp-to-requires-2
+    gap-requires-2
     add-word-at-4
     word-at-requires-5
     add-word-at-5
     word-at-requires-6
-    clamp-to-requires-3
+    gap-requires-3
     point-requires
-    distance-squared-requires
+    magnitude-squared-requires
     returns)

@@ -1,0 +1,19 @@
+use Rattle.nearest.proofs.Bounds.{gap-of}
+use borrow.Author.Needs.{needs}
+use Rattle.nearest.proofs.gap.Statement.{statement}
+use Rattle.nearest.proofs.gap.Tie as tie
+use Rattle.nearest.proofs.gap.Reads as reads
+use Rattle.nearest.proofs.gap.Lts as lts
+use Rattle.nearest.proofs.greater.Reads as greater-reads
+
+greater-requires : tie.Need-greater-requires
+greater-requires c κs = search needs
+
+greater-requires-2 : tie.Need-greater-requires-2
+greater-requires-2 c κs = search needs
+
+returns : tie.Need-returns
+returns c = gap-of (c .before .before .args .v) (c .before .before .args .lo) (c .before .before .args .hi) (c .before .greater .ensures) (c .greater2 .ensures)
+
+pub gap-spec : {M : Type 1} → statement M
+gap-spec = tie.close (tie.spec greater-requires greater-requires-2 returns)
