@@ -35,5 +35,16 @@ pub fn nearest_in(points: &[f32], index: &[u32], width: usize, spot: Point3f) ->
         limit: nearest::limit_of(square),
     };
     let far = nearest::reach(index, n, spot);
-    nearest::search(points, spot, index, n, width, far, &index[..n], best)
+    nearest::search(
+        points,
+        spot.x,
+        spot.y,
+        spot.z,
+        index,
+        n,
+        width,
+        far,
+        &index[..n],
+        best,
+    )
 }

@@ -9,7 +9,7 @@ ghost use lib.Ieee.{binary32, fits, nanBits};
 ghost use lib.ListN.{length, getD};
 ghost use Rattle.numbers.specs.Root.{root};
 ghost use Rattle.bounds.specs.Within.{Limit};
-ghost use Rattle.vector.specs.Vector.{distance};
+ghost use Rattle.vector.specs.Vector.{point, distance};
 ghost use Rattle.nearest.specs.Scan.{lengthTo};
 ghost use Rattle.nearest.specs.Parts.{closer, scanned, nearOf, Limited, Keeps};
 ghost use Rattle.nearest.specs.Boxes.{wordAt, greater, gap, reachOf, boxesBelow, Six, Known, Ready};
@@ -146,7 +146,9 @@ fn boxes_below(width: usize, n: usize) -> usize
 // nearer one comes first.
 pub fn search(
     points: &[f32],
-    spot: Point3f,
+    x: f32,
+    y: f32,
+    z: f32,
     words: &[u32],
     at: usize,
     width: usize,
@@ -154,41 +156,34 @@ pub fn search(
     order: &[u32],
     best: Best,
 ) -> Best
-    requires { ⌜ Ready (now points) spot (now words) at width far (now order) best ⌝ }
-    ensures { λ r. ⌜ Keeps r (scanned (lengthTo (now (points .entry)) spot) (now (order .entry)) (nearOf best)) ⌝ }
+    requires { ⌜ Ready (now points) (point x y z) (now words) at width far (now order) best ⌝ }
+    ensures { λ r. ⌜ Keeps r
+        (scanned (lengthTo (now (points .entry)) (point x y z)) (now (order .entry)) (nearOf best)) ⌝ }
 {
     if best.limit < far {
         return best;
     }
+    let spot = Point3f { x, y, z };
     let n = order.len();
     if n <= 8 {
         return scan(points, spot, order, best);
     }
     let half = n / 2;
-    let below = width / 2;
+    let wide = width / 2;
     let first = at + 6;
-    let second = first + 6 * boxes_below(below, half);
+    let next = first + 6 * boxes_below(wide, half);
     let a = reach(words, first, spot);
-    let b = reach(words, second, spot);
+    let b = reach(words, next, spot);
     if b < a {
-        let later = search(points, spot, words, second, below, b, &order[half..], best);
-        if later.limit < a {
-            return later;
+        let near = search(points, x, y, z, words, next, wide, b, &order[half..], best);
+        if near.limit < a {
+            return near;
         }
-        return search(points, spot, words, first, below, a, &order[..half], later);
+        return search(points, x, y, z, words, first, wide, a, &order[..half], near);
     }
-    let earlier = search(points, spot, words, first, below, a, &order[..half], best);
-    if earlier.limit < b {
-        return earlier;
+    let near = search(points, x, y, z, words, first, wide, a, &order[..half], best);
+    if near.limit < b {
+        return near;
     }
-    search(
-        points,
-        spot,
-        words,
-        second,
-        below,
-        b,
-        &order[half..],
-        earlier,
-    )
+    search(points, x, y, z, words, next, wide, b, &order[half..], near)
 }

@@ -17,7 +17,7 @@ use Rattle.nearest.proofs.+search.{statement}
 use Rattle.nearest.proofs.+search.Tie.{close}
 
 abbrev μ-search : Measures 3 search-kinds.ps ℕ
-μ-search κs a = length (a .1 .1 .1 .1 .1 .1 .0 .now)
+μ-search κs a = length (a .1 .1 .1 .1 .1 .1 .1 .1 .0 .now)
 
 abbrev search-at : ℕ → In 3 search-kinds.ps
 search-at t = and 3 search-kinds.ps (is 3 search-kinds.ps μ-search t) search′.Pre
@@ -85,7 +85,7 @@ search-boxes-below-requires : (t : ℕ) → search-lts.Need-boxes-below-requires
 ) (search-at t) search′.Post
 search-boxes-below-requires t c κs = let r = c .before .before .before .before .before .before .pre .1 in (omega (arith, r .narrow), omega (arith, r .few))
 
-search-mul-second : (t : ℕ) → search-lts.Need-mul-second (
+search-mul-next : (t : ℕ) → search-lts.Need-mul-next (
   scan-reads.Asked,
   scan-reads.Learnt,
   boxes-below-reads.Asked,
@@ -95,9 +95,9 @@ search-mul-second : (t : ℕ) → search-lts.Need-mul-second (
   search-below t,
   search′.Post,
 ) (search-at t) search′.Post
-search-mul-second t c = let o = c .before .before .before .before .before .before .before .args .order .now in let r = c .before .before .before .before .before .before .before .pre .1 in let n : 8 < length o = c .before .if2 .left in omega (arith, second-held r n (c .boxes-below .ensures) .six .long)
+search-mul-next t c = let o = c .before .before .before .before .before .before .before .args .order .now in let r = c .before .before .before .before .before .before .before .pre .1 in let n : 8 < length o = c .before .if2 .left in omega (arith, second-held r n (c .boxes-below .ensures) .six .long)
 
-search-add-second : (t : ℕ) → search-lts.Need-add-second (
+search-add-next : (t : ℕ) → search-lts.Need-add-next (
   scan-reads.Asked,
   scan-reads.Learnt,
   boxes-below-reads.Asked,
@@ -107,7 +107,7 @@ search-add-second : (t : ℕ) → search-lts.Need-add-second (
   search-below t,
   search′.Post,
 ) (search-at t) search′.Post
-search-add-second t c = let o = c .before .before .before .before .before .before .before .args .order .now in let r = c .before .before .before .before .before .before .before .pre .1 in let n : 8 < length o = c .before .if2 .left in omega (arith, second-held r n (c .boxes-below .ensures) .six .long)
+search-add-next t c = let o = c .before .before .before .before .before .before .before .args .order .now in let r = c .before .before .before .before .before .before .before .pre .1 in let n : 8 < length o = c .before .if2 .left in omega (arith, second-held r n (c .boxes-below .ensures) .six .long)
 
 search-reach-requires : (t : ℕ) → search-lts.Need-reach-requires (
   scan-reads.Asked,
@@ -367,8 +367,8 @@ pub +search-spec : {M : Type 1} → statement M
     (search-returns-2 t)
     (search-add-first t)
     (search-boxes-below-requires t)
-    (search-mul-second t)
-    (search-add-second t)
+    (search-mul-next t)
+    (search-add-next t)
     (search-reach-requires t)
     (search-reach-requires-2 t)
     (search-mul-search t)
