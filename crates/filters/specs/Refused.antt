@@ -44,6 +44,15 @@ pub data RefusedThroughout (l : Limits) (p q t : Point3f) : Type 0 where
   distant : T (lt (l .far) (squared q t)) → RefusedThroughout l p q t
   each : Refused l p q t → Refused l q p t → Refused l t p q → RefusedThroughout l p q t
 
+-- the settings refuse the triangle of p, q and t at a radius, in each order of them
+pub record RefusedEach (s : Scene) (r : Float) (p q t : Point3f) : Type 0 where
+  pub pqt : accepts s r (quality p q t) ≡ false
+  pub ptq : accepts s r (quality p t q) ≡ false
+  pub qpt : accepts s r (quality q p t) ≡ false
+  pub qtp : accepts s r (quality q t p) ≡ false
+  pub tpq : accepts s r (quality t p q) ≡ false
+  pub tqp : accepts s r (quality t q p) ≡ false
+
 -- points that are close at a radius have finite distances, and no triangle has an area large enough and edges short
 -- enough
 pub record RefusesAll (s : Scene) (r : Float) : Type 0 where

@@ -5,7 +5,9 @@ use vector::Point3f;
 ghost use mathlib.Core.Path.{_≡_};
 ghost use mathlib.Core.Bool.{true, _&&_};
 ghost use lib.Ieee.{le};
+ghost use Rattle.long_edges.specs.LongEdges.{Long};
 ghost use Rattle.filters.specs.Refused.{Least, Limiting, Refused, RefusedThroughout, RefusesAll};
+ghost use Rattle.filters.specs.Refused.{RefusedEach};
 
 // Limits for squares, by which a triangle is refused: of twice the area a least and a largest, of a distance the
 // largest, and one for the aspect ratio.
@@ -105,6 +107,34 @@ pub fn is_refused_throughout(l: Limits, p: Point3f, q: Point3f, t: Point3f) -> b
         largest,
         l.thin,
     )
+}
+
+// Whether edges with squares x, y and z are too long with each of three squares of twice the area.
+fn are_long(x: f32, y: f32, z: f32, a: f32, b: f32, c: f32, limit: f32) -> bool
+    ensures { λ r. ⌜ (r ≡ true → Long limit x y z a × Long limit x y z b × Long limit x y z c) ⌝ }
+{
+    if !long_edges::is_long(x, y, z, a, limit) {
+        return false;
+    }
+    if !long_edges::is_long(x, y, z, b, limit) {
+        return false;
+    }
+    long_edges::is_long(x, y, z, c, limit)
+}
+
+// Whether the edges of three points are too long for their area at a radius, by squares alone, whichever of them comes
+// first.
+pub fn is_long_throughout(s: Scene, radius: f32, p: Point3f, q: Point3f, t: Point3f) -> bool
+    ensures { λ r. ⌜ (r ≡ true → RefusedEach s radius p q t) ⌝ }
+{
+    let a = area_bounds::cross_squared(p, q, t);
+    let b = area_bounds::cross_squared(q, p, t);
+    let c = area_bounds::cross_squared(t, p, q);
+    let first = vector::distance_squared(p, q);
+    let second = vector::distance_squared(p, t);
+    let third = vector::distance_squared(q, t);
+    let limit = long_edges::long_limit(radius * s.max_edge_factor);
+    are_long(first, second, third, a, b, c, limit)
 }
 
 // Whether no triangle of points that are close to each other can be acceptable at a radius.

@@ -18,7 +18,9 @@ use Rattle.area_bounds.proofs.AreaBound.{cross-squared-turned}
 use Rattle.points.specs.Points.{pointAt}
 use Rattle.decisions.specs.declared.Scene.{Scene}
 use Rattle.decisions.specs.Decisions.{isClose, accepts, qualityAt, completes}
+use Rattle.filters.specs.Refused.{RefusedEach}
 use Rattle.seed.specs.Judged.{NoSeed, RefusedBoth}
+use Rattle.seed.specs.Seedless.{Seedless}
 use Rattle.lists.proofs.Bools.{and-false}
 
 -- the area does not depend on the order of the points after the first
@@ -56,3 +58,13 @@ module _ (p q t : Point3f) {a b c x : Float} (ea : a ≡ distance q p) (eb : b �
       forward = λ d. off s pts r i j k (ap (accepts s r) (sym (forward-is ∙ at-forward)) ∙ h .forward);
       backward = λ d. off s pts r i k j (ap (accepts s r) (sym (backward-is ∙ at-backward)) ∙ h .backward);
     }
+
+-- ---- refused in each order
+
+pub each-seedless : {s : Scene} {pts : List Float} {r : Float} {i j k : ℕ} → RefusedEach s r (pointAt pts i) (pointAt pts j) (pointAt pts k) → Seedless s pts r i j k
+unfolding qualityAt
+each-seedless {s} {pts} {r} {i} {j} {k} h = record {
+  first = record { forward = λ d. off s pts r i j k (h .pqt); backward = λ d. off s pts r i k j (h .ptq) };
+  second = record { forward = λ d. off s pts r j i k (h .qpt); backward = λ d. off s pts r j k i (h .qtp) };
+  third = record { forward = λ d. off s pts r k i j (h .tpq); backward = λ d. off s pts r k j i (h .tqp) };
+}

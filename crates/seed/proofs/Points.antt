@@ -6,11 +6,13 @@ use mathlib.Core.Bool.{Bool, true, false}
 use native.Mathlib.Omega.{arith}
 use lib.Dec.{eqb, ltb}
 use borrow.Author.Tests.{ltb-true, ltb-false, eqb-true, eqb-false}
+use lib.Ieee.{Float}
 use Rattle.vector.specs.declared.Point3f.{Point3f}
+use Rattle.decisions.specs.declared.Scene.{Scene}
 use Rattle.lists.specs.Lists.{bit}
 use Rattle.lists.proofs.Bools.{either}
 use Rattle.filters.specs.declared.Limits.{Limits}
-use Rattle.filters.specs.Refused.{Refused, RefusedThroughout}
+use Rattle.filters.specs.Refused.{Refused, RefusedThroughout, RefusedEach}
 
 -- what is in a list is its head or in the rest
 pub in-either : {P : Type 0} {c : ℕ} (b : Bool) → (b ≡ true → P) → (1 ≤ c → P) → 1 ≤ bit b + c → P
@@ -33,3 +35,6 @@ refused-points {l} = points-same (Refused l)
 
 pub throughout-points : {l : Limits} {p q t x y z : Point3f} → p ≡ x → q ≡ y → t ≡ z → RefusedThroughout l p q t → RefusedThroughout l x y z
 throughout-points {l} = points-same (RefusedThroughout l)
+
+pub each-points : (s : Scene) (r : Float) {p q t x y z : Point3f} → p ≡ x → q ≡ y → t ≡ z → RefusedEach s r p q t → RefusedEach s r x y z
+each-points s r = points-same (RefusedEach s r)

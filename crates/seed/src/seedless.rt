@@ -43,6 +43,9 @@ fn price_of(
     if filters::is_refused_throughout(limits, first, second, third) {
         return 1;
     }
+    if filters::is_long_throughout(s, radius, first, second, third) {
+        return 1;
+    }
     let a = vector::distance(second, first);
     let b = vector::distance(third, second);
     let c = vector::distance(first, third);

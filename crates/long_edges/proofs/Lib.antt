@@ -1,0 +1,4 @@
+-- Laws of the definitions.
+pub mod Chain
+pub mod Limit
+pub mod Edges
