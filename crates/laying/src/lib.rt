@@ -185,7 +185,7 @@ pub fn advanced_ball_pivoting(
         × (take count (r .marks)
         ≡ marksFrom (rulesOf s (now (points .entry))) (popOf rule) (s .n) (take count radii) (blank (s .n))) ⌝ }
 {
-    let flat = seed::flat::is_flat(s, points);
+    let flat = flatness::is_flat(s, points);
     let largest = last_of(radii, count);
     let mut c = frontier::begin(w, s.n);
     let mut marks: [usize; 17] = [0; 17];
@@ -193,11 +193,11 @@ pub fn advanced_ball_pivoting(
     let mut i: usize = 0;
     while i < count {
         let radius = radii[i];
-        let known = seed::is_known(s, flat, radius, upto);
+        let known = known_radii::is_known(s, flat, radius, upto);
         let laid = lay_one(s, points, faces, w, radius, c, hash, known, rule);
         c = laid.counts;
         marks[i] = c.faces;
-        upto = seed::known_to(s, points, w, radius, largest, hash, known, upto, laid.purse);
+        upto = known_radii::known_to(s, points, w, radius, largest, hash, known, upto, laid.purse);
         i += 1;
     }
     Course {

@@ -3,9 +3,7 @@ pub mod LeftOut
 pub mod Steps
 pub mod State
 pub mod Points
-pub mod Extents
 pub mod Nothing
 pub mod Measured
 pub mod Threes
-pub mod Larger
 pub mod WithArea

@@ -29,7 +29,7 @@ use Rattle.filters.proofs.Refusals.{refused-turned, refused-accepts, refuses-al
 use Rattle.nearby.specs.Ready.{listed}
 use Rattle.nearby.proofs.Laws.{chosen, passed}
 use Rattle.seed.specs.Found.{withSecond, withFirst}
-use Rattle.seed.specs.Flat.{Flat}
+use Rattle.flatness.specs.Flat.{Flat}
 use Rattle.seed.specs.Judged.{NoSeed, Judged}
 use Rattle.seed.proofs.Laws.{orElse, third-miss, third-end, second-step, second-end, first-tried, first-used, first-spent, first-end}
 use Rattle.seed.proofs.Points.{in-either}

@@ -1,16 +1,12 @@
--- What holds of each of the points up to a place, and of points that were read. Assumes nothing.
-use Prim.Native.Nat.{ℕ, _+_, _≤_, _<_}
-use mathlib.Core.Path.{_≡_, refl, sym, subst}
-use mathlib.Core.Logic.{⊎-elim}
+-- What holds of an element of a list, and of points that were read. Assumes nothing.
+use Prim.Native.Nat.{ℕ, _+_, _≤_}
+use mathlib.Core.Path.{_≡_, refl, subst}
 use mathlib.Core.Bool.{Bool, true, false}
 use native.Mathlib.Omega.{arith}
-use lib.Dec.{eqb, ltb}
-use borrow.Author.Tests.{ltb-true, ltb-false, eqb-true, eqb-false}
 use lib.Ieee.{Float}
 use Rattle.vector.specs.declared.Point3f.{Point3f}
 use Rattle.decisions.specs.declared.Scene.{Scene}
 use Rattle.lists.specs.Lists.{bit}
-use Rattle.lists.proofs.Bools.{either}
 use Rattle.filters.specs.declared.Limits.{Limits}
 use Rattle.filters.specs.Refused.{Refused, RefusedThroughout, RefusedEach}
 
@@ -18,13 +14,6 @@ use Rattle.filters.specs.Refused.{Refused, RefusedThroughout, RefusedEach}
 pub in-either : {P : Type 0} {c : ℕ} (b : Bool) → (b ≡ true → P) → (1 ≤ c → P) → 1 ≤ bit b + c → P
 in-either true f g h = f refl
 in-either false f g h = g (omega arith)
-
--- what holds below m and of m holds below m + 1
-pub below-next : {P : ℕ → Type 0} {m : ℕ} → ((x : ℕ) → x < m → P x) → P m → (x : ℕ) → x < m + 1 → P x
-below-next {P} {m} f p x h = ⊎-elim (λ (t : eqb x m ≡ true). subst P (sym (eqb-true x m t)) p) (λ (t : eqb x m ≡ false). f x (less (eqb-false x m t))) (either (eqb x m))
-  where
-    less : (x ≡ m → ⊥) → x < m
-    less n = ⊎-elim (λ (t : ltb x m ≡ true). ltb-true x m t) (λ (t : ltb x m ≡ false). absurd (n (let z = ltb-false x m t in omega arith))) (either (ltb x m))
 
 -- what holds of points that were read
 points-same : {p q t x y z : Point3f} (P : Point3f → Point3f → Point3f → Type 0) → p ≡ x → q ≡ y → t ≡ z → P p q t → P x y z

@@ -35,7 +35,7 @@ use Rattle.seed.specs.Judged.{NoSeed, Judged}
 use Rattle.seed.specs.Seedless.{Seedless, AllSeedless, isOther, isLeft, SeedlessFrom, SeedlessBetween, Stands, Left, AllLeftSeedless, KnownFrom}
 use Rattle.seed.proofs.LeftOut.{close-far}
 use Rattle.seed.proofs.State.{Seeking}
-use Rattle.seed.proofs.Points.{below-next}
+use Rattle.flatness.proofs.Below.{below-next}
 use Rattle.seed.proofs.Nothing.{first-around, completes-third, refused-no-seed, listed-place, close-second}
 
 -- ---- the loop of `keep_left` at the m-th point

@@ -2,5 +2,3 @@
 pub mod Found
 pub mod Judged
 pub mod Seedless
-pub mod Flat
-pub mod Known

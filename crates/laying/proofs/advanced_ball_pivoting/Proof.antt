@@ -5,8 +5,8 @@ use mathlib.Core.List.{List}
 use native.Mathlib.Omega.{arith}
 use lib.ListN.{take}
 use Rattle.nearby.specs.Ready.{usedIn}
-use Rattle.seed.specs.Known.{NothingTo}
-use Rattle.seed.proofs.Larger.{nothing-yet, known-nothing}
+use Rattle.known_radii.specs.Known.{NothingTo}
+use Rattle.known_radii.proofs.Larger.{nothing-yet, known-nothing}
 use Rattle.laying.proofs.Radii.{Covering, cover-start, between-radii, cover-step, cover-kept, cover-end}
 use Rattle.laying.proofs.Marks.{Marking, marks-start, marks-step, marks-end}
 use borrow.Author.Needs.{needs}

@@ -2,10 +2,10 @@
 use mathlib.Core.Path.{sym, subst}
 use lib.Dec.{T}
 use lib.Ieee.{ofBits}
-use Rattle.seed.proofs.Larger.{finite-below}
+use Rattle.known_radii.proofs.Larger.{finite-below}
 use borrow.Author.Needs.{needs}
-use Rattle.seed.proofs.is_number.Statement.{statement}
-use Rattle.seed.proofs.is_number.Tie as tie
+use Rattle.known_radii.proofs.is_number.Statement.{statement}
+use Rattle.known_radii.proofs.is_number.Tie as tie
 
 returns : tie.Need-returns
 unfolding ofBits

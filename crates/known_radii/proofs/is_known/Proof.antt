@@ -5,10 +5,10 @@ use lib.Dec.{T}
 use lib.Ieee.{inf, lt}
 use Rattle.numbers.specs.Rounded.{_⊗_}
 use Rattle.numbers.proofs.Compare.{infinite}
-use Rattle.seed.specs.Known.{flat-cloud, up-to}
+use Rattle.known_radii.specs.Known.{flat-cloud, up-to}
 use borrow.Author.Needs.{needs}
-use Rattle.seed.proofs.is_known.Statement.{statement}
-use Rattle.seed.proofs.is_known.Tie as tie
+use Rattle.known_radii.proofs.is_known.Statement.{statement}
+use Rattle.known_radii.proofs.is_known.Tie as tie
 
 returns : tie.Need-returns
 returns c =

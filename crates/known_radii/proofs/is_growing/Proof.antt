@@ -3,8 +3,8 @@ use mathlib.Core.Path.{sym, subst}
 use lib.Dec.{T}
 use borrow.Author.Tests.{not-false}
 use borrow.Author.Needs.{needs}
-use Rattle.seed.proofs.is_growing.Statement.{statement}
-use Rattle.seed.proofs.is_growing.Tie as tie
+use Rattle.known_radii.proofs.is_growing.Statement.{statement}
+use Rattle.known_radii.proofs.is_growing.Tie as tie
 
 is-number-requires : tie.Need-is-number-requires
 is-number-requires c κs = search needs

@@ -27,8 +27,8 @@ use Rattle.decisions.specs.declared.Scene.{Scene}
 use Rattle.decisions.specs.Decisions.{accepts, qualityAt}
 use Rattle.filters.specs.Refused.{Least}
 use Rattle.filters.proofs.Refusals.{least-own, least-flat, bounded-accepts}
-use Rattle.seed.specs.Flat.{tooSmall, Flat, onAxis, Numbers, Extent}
-use Rattle.seed.proofs.Points.{below-next}
+use Rattle.flatness.specs.Flat.{tooSmall, Flat, onAxis, Numbers, Extent}
+use Rattle.flatness.proofs.Below.{below-next}
 
 -- ---- one axis
 

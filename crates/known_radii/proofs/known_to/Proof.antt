@@ -1,10 +1,10 @@
 -- `known_to` meets its contract. Assumes nothing.
 use Rattle.nearby.specs.Ready.{usedIn}
 use Rattle.nearby.proofs.Keeping.{kept-self}
-use Rattle.seed.proofs.Larger.{nothing-yet, silent-nothing}
+use Rattle.known_radii.proofs.Larger.{nothing-yet, silent-nothing}
 use borrow.Author.Needs.{needs}
-use Rattle.seed.proofs.known_to.Statement.{statement}
-use Rattle.seed.proofs.known_to.Tie as tie
+use Rattle.known_radii.proofs.known_to.Statement.{statement}
+use Rattle.known_radii.proofs.known_to.Tie as tie
 
 returns : tie.Need-returns
 returns c = let a = c .before .before .before .args in (c .before .before .before .pre .2 (c .if1 .taken), kept-self (a .s) (a .w .now))

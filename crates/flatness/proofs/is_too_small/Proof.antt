@@ -1,8 +1,8 @@
 -- `is_too_small` meets its contract. Assumes nothing.
-use Rattle.seed.specs.Flat.{tooSmall}
+use Rattle.flatness.specs.Flat.{tooSmall}
 use borrow.Author.Needs.{needs}
-use Rattle.seed.proofs.flat.is_too_small.Statement.{statement}
-use Rattle.seed.proofs.flat.is_too_small.Tie as tie
+use Rattle.flatness.proofs.is_too_small.Statement.{statement}
+use Rattle.flatness.proofs.is_too_small.Tie as tie
 
 area-bound-requires : tie.Need-area-bound-requires
 area-bound-requires c κs = search needs

@@ -2,9 +2,9 @@
 use mathlib.Core.Path.{sym, subst}
 use lib.Dec.{T}
 use lib.Ieee.{neg}
-use Rattle.seed.proofs.Larger.{silent-below, silent-none}
-use Rattle.seed.proofs.in_vain.Statement.{statement}
-use Rattle.seed.proofs.in_vain.Tie as tie
+use Rattle.known_radii.proofs.Larger.{silent-below, silent-none}
+use Rattle.known_radii.proofs.in_vain.Statement.{statement}
+use Rattle.known_radii.proofs.in_vain.Tie as tie
 
 returns : tie.Need-returns
 returns c = silent-below (neg (c .before .args .radius)) (subst T (sym (c .if1 .taken)) tt)

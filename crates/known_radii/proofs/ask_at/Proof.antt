@@ -2,10 +2,10 @@
 use borrow.Author.Tests.{not-false}
 use Rattle.nearby.specs.Ready.{usedIn}
 use Rattle.nearby.proofs.Keeping.{kept-self}
-use Rattle.seed.proofs.Larger.{silent-nothing, larger-nothing}
+use Rattle.known_radii.proofs.Larger.{silent-nothing, larger-nothing}
 use borrow.Author.Needs.{needs}
-use Rattle.seed.proofs.ask_at.Statement.{statement}
-use Rattle.seed.proofs.ask_at.Tie as tie
+use Rattle.known_radii.proofs.ask_at.Statement.{statement}
+use Rattle.known_radii.proofs.ask_at.Tie as tie
 
 is-growing-requires : tie.Need-is-growing-requires
 is-growing-requires c κs = search needs

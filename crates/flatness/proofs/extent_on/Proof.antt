@@ -1,9 +1,9 @@
 -- `extent_on` meets its contract. The loop's invariant: the points so far lie between the least and the largest coordinate. Assumes nothing.
 use Prim.Native.Nat.{_-_}
 use borrow.Author.Needs.{needs}
-use Rattle.seed.proofs.Extents.{Reaching, reach-start, reach-step, reach-end}
-use Rattle.seed.proofs.flat.extent_on.Statement.{statement}
-use Rattle.seed.proofs.flat.extent_on.Tie as tie
+use Rattle.flatness.proofs.Extents.{Reaching, reach-start, reach-step, reach-end}
+use Rattle.flatness.proofs.extent_on.Statement.{statement}
+use Rattle.flatness.proofs.extent_on.Tie as tie
 
 abbrev Inv-loop : tie.InvT-loop
 Inv-loop points axis n lo₀ hi₀ i₀ lo hi i = Reaching points axis n lo hi i

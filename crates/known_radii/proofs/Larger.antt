@@ -18,12 +18,12 @@ use Rattle.triangle.specs.Quality.{isZero, sourceAcceptable, acceptable}
 use Rattle.patch.specs.Search.{searching}
 use Rattle.decisions.specs.declared.Scene.{Scene}
 use Rattle.decisions.specs.Decisions.{reach, apart, isClose, accepts, qualityAt, completes, floatsOf}
 use Rattle.seed.specs.Judged.{NoSeed}
-use Rattle.seed.specs.Flat.{Flat}
+use Rattle.flatness.specs.Flat.{Flat}
 use Rattle.seed.specs.Seedless.{Seedless, SeedlessBetween}
-use Rattle.seed.specs.Known.{Growing, NothingTo, Silent, Known, flat-cloud, up-to}
+use Rattle.known_radii.specs.Known.{Growing, NothingTo, Silent, Known, flat-cloud, up-to}
 use Rattle.seed.proofs.Nothing.{first-nothing, flat-nothing}
 use Rattle.seed.proofs.Threes.{seedless-nothing}
 use Rattle.lists.proofs.Bools.{not-true, true-not-false, and-both}
 
 -- ---- twice the radius

@@ -2,9 +2,9 @@
 use mathlib.Core.Path.{sym, _∙_}
 use native.Mathlib.Omega.{arith}
 use borrow.Author.Needs.{needs}
-use Rattle.seed.proofs.Extents.{axis-numbers, box-flat}
-use Rattle.seed.proofs.flat.is_flat.Statement.{statement}
-use Rattle.seed.proofs.flat.is_flat.Tie as tie
+use Rattle.flatness.proofs.Extents.{axis-numbers, box-flat}
+use Rattle.flatness.proofs.is_flat.Statement.{statement}
+use Rattle.flatness.proofs.is_flat.Tie as tie
 
 extent-on-requires : tie.Need-extent-on-requires
 extent-on-requires c κs =
