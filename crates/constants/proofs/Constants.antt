@@ -45,6 +45,7 @@ constants = record {
   high-square = refl;
   low-bound = refl;
   low-limit = refl;
+  low-edge = refl;
   thin = refl;
   thin-next = refl;
   beyond-ten-thousand = refl;

@@ -67,6 +67,8 @@ pub record Constants : Type 0 where
   pub high-square : f32 0x5d800000 ≡ decimal (2 ^ 60) 1
   pub low-bound : f32 0x3b000000 ≡ decimal 1 (2 ^ 9)
   pub low-limit : f32 0x35800000 ≡ decimal 1 (2 ^ 20)
+  -- the least square of an edge there, see `long_edges`
+  pub low-edge : f32 0x2b800000 ≡ decimal 1 (2 ^ 40)
   -- about 1e-12, and the next f32: squares of the plain path's cross product, see `plain`
   pub thin : f32 0x2b8cbccd ≡ decimal 9223373 (2 ^ 63)
   pub thin-next : f32 0x2b8cbcce ≡ decimal 9223374 (2 ^ 63)
