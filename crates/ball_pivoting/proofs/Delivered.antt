@@ -14,7 +14,7 @@ use Rattle.radii.specs.Steps.{Listed}
 use Rattle.radii.specs.declared.Radii.{Radii}
 use Rattle.ball_pivoting.specs.Reconstruct.{Found, slots, refused, accepted, delivered, facesAfter}
 use Rattle.ball_pivoting.specs.Unsplit.{NoTriangle}
-use Rattle.ball_pivoting.specs.Parts.{Finds}
+use Rattle.ball_pivoting.specs.Parts.{acceptedBy, Finds}
 use Rattle.ball_pivoting.specs.declared.Finding.{Finding}
 use Rattle.ball_pivoting.specs.declared.Patch.{Patch}
 use Rattle.ball_pivoting.proofs.Reasons.{not-zero, not-nine}
@@ -51,17 +51,8 @@ module _ (why : ℕ) (f : Found) (rs : List Float) (ms lent slice : List ℕ) (r
       let not-none : length (f .faces) ≡ 0 → ⊥ = λ q. some (h .faces ∙ q) in
       (rw (ne-eqb (length (f .faces)) 0 not-none, lt-ltb (length lent / 3) (length (f .faces)) more) e, rw e (cleared ∙ ap (λ (k : ℕ). replicate k 0) room))
 
-  pub delivers-faces : (r .faces ≡ 0 → ⊥) → r .faces ≤ length slice / 3 → (p : Patch) → p ≡ record {
-    answer = 0;
-    detail = 0;
-    faces = r .faces;
-    seeds = r .seeds;
-    looks = r .looks;
-    pivots = r .pivots;
-    «radii_count» = r .radii .count;
-    radii = r .radii .list;
-  } → (p ≡ delivered why f rs (length lent)) × (slice ≡ facesAfter p f lent)
-  unfolding delivered facesAfter accepted
+  pub delivers-faces : (r .faces ≡ 0 → ⊥) → r .faces ≤ length slice / 3 → (p : Patch) → p ≡ acceptedBy r → (p ≡ delivered why f rs (length lent)) × (slice ≡ facesAfter p f lent)
+  unfolding delivered facesAfter accepted acceptedBy
   delivers-faces some fit p e =
       let fits : length (f .faces) ≤ length lent / 3 = subst (λ (k : ℕ). length (f .faces) ≤ k / 3) room (subst (λ (k : ℕ). k ≤ length slice / 3) (h .faces) fit) in
       let not-none : length (f .faces) ≡ 0 → ⊥ = λ q. some (h .faces ∙ q) in

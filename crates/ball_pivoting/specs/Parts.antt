@@ -56,6 +56,19 @@ pub record Finds
   pub reason : r .faces ≡ 0 → r .reason ≡ why
   pub written-in : slice ≡ written (f .faces) lent
 
+-- an account as the public struct has it
+unfoldable pub acceptedBy : Finding → Patch
+acceptedBy r = record {
+  answer = 0;
+  detail = 0;
+  faces = r .faces;
+  seeds = r .seeds;
+  looks = r .looks;
+  pivots = r .pivots;
+  «radii_count» = r .radii .count;
+  radii = r .radii .list;
+}
+
 -- whatever was found comes back as the definition says
 abbrev pub Delivers : Finding → List ℕ → Patch → List ℕ → Type 0
 Delivers found slice p back = (why : ℕ) (f : Found) (rs : List Float) (ms lent : List ℕ) → NoTriangle why

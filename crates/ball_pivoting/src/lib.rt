@@ -7,7 +7,7 @@ ghost use mathlib.Core.Path.{_≡_};
 ghost use Prim.Native.Nat.{_≤_};
 ghost use Rattle.ball_pivoting.specs.Reconstruct.{refused};
 ghost use Rattle.ball_pivoting.specs.Outcome.{Reconstructs};
-ghost use Rattle.ball_pivoting.specs.Parts.{Delivers};
+ghost use Rattle.ball_pivoting.specs.Parts.{acceptedBy, Delivers};
 
 // The answer's number and detail, 0 where the cloud is accepted; how many faces, seeds, looks and pivots there are; the
 // radii.
@@ -51,6 +51,25 @@ pub fn refuse(answer: u32, detail: u32) -> Patch
     }
 }
 
+// What was found and fits.
+pub fn accept(found: Finding) -> Patch
+    requires { ⌜ found .faces ≤ 10000 ⌝ }
+    ensures { λ r. ⌜ r ≡ acceptedBy found ⌝ }
+{
+    let radii = found.radii;
+    let list = radii.list;
+    Patch {
+        answer: 0,
+        detail: 0,
+        faces: found.faces as u32,
+        seeds: found.seeds,
+        looks: found.looks,
+        pivots: found.pivots,
+        radii_count: radii.count,
+        radii: list,
+    }
+}
+
 // What is found comes back if it is some faces and they fit; the faces that fit stand in the slice already.
 fn deliver(found: Finding, faces: &mut [u32]) -> Patch
     requires { ⌜ found .faces ≤ 10000 ⌝ }
@@ -64,18 +83,7 @@ fn deliver(found: Finding, faces: &mut [u32]) -> Patch
         clearing::clear_u32(faces);
         return refuse(answers::FACES, 0);
     }
-    let radii = found.radii;
-    let list = radii.list;
-    Patch {
-        answer: 0,
-        detail: 0,
-        faces: count as u32,
-        seeds: found.seeds,
-        looks: found.looks,
-        pivots: found.pivots,
-        radii_count: radii.count,
-        radii: list,
-    }
+    accept(found)
 }
 
 // Lays a patch over a cloud.

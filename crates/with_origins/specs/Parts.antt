@@ -23,19 +23,6 @@ pub record FindsFor
   pub finds : Finds (reason c pts) (found c pts) (radiiOf c pts) (marksOf c pts) room r back
   pub held : slice ≡ cond (turnsPlain turn (radiiOf c pts)) lent (written (found c pts .faces) lent)
 
--- an account as the public struct has it
-unfoldable pub acceptedBy : Finding → Patch
-acceptedBy r = record {
-  answer = 0;
-  detail = 0;
-  faces = r .faces;
-  seeds = r .seeds;
-  looks = r .looks;
-  pivots = r .pivots;
-  «radii_count» = r .radii .count;
-  radii = r .radii .list;
-}
-
 -- room for an account of what is found over n points: of the multi-radius path no more faces than points
 pub record Held (r : Finding) (n : ℕ) (words : List ℕ) : Type 0 where
   pub few : r .faces ≤ 10000

@@ -21,7 +21,7 @@ ghost use Rattle.ball_pivoting.specs.Reconstruct.{pointCount, plainly, reasonBy
 ghost use Rattle.ball_pivoting.specs.Parts.{Ready, Finds};
 ghost use Rattle.with_origins.specs.Call.{over};
 ghost use Rattle.with_origins.specs.Outcome.{ReconstructsWithOrigins};
-ghost use Rattle.with_origins.specs.Parts.{FindsFor, acceptedBy, Held, Delivers};
+ghost use Rattle.with_origins.specs.Parts.{FindsFor, Held, Delivers};
 
 // How many plain faces there are: the path runs over a slice without room, and none is written.
 fn count_plain(
@@ -108,24 +108,6 @@ fn write_laid(
     }
 }
 
-fn accept(found: Finding) -> Patch
-    requires { ⌜ found .faces ≤ 10000 ⌝ }
-    ensures { λ r. ⌜ r ≡ acceptedBy found ⌝ }
-{
-    let radii = found.radii;
-    let list = radii.list;
-    Patch {
-        answer: 0,
-        detail: 0,
-        faces: found.faces as u32,
-        seeds: found.seeds,
-        looks: found.looks,
-        pivots: found.pivots,
-        radii_count: radii.count,
-        radii: list,
-    }
-}
-
 // What is found over n points comes back if it is some faces, they fit, and they can be turned if they are to be.
 fn deliver(
     found: Finding,
@@ -151,13 +133,13 @@ fn deliver(
     let radii = found.radii;
     if radii.count != 0 {
         write_laid(found, turned, n, faces, origins, words);
-        return accept(found);
+        return ball_pivoting::accept(found);
     }
     if turned {
         return ball_pivoting::refuse(answers::TURNED_PLAIN, 0);
     }
     tracing::write_plain_origins(count, origins);
-    accept(found)
+    ball_pivoting::accept(found)
 }
 
 // Lays a patch over a cloud, and says where each face came from.

@@ -1,5 +1,4 @@
 -- Nothing found, more than fits, or the faces. Assumes nothing.
-use mathlib.Core.Path.{refl}
 use Rattle.ball_pivoting.proofs.Delivered.{delivers-none, delivers-over, delivers-faces}
 use borrow.Author.Needs.{needs}
 use Rattle.ball_pivoting.proofs.deliver.Statement.{statement}
@@ -25,12 +24,12 @@ returns-2 : tie.Need-returns-2
 returns-2 c =
     λ why f rs ms lent named h. delivers-over why f rs ms lent _ _ named h _ _ (c .refuse2 .ensures) (c .before .before .before .clear-u32 .ensures) (c .before .before .before .before .before .before .if1 .left) (c .before .before .before .before .before .if2 .taken)
 
-cast-t12 : tie.Need-cast-t12
-cast-t12 c = search needs
+accept-requires : tie.Need-accept-requires
+accept-requires c κs = search needs
 
 returns-3 : tie.Need-returns-3
 returns-3 c =
-    λ why f rs ms lent named h. delivers-faces why f rs ms lent _ _ named h (c .before .before .before .if1 .left) (c .before .before .if2 .left) _ refl
+    λ why f rs ms lent named h. delivers-faces why f rs ms lent _ _ named h (c .before .before .if1 .left) (c .before .if2 .left) _ (c .accept .ensures)
 
 pub deliver-spec : {M : Type 1} → statement M
-deliver-spec = tie.close (tie.spec refuse-requires returns clear-u32-requires refuse-requires-2 same-length returns-2 cast-t12 returns-3)
+deliver-spec = tie.close (tie.spec refuse-requires returns clear-u32-requires refuse-requires-2 same-length returns-2 accept-requires returns-3)

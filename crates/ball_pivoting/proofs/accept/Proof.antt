@@ -1,9 +1,9 @@
 -- The account as the public struct has it. Assumes nothing.
 use mathlib.Core.Path.{refl}
-use Rattle.with_origins.specs.Parts.{acceptedBy}
+use Rattle.ball_pivoting.specs.Parts.{acceptedBy}
 use borrow.Author.Needs.{needs}
-use Rattle.with_origins.proofs.accept.Statement.{statement}
-use Rattle.with_origins.proofs.accept.Tie as tie
+use Rattle.ball_pivoting.proofs.accept.Statement.{statement}
+use Rattle.ball_pivoting.proofs.accept.Tie as tie
 
 cast-t4 : tie.Need-cast-t4
 cast-t4 c = search needs
