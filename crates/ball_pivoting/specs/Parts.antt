@@ -1,5 +1,5 @@
 -- What the parts of the main call ask and give. Definitions only.
-use Prim.Native.Nat.{ℕ, _+_, _*_, _≤_, _<_}
+use Prim.Native.Nat.{ℕ, _*_, _≤_, _<_}
 use mathlib.Core.Path.{_≡_}
 use mathlib.Core.List.{List}
 use lib.ListN.{length, take}
@@ -15,6 +15,7 @@ use Rattle.patch.specs.View.{written}
 use Rattle.decisions.specs.Decisions.{floatsOf}
 use Rattle.origins.specs.Following.{marksFrom}
 use Rattle.radii.specs.Steps.{Listed}
+use Rattle.regions.specs.Regions.{wordsLength, floatsLength}
 use Rattle.ball_pivoting.specs.Reconstruct.{Found, pointCount, sceneOf, radiiOf, delivered, facesAfter}
 use Rattle.ball_pivoting.specs.Unsplit.{NoTriangle}
 use Rattle.ball_pivoting.specs.declared.Finding.{Finding}
@@ -26,12 +27,12 @@ pub record Sized (points : List Float) (words : List ℕ) : Type 0 where
   pub few : pointCount points ≤ 4096
   pub threes : length points ≡ 3 * pointCount points
   pub numbers : (i : ℕ) → i < pointCount points → Finite (pointAt points i)
-  pub words-enough : 24 * pointCount points + 64 ≤ length words
+  pub words-enough : wordsLength (pointCount points) ≤ length words
 
 -- what the checks leave for the work that follows
 pub record Ready (c : BallPivotingConfig) (points : List Float) (words : List ℕ) (floats : List Float) : Type 0 where
   pub sized : Sized points words
-  pub floats-enough : 4 * pointCount points + 64 ≤ length floats
+  pub floats-enough : floatsLength (pointCount points) ≤ length floats
   pub percentiles : c .«percentile_count» ≤ 8
   pub additional : c .«additional_count» ≤ 8
   pub settled : Settled c

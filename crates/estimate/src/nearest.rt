@@ -10,6 +10,7 @@ ghost use lib.ListN.{length, take, drop};
 ghost use lib.Ieee.{inf};
 ghost use Rattle.lists.specs.Members.{Below};
 ghost use Rattle.spatial_hash.specs.Near.{HashedAll};
+ghost use Rattle.regions.specs.Regions.{neighborsAt, usedAt};
 ghost use Rattle.estimate.specs.Estimate.{leastDistance};
 ghost use Rattle.estimate.specs.Squares.{lesser, leastSquare, Looked};
 
@@ -33,15 +34,15 @@ fn lesser(points: &[f32], i: usize, j: usize, s: f32) -> f32
 
 // The least squared distance from point i to another of the `found` points that are listed; infinity if there is none.
 fn least_square(points: &[f32], n: usize, i: usize, w: &[u32], found: usize) -> f32
-    requires { ⌜ (i < n) × (n ≤ 4096) × (found ≤ n) × (3 * n ≤ length (now points)) × (5 * n ≤ length (now w))
-        × Below n (take found (drop (4 * n) (now w))) ⌝ }
+    requires { ⌜ (i < n) × (n ≤ 4096) × (found ≤ n) × (3 * n ≤ length (now points)) × (usedAt n ≤ length (now w))
+        × Below n (take found (drop (neighborsAt n) (now w))) ⌝ }
     ensures { λ r. ⌜ r
-        ≡ leastSquare (now (points .entry)) i (inf false) (take found (drop (4 * n) (now (w .entry)))) ⌝ }
+        ≡ leastSquare (now (points .entry)) i (inf false) (take found (drop (neighborsAt n) (now (w .entry)))) ⌝ }
 {
     let mut s = infinity();
     let mut k: usize = 0;
     while k < found {
-        s = lesser(points, i, w[4 * n + k] as usize, s);
+        s = lesser(points, i, w[regions::NEIGHBORS * n + k] as usize, s);
         k += 1;
     }
     s

@@ -6,7 +6,7 @@ use mathlib.Core.Logic.{_≢_}
 use mathlib.Core.Bool.{Bool, false}
 use mathlib.Core.List.{List, [], _∷_, _++_, map}
 use lib.ListN.{length, getD, take, drop}
-use Rattle.regions.specs.Regions.{usedAt, usedIn, frontierAt, frontierEnd}
+use Rattle.regions.specs.Regions.{usedAt, usedIn, frontierAt, frontierEnd, wordsLength}
 use Rattle.lists.specs.Lists.{bit, any}
 use Rattle.patch.specs.Lay.{Edge, edge, same, Face, State, Pop, seedsOf, marked, popped, cleared, pivoted, blank}
 use Rattle.patch.specs.Frontier.{afterPop}
@@ -93,7 +93,7 @@ Misses c r = (n : ℕ) (w slice lent : List ℕ) (e : Edge) (s : State) → Alon
 pub record Sized (n : ℕ) (w : List ℕ) : Type 0 where
   pub some : 0 < n
   pub few : n ≤ 4096
-  pub long : 24 * n + 64 ≤ length w
+  pub long : wordsLength n ≤ length w
 
 pub record Ready (n : ℕ) (c : Counts) (w : List ℕ) : Type 0 where
   pub sized : Sized n w

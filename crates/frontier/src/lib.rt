@@ -41,7 +41,7 @@ fn clear_used(w: &mut [u32], n: usize)
 {
     let mut i: usize = 0;
     while i < n {
-        w[5 * n + i] = 0;
+        w[regions::USED * n + i] = 0;
         i += 1;
     }
 }
@@ -78,7 +78,7 @@ fn pop_frontier(w: &mut [u32], n: usize, first: usize, count: usize) -> u32
     requires { ⌜ Sized n (now w) × (0 < count) × (first + count ≤ 3 * n) ⌝ }
     ensures { λ r. ⌜ Taken n first count (now (w .entry)) (now (w .exit)) r ⌝ }
 {
-    let at = 6 * n + first;
+    let at = regions::FRONTIER * n + first;
     heap::pop(&mut w[at..], count)
 }
 
@@ -106,7 +106,7 @@ fn pop_queue(w: &[u32], n: usize, c: Counts) -> Popped
 {
     let front = c.first;
     let left = c.frontier - 1;
-    let at = 6 * n + front;
+    let at = regions::FRONTIER * n + front;
     let mut r = c;
     r.first = front + 1;
     r.frontier = left;
@@ -141,7 +141,7 @@ fn push_edge(w: &mut [u32], n: usize, end: usize, mark: u32, a: u32, b: u32)
     requires { ⌜ Sized n (now w) × (end + 1 ≤ 3 * n) × (mark ≤ flag) × (a < 4096) × (b < 4096) ⌝ }
     ensures { λ _. ⌜ Pushed n end (wordOf mark (edge a b) ∷ []) (now (w .entry)) (now (w .exit)) ⌝ }
 {
-    let i = 6 * n + end;
+    let i = regions::FRONTIER * n + end;
     w[i] = a * 4096 + b + mark;
 }
 
@@ -169,7 +169,7 @@ fn mark_used(w: &mut [u32], n: usize, k: u32)
     requires { ⌜ Sized n (now w) × (k < n) ⌝ }
     ensures { λ _. ⌜ Marked n (k ∷ []) (now (w .entry)) (now (w .exit)) ⌝ }
 {
-    let i = 5 * n + k as usize;
+    let i = regions::USED * n + k as usize;
     w[i] = 1;
 }
 

@@ -7,13 +7,16 @@ use lib.Dec.{ltb}
 use lib.ListN.{length, getD}
 use lib.Ieee.{Float}
 use Rattle.points.specs.Points.{pointAt}
+use Rattle.regions.specs.Regions.{cellsAt, wordsLength}
 use Rattle.grid.specs.declared.SpatialGrid.{SpatialGrid}
 use Rattle.grid.specs.declared.Cell.{Cell}
 use Rattle.grid.specs.Grid.{cellOf, before, inRange}
 
--- the cell that is kept for point i: three words, in the region that starts at n
+-- the cell that is kept for point i: three words
 unfoldable pub cellIn : List ℕ → ℕ → ℕ → Cell
-cellIn w n i = record { x = getD w (n + 3 * i) 0; y = getD w (n + 3 * i + 1) 0; z = getD w (n + 3 * i + 2) 0 }
+cellIn w n i =
+    let at = cellsAt n + 3 * i in
+    record { x = getD w at 0; y = getD w (at + 1) 0; z = getD w (at + 2) 0 }
 
 -- the kept cells are those of the points
 abbrev pub Cells : SpatialGrid → List Float → ℕ → List ℕ → Type 0
@@ -22,7 +25,7 @@ Cells g pts n w = (i : ℕ) → i < n → cellIn w n i ≡ cellOf g (pointAt pts
 -- what `build_spatial_grid` leaves and the searches need
 pub record Indexed (g : SpatialGrid) (pts : List Float) (n : ℕ) (w : List ℕ) : Type 0 where
   pub few : n ≤ 4096
-  pub room : 24 * n + 64 ≤ length w
+  pub room : wordsLength n ≤ length w
   pub cells : Cells g pts n w
 
 -- ---- the definitions of Grid.antt, over the kept cells

@@ -5,8 +5,9 @@ pub mod search;
 
 use vector::Point3f;
 ghost use mathlib.Core.Path.{_≡_};
-ghost use Prim.Native.Nat.{_+_, _*_, _≤_};
+ghost use Prim.Native.Nat.{_*_, _≤_};
 ghost use lib.ListN.{length, drop};
+ghost use Rattle.regions.specs.Regions.{neighborsAt, wordsLength};
 ghost use Rattle.grid.specs.Grid.{boundsMin, gridOf, cellOf};
 ghost use Rattle.grid.specs.Index.{Indexed};
 
@@ -45,10 +46,10 @@ pub fn cell_of(grid: SpatialGrid, p: Point3f) -> Cell
 
 // Indexes n points: keeps the cell of each.
 pub fn build_spatial_grid(points: &[f32], n: usize, cell_size: f32, w: &mut [u32]) -> SpatialGrid
-    requires { ⌜ (n ≤ 4096) × (3 * n ≤ length (now points)) × (24 * n + 64 ≤ length (now w)) ⌝ }
+    requires { ⌜ (n ≤ 4096) × (3 * n ≤ length (now points)) × (wordsLength n ≤ length (now w)) ⌝ }
     ensures { λ r. ⌜ (r ≡ gridOf «cell_size» (now (points .entry)) n)
         × Indexed r (now (points .entry)) n (now (w .exit))
-        × (drop (4 * n) (now (w .exit)) ≡ drop (4 * n) (now (w .entry))) ⌝ }
+        × (drop (neighborsAt n) (now (w .exit)) ≡ drop (neighborsAt n) (now (w .entry))) ⌝ }
 {
     let grid = SpatialGrid {
         cell_size: cell_size,

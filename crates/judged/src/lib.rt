@@ -73,7 +73,7 @@ fn find_third(
     requires { ⌜ Around s (now points) (now w) radius f i × Listed s (now w) count × (j < s .n) ⌝ }
     ensures { λ r. ⌜ r ≡ any (isBesideBoth s (now (points .entry)) radius i j) (listed s (now (w .entry)) count) ⌝ }
 {
-    let at = 4 * s.n;
+    let at = regions::NEIGHBORS * s.n;
     let mut m: usize = 0;
     while m < count {
         let k = w[at + m] as usize;
@@ -119,7 +119,7 @@ fn find_second(
     ensures { λ r. ⌜ r ≡ any (hasThird s (now (points .entry)) radius (listed s (now (w .entry)) count) i)
         (listed s (now (w .entry)) count) ⌝ }
 {
-    let at = 4 * s.n;
+    let at = regions::NEIGHBORS * s.n;
     let mut m: usize = 0;
     while m < count {
         let j = w[at + m] as usize;

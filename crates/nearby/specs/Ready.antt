@@ -4,7 +4,7 @@ use mathlib.Core.Path.{_≡_}
 use mathlib.Core.List.{List}
 use lib.ListN.{length, take, drop, getD}
 use lib.Ieee.{Float}
-use Rattle.regions.specs.Regions.{neighborsAt, usedAt}
+use Rattle.regions.specs.Regions.{neighborsAt, usedAt, wordsLength}
 use Rattle.regions.specs.Regions as regions
 use Rattle.decisions.specs.declared.Scene.{Scene}
 
@@ -12,7 +12,7 @@ use Rattle.decisions.specs.declared.Scene.{Scene}
 pub record Held (s : Scene) (points : List Float) (w : List ℕ) : Type 0 where
   pub few : s .n ≤ 4096
   pub points-long : length points ≡ 3 * s .n
-  pub work-long : 24 * s .n + 64 ≤ length w
+  pub work-long : wordsLength (s .n) ≤ length w
 
 -- of each point whether it is used
 abbrev pub usedIn : Scene → List ℕ → List ℕ

@@ -5,12 +5,13 @@ use grid::Cell;
 use spatial_hash::Hash;
 use vector::Point3f;
 ghost use mathlib.Core.Path.{_≡_};
-ghost use Prim.Native.Nat.{_*_, _<_, _≤_, _+_};
+ghost use Prim.Native.Nat.{_<_, _≤_};
 ghost use lib.ListN.{length};
 ghost use Rattle.grid.specs.Index.{Cells};
 ghost use Rattle.vector.specs.Vector.{Finite};
 ghost use Rattle.spatial_hash.specs.Near.{Hashed};
 ghost use Rattle.lists.specs.Lists.{unused};
+ghost use Rattle.regions.specs.Regions.{wordsLength};
 ghost use Rattle.nearby.specs.Ready.{Held, Listed, usedIn};
 ghost use Rattle.nearby.specs.Narrow.{passes, Filters, Collected, Narrowed};
 
@@ -24,10 +25,10 @@ pub struct Filter {
 
 // Whether no face has point k yet.
 pub fn is_unused(s: Scene, w: &[u32], k: usize) -> bool
-    requires { ⌜ (24 * s .n + 64 ≤ length (now w)) × (s .n ≤ 4096) × (k < s .n) ⌝ }
+    requires { ⌜ (wordsLength (s .n) ≤ length (now w)) × (s .n ≤ 4096) × (k < s .n) ⌝ }
     ensures { λ r. ⌜ r ≡ unused (usedIn s (now (w .entry))) k ⌝ }
 {
-    w[5 * s.n + k] == 0
+    w[regions::USED * s.n + k] == 0
 }
 
 // Whether point k is as the filter asks.
@@ -49,7 +50,7 @@ pub fn narrow(s: Scene, points: &[f32], w: &mut [u32], f: Filter, found: usize) 
     requires { ⌜ Held s (now points) (now w) × Cells (s .grid) (now points) (s .n) (now w) × Listed s (now w) found ⌝ }
     ensures { λ r. ⌜ Narrowed s (now (points .entry)) f (now (w .entry)) (now (w .exit)) found r ⌝ }
 {
-    let at = 4 * s.n;
+    let at = regions::NEIGHBORS * s.n;
     let mut kept: usize = 0;
     let mut m: usize = 0;
     while m < found {

@@ -132,7 +132,7 @@ fn best_of(
         (scoreIn s (now (points .entry)) radius (usedIn s (now (w .entry))) f (edge a b))
         (listed s (now (w .entry)) count) (f32 0) none) ⌝ }
 {
-    let at = 4 * s.n;
+    let at = regions::NEIGHBORS * s.n;
     let p = points::point_at(points, a);
     let side = scores::side_of(p, points::point_at(points, b));
     let mut top = 0.0;

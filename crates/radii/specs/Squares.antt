@@ -1,6 +1,6 @@
 -- The least squared distances from a sample to its neighbours, and when those that were looked at decide. Definitions
 -- only.
-use Prim.Native.Nat.{ℕ, _+_, _*_, _≤_, _<_}
+use Prim.Native.Nat.{ℕ, _+_, _≤_, _<_}
 use mathlib.Core.Path.{_≡_}
 use mathlib.Core.Bool.{Bool, false, cond, not, _&&_, _||_}
 use mathlib.Core.List.{List, [], _∷_}
@@ -19,6 +19,7 @@ use Rattle.grid.specs.Grid.{cellOf, rangeOf, inRange}
 use Rattle.grid.specs.Index.{cellIn}
 use Rattle.spatial_hash.specs.declared.Hash.{Hash}
 use Rattle.spatial_hash.specs.Near.{HashedAll}
+use Rattle.regions.specs.Regions.{neighborsAt, usedAt, leastAt, radiiAt}
 use Rattle.radii.specs.declared.Around.{Around}
 
 -- the neighbours of a place at 3 × radius
@@ -56,7 +57,7 @@ withSquare near pts i j kept =
 
 -- of ten least squares the last, and no limit where there are fewer
 unfoldable pub tenthOf : List Float → ℕ → ℕ → Float
-tenthOf f n kept = cond (eqb kept 10) (getD f (n + 9) nan) (inf false)
+tenthOf f n kept = cond (eqb kept 10) (getD f (leastAt n + 9) nan) (inf false)
 
 -- every point is listed, each once
 abbrev pub Whole : ℕ → List ℕ → Type 0
@@ -65,20 +66,20 @@ Whole n js = (j : ℕ) → count (eqb j) js ≡ bit (ltb j n)
 -- what a search for the least squares of point i needs
 pub record Prepared (h : Hash) (pts : List Float) (n i : ℕ) (w : List ℕ) (f : List Float) : Type 0 where
   pub inside : i < n
-  pub room : n + 10 ≤ length f
+  pub room : radiiAt n ≤ length f
   pub hashed : HashedAll h pts n w
 
 -- the r numbers in the region of the least distances are the least squares from point i to its other neighbours, of all
 -- points
 abbrev pub Decided : Around → List Float → ℕ → ℕ → List ℕ → List Float → ℕ → Type 0
-Decided a pts n i w f r = take r (drop n f) ≡ leastSquares (isNear a w n) pts i (upFrom 0 n)
+Decided a pts n i w f r = take r (drop (leastAt n) f) ≡ leastSquares (isNear a w n) pts i (upFrom 0 n)
 
 -- what changes in the slices, w to u and f to g, while a sample's squares are looked for: the list of neighbours, and
 -- the region of the least distances
 pub record Kept (n : ℕ) (w u : List ℕ) (f g : List Float) : Type 0 where
-  pub front : take n g ≡ take n f
-  pub before : take (4 * n) u ≡ take (4 * n) w
-  pub after : drop (5 * n) u ≡ drop (5 * n) w
+  pub front : take (leastAt n) g ≡ take (leastAt n) f
+  pub before : take (neighborsAt n) u ≡ take (neighborsAt n) w
+  pub after : drop (usedAt n) u ≡ drop (usedAt n) w
 
 -- a look from point i decides if it found ten squares
 pub record Looked (a : Around) (pts : List Float) (n i : ℕ) (w u : List ℕ) (f g : List Float) (r : ℕ) : Type 0 where

@@ -1,5 +1,5 @@
 -- What the contracts of the steps cite. Definitions only.
-use Prim.Native.Nat.{ℕ, _+_, _-_, _*_, _≤_, _<_}
+use Prim.Native.Nat.{ℕ, _+_, _-_, _≤_, _<_}
 use mathlib.Core.Path.{_≡_}
 use mathlib.Core.Bool.{cond}
 use mathlib.Core.List.{List, [], _∷_, _++_}
@@ -13,6 +13,7 @@ use Rattle.grid.specs.declared.SpatialGrid.{SpatialGrid}
 use Rattle.grid.specs.Index.{Indexed}
 use Rattle.spatial_hash.specs.declared.Hash.{Hash}
 use Rattle.spatial_hash.specs.Near.{HashedAll}
+use Rattle.regions.specs.Regions.{floatsLength}
 use Rattle.radii.specs.declared.Radii.{Radii}
 use Rattle.radii.specs.Radii.{average}
 
@@ -22,7 +23,7 @@ pub record Ready (c : BallPivotingConfig) (g : SpatialGrid) (h : Hash) (pts : Li
   pub some : 0 < n
   pub indexed : Indexed g pts n w
   pub hashed : HashedAll h pts n w
-  pub room : 4 * n + 64 ≤ length f
+  pub room : floatsLength n ≤ length f
   pub percentiles : c .«percentile_count» ≤ 8
   pub additional : c .«additional_count» ≤ 8
 

@@ -8,8 +8,8 @@ use grid::SpatialGrid;
 use settings::BallPivotingConfig;
 use spatial_hash::Hash;
 ghost use mathlib.Core.Path.{_≡_};
-ghost use Prim.Native.Nat.{_*_};
 ghost use lib.ListN.{take, drop};
+ghost use Rattle.regions.specs.Regions.{neighborsAt, usedAt};
 ghost use Rattle.radii.specs.Radii.{adaptiveRadii};
 ghost use Rattle.radii.specs.Steps.{Ready, Listed};
 
@@ -38,8 +38,8 @@ pub fn compute_adaptive_radii(
 ) -> Radii
     requires { ⌜ Ready config grid hash (now points) n (now w) (now f) ⌝ }
     ensures { λ r. ⌜ Listed (adaptiveRadii config grid (now (points .entry)) n) r
-        × (take (4 * n) (now (w .exit)) ≡ take (4 * n) (now (w .entry)))
-        × (drop (5 * n) (now (w .exit)) ≡ drop (5 * n) (now (w .entry))) ⌝ }
+        × (take (neighborsAt n) (now (w .exit)) ≡ take (neighborsAt n) (now (w .entry)))
+        × (drop (usedAt n) (now (w .exit)) ≡ drop (usedAt n) (now (w .entry))) ⌝ }
 {
     if !config.adaptive_radius {
         return Radii {

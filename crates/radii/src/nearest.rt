@@ -20,6 +20,7 @@ ghost use Rattle.sorting.specs.Sorted.{Rising};
 ghost use Rattle.points.specs.Points.{pointAt};
 ghost use Rattle.vector.specs.Vector.{Finite};
 ghost use Rattle.spatial_hash.specs.Near.{HashedAll};
+ghost use Rattle.regions.specs.Regions.{neighborsAt, usedAt, leastAt, radiiAt};
 ghost use Rattle.radii.specs.Radii.{nearest};
 ghost use Rattle.radii.specs.Squares.{isNear, within, aroundOf, tenthOf, withSquare, leastSquares, Decided};
 ghost use Rattle.radii.specs.Squares.{Prepared, Looked, Found};
@@ -38,7 +39,7 @@ fn around_of(config: BallPivotingConfig, grid: SpatialGrid, place: Point3f) -> A
 
 // Whether point j is another neighbour of point i.
 fn is_other(w: &[u32], n: usize, around: Around, i: usize, j: usize) -> bool
-    requires { ⌜ (j < n) × (n ≤ 4096) × (4 * n ≤ length (now w)) ⌝ }
+    requires { ⌜ (j < n) × (n ≤ 4096) × (neighborsAt n ≤ length (now w)) ⌝ }
     ensures { λ r. ⌜ r ≡ (not (eqb j i) && isNear around (now (w .entry)) n j) ⌝ }
 {
     if j == i {
@@ -62,14 +63,14 @@ fn look_at(
     f: &mut [f32],
     kept: usize,
 ) -> usize
-    requires { ⌜ (i < n) × (j < n) × (n ≤ 4096) × (3 * n ≤ length (now points)) × (4 * n ≤ length (now w))
-        × (n + 10 ≤ length (now f)) × (kept ≤ 10)
-        × Rising (take kept (drop n (now f))) ⌝ }
-    ensures { λ r. ⌜ (take r (drop n (now (f .exit)))
+    requires { ⌜ (i < n) × (j < n) × (n ≤ 4096) × (3 * n ≤ length (now points)) × (neighborsAt n ≤ length (now w))
+        × (radiiAt n ≤ length (now f)) × (kept ≤ 10)
+        × Rising (take kept (drop (leastAt n) (now f))) ⌝ }
+    ensures { λ r. ⌜ (take r (drop (leastAt n) (now (f .exit)))
         ≡ withSquare (within limit (isNear around (now (w .entry)) n) (now (points .entry)) i) (now (points .entry)) i
-        j (take kept (drop n (now (f .entry)))))
+        j (take kept (drop (leastAt n) (now (f .entry)))))
         × (r ≤ 10)
-        × (take n (now (f .exit)) ≡ take n (now (f .entry))) ⌝ }
+        × (take (leastAt n) (now (f .exit)) ≡ take (leastAt n) (now (f .entry))) ⌝ }
 {
     let p = points::point_at(points, j);
     let q = points::point_at(points, i);
@@ -95,14 +96,14 @@ fn least_squares(
     found: usize,
     f: &mut [f32],
 ) -> usize
-    requires { ⌜ (i < n) × (n ≤ 4096) × (found ≤ n) × (3 * n ≤ length (now points)) × (5 * n ≤ length (now w))
-        × (n + 10 ≤ length (now f)) × Below n (take found (drop (4 * n) (now w)))
+    requires { ⌜ (i < n) × (n ≤ 4096) × (found ≤ n) × (3 * n ≤ length (now points)) × (usedAt n ≤ length (now w))
+        × (radiiAt n ≤ length (now f)) × Below n (take found (drop (neighborsAt n) (now w)))
         × ((j : ℕ) → j < n → Finite (pointAt (now points) j)) ⌝ }
-    ensures { λ r. ⌜ (take r (drop n (now (f .exit)))
+    ensures { λ r. ⌜ (take r (drop (leastAt n) (now (f .exit)))
         ≡ leastSquares (within limit (isNear around (now (w .entry)) n) (now (points .entry)) i) (now (points .entry))
-        i (take found (drop (4 * n) (now (w .entry)))))
+        i (take found (drop (neighborsAt n) (now (w .entry)))))
         × (r ≤ 10)
-        × (take n (now (f .exit)) ≡ take n (now (f .entry))) ⌝ }
+        × (take (leastAt n) (now (f .exit)) ≡ take (leastAt n) (now (f .entry))) ⌝ }
 {
     let mut kept: usize = 0;
     let mut k: usize = 0;
@@ -112,7 +113,7 @@ fn least_squares(
             n,
             around,
             i,
-            w[4 * n + k] as usize,
+            w[regions::NEIGHBORS * n + k] as usize,
             limit,
             w,
             f,
@@ -146,7 +147,7 @@ fn look_within(
 
 // Where there are ten squares the tenth, beyond which none counts, and no limit else.
 fn tenth(f: &[f32], n: usize, kept: usize) -> f32
-    requires { ⌜ (n ≤ 4096) × (n + 10 ≤ length (now f)) ⌝ }
+    requires { ⌜ (n ≤ 4096) × (radiiAt n ≤ length (now f)) ⌝ }
     ensures { λ r. ⌜ r ≡ tenthOf (now (f .entry)) n kept ⌝ }
 {
     if kept == 10 { f[n + 9] } else { 1.0 / 0.0 }
@@ -168,12 +169,12 @@ fn look_everywhere(
     w: &[u32],
     f: &mut [f32],
 ) -> usize
-    requires { ⌜ (i < n) × (n ≤ 4096) × (3 * n ≤ length (now points)) × (4 * n ≤ length (now w))
-        × (n + 10 ≤ length (now f))
+    requires { ⌜ (i < n) × (n ≤ 4096) × (3 * n ≤ length (now points)) × (neighborsAt n ≤ length (now w))
+        × (radiiAt n ≤ length (now f))
         × ((j : ℕ) → j < n → Finite (pointAt (now points) j)) ⌝ }
     ensures { λ r. ⌜ Decided around (now (points .entry)) n i (now (w .entry)) (now (f .exit)) r
         × (r ≤ 10)
-        × (take n (now (f .exit)) ≡ take n (now (f .entry))) ⌝ }
+        × (take (leastAt n) (now (f .exit)) ≡ take (leastAt n) (now (f .entry))) ⌝ }
 {
     let mut kept: usize = 0;
     let mut j: usize = 0;
@@ -244,13 +245,13 @@ pub fn find_nearest(
     w: &mut [u32],
     f: &mut [f32],
 ) -> usize
-    requires { ⌜ (i < n) × (n + 10 ≤ length (now f)) × HashedAll hash (now points) n (now w)
+    requires { ⌜ (i < n) × (radiiAt n ≤ length (now f)) × HashedAll hash (now points) n (now w)
         × Indexed grid (now points) n (now w) ⌝ }
-    ensures { λ r. ⌜ (take r (drop n (now (f .exit))) ≡ nearest config grid (now (points .entry)) n i)
+    ensures { λ r. ⌜ (take r (drop (leastAt n) (now (f .exit))) ≡ nearest config grid (now (points .entry)) n i)
         × (r ≤ 10)
-        × (take n (now (f .exit)) ≡ take n (now (f .entry)))
-        × (take (4 * n) (now (w .exit)) ≡ take (4 * n) (now (w .entry)))
-        × (drop (5 * n) (now (w .exit)) ≡ drop (5 * n) (now (w .entry))) ⌝ }
+        × (take (leastAt n) (now (f .exit)) ≡ take (leastAt n) (now (f .entry)))
+        × (take (neighborsAt n) (now (w .exit)) ≡ take (neighborsAt n) (now (w .entry)))
+        × (drop (usedAt n) (now (w .exit)) ≡ drop (usedAt n) (now (w .entry))) ⌝ }
 {
     let around = around_of(config, grid, points::point_at(points, i));
     let kept = find_squares(points, n, hash, around, i, guess, w, f);
@@ -261,7 +262,7 @@ pub fn find_nearest(
 // A guess for the next sample: a little more than the tenth distance of the last one that had ten. It grows slowly,
 // since a look too wide costs more than one too narrow.
 pub fn guess_after(f: &[f32], n: usize, guess: f32) -> f32
-    requires { ⌜ (n ≤ 4096) × (n + 10 ≤ length (now f)) ⌝ }
+    requires { ⌜ (n ≤ 4096) × (radiiAt n ≤ length (now f)) ⌝ }
 {
     let next = f[n + 9] * 1.15;
     let most = guess * 1.2;

@@ -10,6 +10,15 @@ pub record Region : Type 0 where
 
 -- ---- the u32 slice
 
+-- how many words are lent
+abbrev pub wordsLength : ℕ → ℕ
+wordsLength n = 24 * n + 64
+
+-- the front: the candidates that the plain path lists; and, once a patch is laid and all words are cleared, of each
+-- point the face that brought it in, and then of each face which way it looks
+abbrev pub frontAt : ℕ → ℕ
+frontAt n = 0
+
 -- the cell of each point, three numbers to a point
 abbrev pub cellsAt : ℕ → ℕ
 cellsAt n = n
@@ -37,6 +46,10 @@ frontierEnd n = 9 * n
 abbrev pub linksAt : ℕ → ℕ
 linksAt n = 9 * n
 
+-- how many buckets there may be
+abbrev pub bucketRoom : ℕ → ℕ
+bucketRoom n = 6 * n + 64
+
 -- of each bucket its first point while the hash is built, and where its points start in the order
 abbrev pub startsAt : ℕ → ℕ
 startsAt n = 10 * n
@@ -45,20 +58,29 @@ startsAt n = 10 * n
 abbrev pub orderAt : ℕ → ℕ
 orderAt n = 16 * n + 64
 
+-- where the order ends: the words from here on are free
+abbrev pub wordsEnd : ℕ → ℕ
+wordsEnd n = 17 * n + 64
+
 abbrev pub words : ℕ → List Region
 words n =
-    record { start = cellsAt n; size = 3 * n }
+    record { start = frontAt n; size = n }
+    ∷ record { start = cellsAt n; size = 3 * n }
     ∷ record { start = neighborsAt n; size = n }
     ∷ record { start = usedAt n; size = n }
     ∷ record { start = frontierAt n; size = 3 * n }
     ∷ record { start = linksAt n; size = n }
-    ∷ record { start = startsAt n; size = 6 * n + 64 }
+    ∷ record { start = startsAt n; size = bucketRoom n }
     ∷ record { start = orderAt n; size = n }
     ∷ []
 
 -- ---- the f32 slice
 
--- the samples' densities, or their least distances
+-- how many numbers are lent
+abbrev pub floatsLength : ℕ → ℕ
+floatsLength n = 4 * n + 64
+
+-- the samples' densities, or their least distances; on the plain path the candidates' distances
 abbrev pub samplesAt : ℕ → ℕ
 samplesAt n = 0
 
@@ -69,6 +91,10 @@ leastAt n = n
 -- the radii
 abbrev pub radiiAt : ℕ → ℕ
 radiiAt n = n + 10
+
+-- where they end: the numbers from here on are free
+abbrev pub radiiEnd : ℕ → ℕ
+radiiEnd n = n + 27
 
 abbrev pub floats : ℕ → List Region
 floats n =

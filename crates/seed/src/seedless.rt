@@ -8,10 +8,10 @@ use filters::Limits;
 use spatial_hash::Hash;
 ghost use mathlib.Core.Path.{_≡_};
 ghost use mathlib.Core.Bool.{true};
-ghost use Prim.Native.Nat.{_*_, _≤_, _<_, _+_};
+ghost use Prim.Native.Nat.{_*_, _≤_, _<_};
 ghost use lib.ListN.{length};
 ghost use Rattle.lists.specs.Lists.{unused};
-ghost use Rattle.regions.specs.Regions.{neighborsAt};
+ghost use Rattle.regions.specs.Regions.{neighborsAt, wordsLength};
 ghost use Rattle.spatial_hash.specs.Near.{Hashed};
 ghost use Rattle.filters.specs.Refused.{Limiting};
 ghost use Rattle.nearby.specs.Ready.{Held, Listed, Kept, usedIn};
@@ -80,7 +80,7 @@ fn pay_beside(
     ensures { λ r. ⌜ (0 < r
         → SeedlessAfter s (now (points .entry)) radius (now (w .entry)) (neighborsAt (s .n)) count i j from) ⌝ }
 {
-    let at = 4 * s.n;
+    let at = regions::NEIGHBORS * s.n;
     let mut left = purse;
     let mut m = from;
     while m < count {
@@ -114,7 +114,7 @@ fn pay_all(
     ensures { λ r. ⌜ (0 < r
         → AllSeedless s (now (points .entry)) radius (now (w .entry)) (neighborsAt (s .n)) count i) ⌝ }
 {
-    let at = 4 * s.n;
+    let at = regions::NEIGHBORS * s.n;
     let mut left = purse;
     let mut m: usize = 0;
     while m < count {
@@ -140,7 +140,7 @@ fn is_other(lo: usize, i: usize, k: usize) -> bool
 
 // Whether it is unused besides.
 fn is_left(s: Scene, w: &[u32], lo: usize, i: usize, k: usize) -> bool
-    requires { ⌜ (s .n ≤ 4096) × (24 * s .n + 64 ≤ length (now w)) × (k < s .n) ⌝ }
+    requires { ⌜ (s .n ≤ 4096) × (wordsLength (s .n) ≤ length (now w)) × (k < s .n) ⌝ }
     ensures { λ r. ⌜ r ≡ isLeft s lo i (now (w .entry)) k ⌝ }
 {
     if !is_other(lo, i, k) {
@@ -152,10 +152,10 @@ fn is_left(s: Scene, w: &[u32], lo: usize, i: usize, k: usize) -> bool
 // Leaves those of the listed points that are unused and come after point i or before point lo, in no order, and returns
 // how many they are.
 fn keep_left(s: Scene, w: &mut [u32], found: usize, lo: usize, i: usize) -> usize
-    requires { ⌜ (s .n ≤ 4096) × (24 * s .n + 64 ≤ length (now w)) × Listed s (now w) found ⌝ }
+    requires { ⌜ (s .n ≤ 4096) × (wordsLength (s .n) ≤ length (now w)) × Listed s (now w) found ⌝ }
     ensures { λ r. ⌜ Left s lo i (now (w .entry)) (now (w .exit)) found r ⌝ }
 {
-    let at = 4 * s.n;
+    let at = regions::NEIGHBORS * s.n;
     let mut kept: usize = 0;
     let mut m: usize = 0;
     while m < found {
@@ -174,7 +174,7 @@ fn count_near(s: Scene, points: &[f32], w: &[u32], count: usize, far: f32) -> us
     requires { ⌜ Held s (now points) (now w) × Listed s (now w) count ⌝ }
     ensures { λ r. ⌜ r ≤ count ⌝ }
 {
-    let at = 4 * s.n;
+    let at = regions::NEIGHBORS * s.n;
     let half = count / 2;
     let mut near: usize = 0;
     let mut m: usize = 0;

@@ -82,7 +82,7 @@ fn find_third(
         ≡ seedFound (thirdOf (floatsOf s (now (points .entry))) radius (usedIn s (now (w .entry))) i j
         (listed s (now (w .entry)) count)) ⌝ }
 {
-    let at = 4 * s.n;
+    let at = regions::NEIGHBORS * s.n;
     let mut m: usize = 0;
     while m < count {
         let k = w[at + m] as usize;
@@ -133,7 +133,7 @@ fn find_second(
         ≡ seedFound (secondOf (floatsOf s (now (points .entry))) radius (usedIn s (now (w .entry))) i
         (listed s (now (w .entry)) count) (listed s (now (w .entry)) count)) ⌝ }
 {
-    let at = 4 * s.n;
+    let at = regions::NEIGHBORS * s.n;
     let mut m: usize = 0;
     while m < count {
         let j = w[at + m] as usize;

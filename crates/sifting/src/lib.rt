@@ -27,7 +27,7 @@ pub fn keep_within(
     requires { ⌜ Lists (now points) n (now w) found ⌝ }
     ensures { λ r. ⌜ Sifted (now (points .entry)) n place limit (now (w .entry)) (now (w .exit)) found r ⌝ }
 {
-    let at = 4 * n;
+    let at = regions::NEIGHBORS * n;
     let mut kept: usize = 0;
     let mut m: usize = 0;
     while m < found {

@@ -12,7 +12,7 @@ use Rattle.numbers.specs.Rounded.{f32}
 use Rattle.vector.specs.Vector.{Finite}
 use Rattle.vector.specs.declared.Point3f.{Point3f}
 use Rattle.points.specs.Points.{pointAt}
-use Rattle.regions.specs.Regions.{neighborsAt, usedAt, linksAt, startsAt}
+use Rattle.regions.specs.Regions.{neighborsAt, usedAt, linksAt, startsAt, bucketRoom, wordsLength}
 use Rattle.lists.specs.Lists.{count, unused}
 use Rattle.lists.specs.Members.{Below}
 use Rattle.bounds.specs.declared.Bounds.{Bounds}
@@ -42,14 +42,14 @@ noneOut j = false
 pub record Ready (pts : List Float) (n : ℕ) (w : List ℕ) : Type 0 where
   pub few : n ≤ 4096
   pub points-long : 3 * n ≤ length pts
-  pub work-long : 24 * n + 64 ≤ length w
+  pub work-long : wordsLength n ≤ length w
   pub numbers : (i : ℕ) → i < n → Finite (pointAt pts i)
 
 -- a hash whose cell numbers keep the order of the coordinates, and whose buckets have words
 pub record Sound (h : Hash) (n : ℕ) : Type 0 where
   pub some : 0 < h .side
   pub few : h .side ≤ 24
-  pub fitting : buckets h ≤ 6 * n + 64
+  pub fitting : buckets h ≤ bucketRoom n
   pub positive : T (lt (f32 0) (h .scale))
   pub scale-finite : T (finite (h .scale))
   pub corner : Finite (h .least)

@@ -8,6 +8,7 @@ ghost use lib.Dec.{T};
 ghost use lib.Ieee.{lt};
 ghost use lib.Ieee.Scale.{finite};
 ghost use Rattle.numbers.specs.Rounded.{f32};
+ghost use Rattle.regions.specs.Regions.{bucketRoom};
 ghost use Rattle.spatial_hash.specs.Buckets.{slot, rowFor, placeFor, bucketOf, next, Spanning};
 
 // One over the size of a cell, or 1 if that is no use as a scale.
@@ -26,9 +27,9 @@ pub fn scale_for(size: f32) -> f32
 // How many cells on an axis have buckets of their own: as many as there is room for.
 pub fn side_for(n: usize) -> usize
     requires { ⌜ n ≤ 4096 ⌝ }
-    ensures { λ r. ⌜ (0 < r) × (r ≤ 24) × (r * r * (r + 1) ≤ 6 * n + 64) ⌝ }
+    ensures { λ r. ⌜ (0 < r) × (r ≤ 24) × (r * r * (r + 1) ≤ bucketRoom n) ⌝ }
 {
-    let room = 6 * n + 64;
+    let room = regions::BUCKETS * n + regions::EXTRA;
     if 14400 <= room {
         return 24;
     }

@@ -88,8 +88,8 @@ pub fn remove(points: &[f32], w: &mut [u32], n: usize, hash: Hash, k: usize)
     }
     let side = hash.side;
     let place = points::point_at(points, k);
-    let row = 10 * n + cells::row_of(hash, place) * (side + 1);
+    let row = regions::STARTS * n + cells::row_of(hash, place) * (side + 1);
     let own = row + cells::place_in_row(hash, place);
     leave::leave_row(w, n, k, own, row + side);
-    w[9 * n + k] = (n + 1) as u32;
+    w[regions::LINKS * n + k] = (n + 1) as u32;
 }

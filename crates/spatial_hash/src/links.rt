@@ -6,6 +6,7 @@ ghost use mathlib.Core.Path.{_≡_};
 ghost use Prim.Native.Nat.{ℕ, _+_, _*_, _≤_, _<_};
 ghost use Rattle.points.specs.Points.{pointAt};
 ghost use lib.ListN.{length, take, getD, set};
+ghost use Rattle.regions.specs.Regions.{linksAt, startsAt, bucketRoom, wordsLength};
 ghost use Rattle.spatial_hash.specs.Buckets.{Chained, bucketAt, buckets};
 ghost use Rattle.vector.specs.Vector.{Finite};
 ghost use Rattle.spatial_hash.specs.Near.{Empty};
@@ -45,33 +46,34 @@ pub fn least_corner(points: &[f32], n: usize) -> Point3f
 
 // Empties the buckets.
 pub fn clear_heads(w: &mut [u32], n: usize, side: usize)
-    requires { ⌜ (n ≤ 4096) × (side ≤ 24) × (side * side * (side + 1) ≤ 6 * n + 64) × (24 * n + 64 ≤ length (now w)) ⌝ }
-    ensures { λ _. ⌜ ((b : ℕ) → b < side * side * (side + 1) → getD (now (w .exit)) (10 * n + b) 0 ≡ 0)
-        × (take (9 * n) (now (w .exit)) ≡ take (9 * n) (now (w .entry))) ⌝ }
+    requires { ⌜ (n ≤ 4096) × (side ≤ 24) × (side * side * (side + 1) ≤ bucketRoom n)
+        × (wordsLength n ≤ length (now w)) ⌝ }
+    ensures { λ _. ⌜ ((b : ℕ) → b < side * side * (side + 1) → getD (now (w .exit)) (startsAt n + b) 0 ≡ 0)
+        × (take (linksAt n) (now (w .exit)) ≡ take (linksAt n) (now (w .entry))) ⌝ }
 {
     let buckets = side * side * (side + 1);
     let mut b: usize = 0;
     while b < buckets {
-        w[10 * n + b] = 0;
+        w[regions::STARTS * n + b] = 0;
         b += 1;
     }
 }
 
 // Puts point j at the head of bucket b.
 fn link_point(w: &mut [u32], n: usize, b: usize, j: usize)
-    requires { ⌜ (n ≤ 4096) × (j < n) × (b < 6 * n + 64) × (24 * n + 64 ≤ length (now w)) ⌝ }
-    ensures { λ _. ⌜ now (w .exit) ≡ set (set (now (w .entry)) (9 * n + j) (getD (now (w .entry)) (10 * n + b) 0))
-        (10 * n + b) (j + 1) ⌝ }
+    requires { ⌜ (n ≤ 4096) × (j < n) × (b < bucketRoom n) × (wordsLength n ≤ length (now w)) ⌝ }
+    ensures { λ _. ⌜ now (w .exit) ≡ set
+        (set (now (w .entry)) (linksAt n + j) (getD (now (w .entry)) (startsAt n + b) 0)) (startsAt n + b) (j + 1) ⌝ }
 {
-    w[9 * n + j] = w[10 * n + b];
-    w[10 * n + b] = (j + 1) as u32;
+    w[regions::LINKS * n + j] = w[regions::STARTS * n + b];
+    w[regions::STARTS * n + b] = (j + 1) as u32;
 }
 
 // Chains the points into empty buckets.
 pub fn link_points(points: &[f32], w: &mut [u32], n: usize, hash: Hash)
     requires { ⌜ Empty hash (now points) n (now w) ⌝ }
     ensures { λ _. ⌜ Chained (bucketAt hash (now (points .entry))) n (buckets hash) (now (w .exit)) n
-        × (take (9 * n) (now (w .exit)) ≡ take (9 * n) (now (w .entry))) ⌝ }
+        × (take (linksAt n) (now (w .exit)) ≡ take (linksAt n) (now (w .entry))) ⌝ }
 {
     let mut j: usize = 0;
     while j < n {

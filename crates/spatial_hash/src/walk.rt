@@ -6,21 +6,21 @@ use crate::Hash;
 use crate::Span;
 ghost use Prim.Native.Nat.{_+_, _-_, _*_, _≤_, _<_};
 ghost use lib.ListN.{length};
-ghost use Rattle.regions.specs.Regions.{orderAt};
+ghost use Rattle.regions.specs.Regions.{orderAt, wordsLength};
 ghost use Rattle.spatial_hash.specs.Buckets.{linksOf, residues, row, rowOf, planeOf, boxOf, pointsIn, Appended};
 ghost use Rattle.spatial_hash.specs.Order.{reads};
 ghost use Rattle.spatial_hash.specs.Near.{Room};
 
 // The points at some places of the order, one after another.
 fn copy_points(w: &mut [u32], n: usize, from: usize, to: usize, count: usize) -> usize
-    requires { ⌜ (n ≤ 4096) × (24 * n + 64 ≤ length (now w)) × (from ≤ to) × (to ≤ n) × (count + (to - from) ≤ n) ⌝ }
+    requires { ⌜ (n ≤ 4096) × (wordsLength n ≤ length (now w)) × (from ≤ to) × (to ≤ n) × (count + (to - from) ≤ n) ⌝ }
     ensures { λ r. ⌜ Appended n (now (w .entry)) (now (w .exit)) count r
         (reads (now (w .entry)) (orderAt n + from) (to - from)) ⌝ }
 {
     let mut total = count;
     let mut i = from;
     while i < to {
-        w[4 * n + total] = w[16 * n + 64 + i];
+        w[regions::NEIGHBORS * n + total] = w[regions::ORDER * n + regions::EXTRA + i];
         total += 1;
         i += 1;
     }
@@ -47,7 +47,7 @@ fn visit_run(
         (row (hash .side + 1) at (residues (hash .side) first (end - first)))) ⌝ }
 {
     let side = hash.side;
-    let starts = 10 * n + at * (side + 1);
+    let starts = regions::STARTS * n + at * (side + 1);
     let from = w[starts + first] as usize;
     let to = w[starts + end] as usize;
     copy_points(w, n, from, to, count)
