@@ -1,5 +1,5 @@
 -- The words of entries: what they tell, and that they stay right as edges are pushed and processed. Assumes nothing.
-use Prim.Native.Nat.{ℕ, _+_, _*_, _<_}
+use Prim.Native.Nat.{ℕ, _+_, _*_, _/_, _%_, _<_}
 use mathlib.Core.Path.{_≡_, refl, sym, ap, ap₂, _∙_}
 use mathlib.Core.Logic.{⊎-elim}
 use mathlib.Core.Bool.{Bool, true, false}
@@ -24,15 +24,20 @@ word-flagged : (processed : List Edge) (e : Edge) → any (same e) processed ≡
 word-flagged processed e h = let o : bit (any (same e) processed) ≡ 1 = ap bit h in omega arith
 
 -- the word of an edge that is not processed is the edge's number
-pub word-decoded : (processed : List Edge) (e : Edge) → e .v2 < 4096 → any (same e) processed ≡ false → decode (entryOf processed e) ≡ e
+word-decoded : (processed : List Edge) (e : Edge) → e .v2 < 4096 → any (same e) processed ≡ false → decode (entryOf processed e) ≡ e
 word-decoded processed e small h = let p : entryOf processed e ≡ encode e = word-plain processed e h ∙ (omega arith) in ap decode p ∙ decode-encode (e .v1) (e .v2) small
 
 -- the others are less than the words of processed edges
-pub tells : (entry : ℕ) → Tells entry (leb flag entry)
-tells entry processed e one two is = ⊎-elim
-    (λ (t : any (same e) processed ≡ true). le-leb flag entry (omega (arith, word-flagged processed e t)) ∙ sym t)
-    (λ (t : any (same e) processed ≡ false). lt-leb flag entry (omega (arith, word-plain processed e t)) ∙ sym t)
+above : (processed : List Edge) (e : Edge) → e .v1 < 4096 → e .v2 < 4096 → leb flag (entryOf processed e) ≡ any (same e) processed
+above processed e one two = ⊎-elim
+    (λ (t : any (same e) processed ≡ true). le-leb flag (entryOf processed e) (omega (arith, word-flagged processed e t)) ∙ sym t)
+    (λ (t : any (same e) processed ≡ false). lt-leb flag (entryOf processed e) (omega (arith, word-plain processed e t)) ∙ sym t)
     (either (any (same e) processed))
+
+pub tells : (word : ℕ) → Tells word record { processed = leb flag word; a = word / 4096; b = word % 4096 }
+tells word processed e one two is =
+    let seen : leb flag word ≡ any (same e) processed = ap (leb flag) is ∙ above processed e one two in
+    (seen, λ left. ap decode is ∙ word-decoded processed e two (sym seen ∙ left))
 
 -- ---- one more processed edge
 any-other : (processed : List Edge) (e f : Edge) → same f e ≡ false → any (same f) (processed ++ (e ∷ [])) ≡ any (same f) processed

@@ -3,7 +3,7 @@
 use Prim.Native.Nat.{ℕ, _+_, _-_, _*_, _≤_, _<_}
 use mathlib.Core.Path.{_≡_}
 use mathlib.Core.Logic.{_≢_}
-use mathlib.Core.Bool.{Bool, false}
+use mathlib.Core.Bool.{false}
 use mathlib.Core.List.{List, [], _∷_, _++_, map}
 use lib.ListN.{length, getD, take, drop}
 use Rattle.regions.specs.Regions.{usedAt, usedIn, frontierAt, frontierEnd, wordsLength}
@@ -13,6 +13,7 @@ use Rattle.patch.specs.Frontier.{afterPop}
 use Rattle.patch.specs.Entries.{encode}
 use Rattle.patch.specs.View.{written}
 use Rattle.frontier.specs.declared.Counts.{Counts}
+use Rattle.frontier.specs.declared.Entry.{Entry}
 
 -- ---- the lists in the work slice w, for n points
 abbrev pub entriesIn : ℕ → ℕ → ℕ → List ℕ → List ℕ
@@ -60,10 +61,10 @@ Pops pop n c w entry r u = (lent slice : List ℕ) (s : State) (x : Edge) (xs : 
     → s .frontier ≡ x ∷ xs
     → (entry ≡ entryOf (s .processed) (pop x xs .0)) × Holds n lent (popped (pop x xs .1) s) r u slice
 
--- r tells of an entry's word whether its edge is processed
-abbrev pub Tells : ℕ → Bool → Type 0
-Tells entry r = (processed : List Edge) (e : Edge) → e .v1 < 4096 → e .v2 < 4096 → entry ≡ entryOf processed e
-    → r ≡ any (same e) processed
+-- r tells of an entry's word whether its edge is processed, and which one it is if not
+abbrev pub Tells : ℕ → Entry → Type 0
+Tells word r = (processed : List Edge) (e : Edge) → e .v1 < 4096 → e .v2 < 4096 → word ≡ entryOf processed e
+    → (r .processed ≡ any (same e) processed) × (r .processed ≡ false → edge (r .a) (r .b) ≡ e)
 
 -- ---- what is asked of a state, so that the flags stay right
 

@@ -27,6 +27,13 @@ pub struct Counts {
     pub pivots: u32,
 }
 
+// Whether the edge of an entry is processed, and if it isn't, its points.
+pub struct Entry {
+    pub processed: bool,
+    pub a: u32,
+    pub b: u32,
+}
+
 // An entry that was popped, and the counts then.
 pub struct Popped {
     pub entry: u32,
@@ -129,11 +136,15 @@ pub fn pop(w: &mut [u32], n: usize, c: Counts, rule: u32) -> Popped
     pop_heap(w, n, c)
 }
 
-// Whether the edge of an entry is processed.
-pub fn is_processed(entry: u32) -> bool
-    ensures { λ r. ⌜ Tells entry r ⌝ }
+// What the word of an entry tells. Of a processed edge the points are not told.
+pub fn read_entry(word: u32) -> Entry
+    ensures { λ r. ⌜ Tells word r ⌝ }
 {
-    FLAG <= entry
+    Entry {
+        processed: FLAG <= word,
+        a: word / 4096,
+        b: word % 4096,
+    }
 }
 
 // The edge a, b goes to the end of the frontier, which is at `end`, with `mark` above it.

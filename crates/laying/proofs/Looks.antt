@@ -1,22 +1,21 @@
 -- One look at an entry: what its parts ask, and that it is the definition's. Assumes nothing.
-use Prim.Native.Nat.{ℕ, _*_, _<_}
+use Prim.Native.Nat.{ℕ, _<_}
 use mathlib.Core.Path.{_≡_, refl, sym, ap, _∙_, subst}
-use mathlib.Core.Bool.{Bool, true, false}
+use mathlib.Core.Bool.{true, false}
 use mathlib.Core.List.{List, _∷_}
 use native.Mathlib.Omega.{arith}
 use lib.Ieee.{Float}
 use Rattle.lists.specs.Lists.{any}
-use Rattle.patch.specs.Lay.{Edge, same, State, popped}
+use Rattle.patch.specs.Lay.{Edge, edge, same, State, popped}
 use Rattle.patch.specs.Frontier.{noEdge, waitingAfter, popOf}
-use Rattle.patch.specs.Entries.{decode}
 use Rattle.patch.specs.Invariant.{Inv}
 use Rattle.patch.proofs.Laying.{room}
 use Rattle.spatial_hash.specs.declared.Hash.{Hash}
 use Rattle.decisions.specs.declared.Scene.{Scene}
 use Rattle.frontier.specs.declared.Counts.{Counts}
-use Rattle.regions.specs.Regions.{usedIn}
+use Rattle.frontier.specs.declared.Entry.{Entry}
+use Rattle.regions.specs.Regions.{usedAt, usedIn, frontierEnd}
 use Rattle.frontier.specs.Work.{entryOf, Holds, Pops, Tells, Ready, OnlyIn}
-use Rattle.frontier.proofs.Flags.{word-decoded}
 use Rattle.frontier.proofs.Work.{ready}
 use Rattle.laying.specs.Laying.{Searchable, pivotOver, looked, Lays, Opened, BetweenLooks, Pivoting}
 use Rattle.laying.proofs.Kept.{sized, searchable-same, Waiting, waiting}
@@ -29,8 +28,11 @@ module _ {s : Scene} {hash : Hash} {pts : List Float} (rule : ℕ) (r : Float) {
   waits : (lent : List ℕ) (t : State) → Holds (s .n) lent t c w slice → Waiting (t .frontier)
   waits lent t h = waiting (t .frontier) (omega (arith, h .frontier-count))
 
-  -- an entry was popped, and it was told whether its edge is processed
-  module _ {entry : ℕ} {next : Counts} {u : List ℕ} {seen : Bool} (pops : Pops (popOf rule) (s .n) c w entry next u) (only : OnlyIn (5 * s .n) (9 * s .n) w u) (tells : Tells entry seen) where
+  -- an entry was popped, and its word was read
+  module _ {word : ℕ} {next : Counts} {u : List ℕ} {entry : Entry} (pops : Pops (popOf rule) (s .n) c w word next u) (only : OnlyIn (usedAt (s .n)) (frontierEnd (s .n)) w u) (tells : Tells word entry) where
+    abbrev read : Edge
+    read = edge (entry .a) (entry .b)
+
     module _ (lent : List ℕ) (t : State) (inv : Inv (s .n) t) (h : Holds (s .n) lent t c w slice) where
       abbrev first : Edge
       first = waits lent t h .first
@@ -38,33 +40,36 @@ module _ {s : Scene} {hash : Hash} {pts : List Float} (rule : ℕ) (r : Float) {
       abbrev others : List Edge
       others = waits lent t h .others
 
-      word-is : entry ≡ entryOf (t .processed) first
+      word-is : word ≡ entryOf (t .processed) first
       word-is = pops lent slice t first others h (waits lent t h .is) .0
 
       small : (first .v1 < 4096) × (first .v2 < 4096)
       small = let b = entry-below first others t (waits lent t h .is) inv in let f = st .searchable .held .few in omega arith
 
-      seen-is : any (same first) (t .processed) ≡ seen
-      seen-is = sym (tells (t .processed) first (small .0) (small .1) word-is)
+      told : (entry .processed ≡ any (same first) (t .processed)) × (entry .processed ≡ false → read ≡ first)
+      told = tells (t .processed) first (small .0) (small .1) word-is
 
-      module _ (b : seen ≡ false) where
-        top-is : decode entry ≡ first
-        top-is = ap decode word-is ∙ word-decoded (t .processed) first (small .1) (seen-is ∙ b)
+      seen-is : any (same first) (t .processed) ≡ entry .processed
+      seen-is = sym (told .0)
 
-        wait-is : t .frontier ≡ decode entry ∷ others
+      module _ (b : entry .processed ≡ false) where
+        top-is : read ≡ first
+        top-is = told .1 b
+
+        wait-is : t .frontier ≡ read ∷ others
         wait-is = waits lent t h .is ∙ ap (λ (e : Edge). e ∷ others) (sym top-is)
 
-        fresh-is : any (same (decode entry)) (t .processed) ≡ false
+        fresh-is : any (same read) (t .processed) ≡ false
         fresh-is = ap (λ (e : Edge). any (same e) (t .processed)) top-is ∙ seen-is ∙ b
 
         abbrev open-state : State
-        open-state = popped (waitingAfter noEdge rule (decode entry) others) t
+        open-state = popped (waitingAfter noEdge rule read others) t
 
-        opened : Opened (s .n) (decode entry) open-state
-        opened = record { before = t; inv = inv; rest = waitingAfter noEdge rule (decode entry) others; out = out rule (decode entry) others t wait-is; fresh = fresh-is; left = refl }
+        opened : Opened (s .n) read open-state
+        opened = record { before = t; inv = inv; rest = waitingAfter noEdge rule read others; out = out rule read others t wait-is; fresh = fresh-is; left = refl }
 
         open-holds : Holds (s .n) lent open-state next u slice
-        open-holds = pops lent slice t (decode entry) others h wait-is .1
+        open-holds = pops lent slice t read others h wait-is .1
 
     -- no point was used
     popped-used : usedIn (s .n) u ≡ usedIn (s .n) w
@@ -77,7 +82,7 @@ module _ {s : Scene} {hash : Hash} {pts : List Float} (rule : ℕ) (r : Float) {
     popped-searchable : Searchable s hash pts u
     popped-searchable = searchable-same u (st .searchable) only popped-used
 
-    pub skipped : seen ≡ true → Lays s hash pts (Inv (s .n)) (looked rule s pts r) c w slice next u slice
+    pub skipped : entry .processed ≡ true → Lays s hash pts (Inv (s .n)) (looked rule s pts r) c w slice next u slice
     skipped b = record {
       takes = λ lent t inv h. subst (λ (z : State). Holds (s .n) lent z next u slice)
           (sym (looked-skip rule s pts r (first lent t inv h) (others lent t inv h) t (waits lent t h .is) (seen-is lent t inv h ∙ b)))
@@ -86,7 +91,7 @@ module _ {s : Scene} {hash : Hash} {pts : List Float} (rule : ℕ) (r : Float) {
       length-same = only .length-same;
     }
 
-    pub pivoting : seen ≡ false → Pivoting s hash pts next u slice (decode entry)
+    pub pivoting : entry .processed ≡ false → Pivoting s hash pts next u slice read
     pivoting b = record {
       searchable = popped-searchable;
       lent = st .lent;
@@ -96,10 +101,10 @@ module _ {s : Scene} {hash : Hash} {pts : List Float} (rule : ℕ) (r : Float) {
     }
 
     -- it was pivoted over
-    pub looked-over : seen ≡ false → {after : Counts} {v back : List ℕ} → Lays s hash pts (Opened (s .n) (decode entry)) (pivotOver s pts r (decode entry)) next u slice after v back → Lays s hash pts (Inv (s .n)) (looked rule s pts r) c w slice after v back
+    pub looked-over : entry .processed ≡ false → {after : Counts} {v back : List ℕ} → Lays s hash pts (Opened (s .n) read) (pivotOver s pts r read) next u slice after v back → Lays s hash pts (Inv (s .n)) (looked rule s pts r) c w slice after v back
     looked-over b {after} {v} {back} lays = record {
       takes = λ lent t inv h. subst (λ (z : State). Holds (s .n) lent z after v back)
-          (sym (looked-open rule s pts r (decode entry) (others lent t inv h) t (wait-is lent t inv h b) (fresh-is lent t inv h b)))
+          (sym (looked-open rule s pts r read (others lent t inv h) t (wait-is lent t inv h b) (fresh-is lent t inv h b)))
           (lays .takes lent (open-state lent t inv h b) (opened lent t inv h b) (open-holds lent t inv h b));
       searchable = lays .searchable;
       length-same = lays .length-same ∙ only .length-same;

@@ -64,12 +64,11 @@ fn look(
 {
     let top = frontier::pop(w, s.n, c, rule);
     let left = top.counts;
-    if frontier::is_processed(top.entry) {
+    let entry = frontier::read_entry(top.entry);
+    if entry.processed {
         return left;
     }
-    let a = top.entry / 4096;
-    let b = top.entry % 4096;
-    pivot_over(s, points, faces, w, radius, left, a, b, hash)
+    pivot_over(s, points, faces, w, radius, left, entry.a, entry.b, hash)
 }
 
 // Looks until no entry waits.

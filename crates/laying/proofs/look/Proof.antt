@@ -7,7 +7,7 @@ use Rattle.laying.proofs.look.Tie as tie
 abbrev start-of : tie.After-pop → tie.Start
 start-of p = p .before .before .before .before .before
 
-abbrev pop-of : tie.After-is-processed → tie.After-pop
+abbrev pop-of : tie.After-read-entry → tie.After-pop
 pop-of i = i .before .before .before .before
 
 pop-requires : tie.Need-pop-requires
@@ -15,8 +15,8 @@ pop-requires c κs =
     let s = c .before .before .before .before in
     (pop-ready (s .args .rule) (s .args .radius) (s .pre .0) (s .pre .1), s .pre .1)
 
-is-processed-requires : tie.Need-is-processed-requires
-is-processed-requires c κs = search needs
+read-entry-requires : tie.Need-read-entry-requires
+read-entry-requires c κs = search needs
 
 same-length : tie.Need-same-length
 same-length c = search needs
@@ -26,15 +26,15 @@ returns c =
     let i = c .before in
     let p = pop-of i in
     let s = start-of p in
-    skipped (s .args .rule) (s .args .radius) (s .pre .0) (s .pre .1) (p .pop .ensures .0) (p .pop .ensures .1) (i .is-processed .ensures) (c .if1 .taken)
+    skipped (s .args .rule) (s .args .radius) (s .pre .0) (s .pre .1) (p .pop .ensures .0) (p .pop .ensures .1) (i .read-entry .ensures) (c .if1 .taken)
 
 pivot-over-requires : tie.Need-pivot-over-requires
 pivot-over-requires c κs =
-    let e = c .before .before .before .before in
+    let e = c .before .before in
     let i = e .before in
     let p = pop-of i in
     let s = start-of p in
-    pivoting (s .args .rule) (s .args .radius) (s .pre .0) (s .pre .1) (p .pop .ensures .0) (p .pop .ensures .1) (i .is-processed .ensures) (e .if1 .left)
+    pivoting (s .args .rule) (s .args .radius) (s .pre .0) (s .pre .1) (p .pop .ensures .0) (p .pop .ensures .1) (i .read-entry .ensures) (e .if1 .left)
 
 same-length-2 : tie.Need-same-length-2
 same-length-2 c = search needs
@@ -45,18 +45,18 @@ same-length-3 c = search needs
 returns-2 : tie.Need-returns-2
 returns-2 c =
     let o = c .before .before .before .before in
-    let e = o .before .before .before .before .before in
+    let e = o .before .before .before in
     let i = e .before in
     let p = pop-of i in
     let s = start-of p in
-    looked-over (s .args .rule) (s .args .radius) (s .pre .0) (s .pre .1) (p .pop .ensures .0) (p .pop .ensures .1) (i .is-processed .ensures) (e .if1 .left) (o .pivot-over .ensures)
+    looked-over (s .args .rule) (s .args .radius) (s .pre .0) (s .pre .1) (p .pop .ensures .0) (p .pop .ensures .1) (i .read-entry .ensures) (e .if1 .left) (o .pivot-over .ensures)
 
 pub look-spec : {M : Type 1} → statement M
 look-spec =
     tie.close
     (tie.spec
     pop-requires
-    is-processed-requires
+    read-entry-requires
     same-length
     returns
     pivot-over-requires
