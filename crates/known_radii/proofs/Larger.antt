@@ -1,61 +1,33 @@
 -- What is accepted at a radius is accepted at every larger one: where no three points make a seed at a radius, none is found at any smaller one (`larger-nothing`). Assumes nothing.
 use Prim.Native.Nat.{ℕ}
-use mathlib.Core.Path.{_≡_, sym, ap, subst}
-use mathlib.Core.Bool.{Bool, true, false, cond, not}
+use mathlib.Core.Path.{_≡_}
+use mathlib.Core.Bool.{Bool, true, false, cond}
 use mathlib.Core.List.{List}
 use mathlib.Core.Option.{none}
 use native.Mathlib.Omega.{arith}
 use lib.Dec.{T}
-use lib.Ieee.{Float, nan, inf, fin, binary32, lt, le, eq, isNan, ofBits, mul, div}
-use lib.Ieee.Bits.{is-true}
+use lib.Ieee.{Float, nan, inf, fin, binary32, lt, le, eq, ofBits, div}
 use lib.Ieee.Scale.{finite}
 use Rattle.numbers.specs.Rounded.{f32, _⊗_}
 use Rattle.numbers.specs.Root.{root}
-use Rattle.numbers.proofs.OrderLaws.{le-left, le-right, le-not-lt, le-lt-trans}
-use Rattle.numbers.proofs.ProductOrder.{mul-monotone, mul-monotone-finite, mul-number}
+use Rattle.numbers.proofs.OrderLaws.{le-not-lt, le-lt-trans}
+use Rattle.numbers.proofs.ProductOrder.{mul-monotone-finite}
 use Rattle.quality.specs.declared.TriangleQuality.{TriangleQuality}
 use Rattle.triangle.specs.Quality.{isZero, sourceAcceptable, acceptable}
 use Rattle.patch.specs.Search.{searching}
 use Rattle.decisions.specs.declared.Scene.{Scene}
-use Rattle.decisions.specs.Decisions.{reach, apart, isClose, accepts, qualityAt, completes, floatsOf}
+use Rattle.decisions.specs.Decisions.{isClose, accepts, qualityAt, completes, floatsOf}
 use Rattle.seed.specs.Judged.{NoSeed}
 use Rattle.flatness.specs.Flat.{Flat}
 use Rattle.seed.specs.Seedless.{Seedless, SeedlessBetween}
 use Rattle.known_radii.specs.Known.{Growing, NothingTo, Silent, Known, flat-cloud, up-to}
+use Rattle.decisions.proofs.Growth.{not-below, close-more}
 use Rattle.seed.proofs.Nothing.{first-nothing, flat-nothing}
 use Rattle.seed.proofs.Threes.{seedless-nothing}
 use Rattle.lists.proofs.Bools.{not-true, true-not-false, and-both}
 
--- ---- twice the radius
-double-number : (x : Float) → T (not (isNan x)) → T (not (isNan (reach x)))
-unfolding isNan mul ofBits
-double-number nan h = absurd h
-double-number (inf s) h = tt
-double-number (fin s m e) h = mul-number (fin s m e) (f32 0x40000000) tt tt
-
-two-finite : T (finite (f32 0x40000000))
-unfolding ofBits
-two-finite = tt
-
-two-above : T (le (f32 0) (f32 0x40000000))
-unfolding le lt eq ofBits
-two-above = tt
-
-double-monotone : (x y : Float) → T (le x y) → T (le (reach x) (reach y))
-double-monotone x y h = mul-monotone x y (f32 0x40000000) two-finite h two-above (double-number x (le-left x y h)) (double-number y (le-right x y h))
-
--- what is not below the lesser is not below the greater
-not-below : (x y v : Float) → T (le x y) → not (lt x v) ≡ true → not (lt y v) ≡ true
-not-below x y v h t = ap not (not-true (λ (l : lt y v ≡ true).
-    let d = le-lt-trans x y v h (subst T (sym l) tt) in
-    subst T (ap not (is-true (lt x v) d)) (subst T (sym t) tt)))
-
 -- ---- from a radius r to one that is not smaller
 module _ (s : Scene) (pts : List Float) (r t : Float) (h : T (le r t)) where
-  close-more : (i j : ℕ) → isClose pts r i j ≡ true → isClose pts t i j ≡ true
-  unfolding isClose
-  close-more i j = not-below (reach r) (reach t) (apart pts i j) (double-monotone r t h)
-
   module _ (fr : T (finite r)) (ft : T (finite t)) (ff : T (finite (s .«max_edge_factor»))) (zf : T (le (f32 0) (s .«max_edge_factor»))) where
     accepts-more : (q : TriangleQuality) → accepts s r q ≡ true → accepts s t q ≡ true
     unfolding accepts acceptable sourceAcceptable
@@ -72,12 +44,12 @@ module _ (s : Scene) (pts : List Float) (r t : Float) (h : T (le r t)) where
     completes-more i j k c =
         let a = and-both {p = isClose pts r i k} c in
         let b = and-both {p = isClose pts r j k} (a .1) in
-        rw (close-more i k (a .0), close-more j k (b .0)) (accepts-more (qualityAt pts i j k) (b .1))
+        rw (close-more pts r t h i k (a .0), close-more pts r t h j k (b .0)) (accepts-more (qualityAt pts i j k) (b .1))
 
     no-seed-less : {i j k : ℕ} → NoSeed s pts t i j k → NoSeed s pts r i j k
     no-seed-less {i} {j} {k} f = record {
-      forward = λ d. not-true (λ c. true-not-false (completes-more i j k c) (f .forward (close-more i j d)));
-      backward = λ d. not-true (λ c. true-not-false (completes-more i k j c) (f .backward (close-more i k d)));
+      forward = λ d. not-true (λ c. true-not-false (completes-more i j k c) (f .forward (close-more pts r t h i j d)));
+      backward = λ d. not-true (λ c. true-not-false (completes-more i k j c) (f .backward (close-more pts r t h i k d)));
     }
 
     seedless-less : {i j k : ℕ} → Seedless s pts t i j k → Seedless s pts r i j k

@@ -1,19 +1,14 @@
 -- Laws of bytes that are put at a place of a buffer, as far as it goes. Assumes nothing.
 use mathlib.Core.Path.{_≡_, refl, sym, ap, _∙_, subst}
 use mathlib.Core.List.{List, [], _∷_, _++_}
-use Prim.Native.Nat.{ℕ, suc, _+_, _≤_, _<_}
+use Prim.Native.Nat.{ℕ, _+_, _≤_, _<_}
 use native.Mathlib.Omega.{arith}
 use native.Mathlib.Nat.{add-zero}
 use native.Mathlib.Numerals.{add-one}
 use lib.ListN.{length, take, getD, length-append}
-use lib.Seq.{sets, set-out, take-suc, take-all}
+use lib.Seq.{set-out, take-suc, take-all}
+use Rattle.words.proofs.Laws.{sets-then}
 use Rattle.listing.specs.Ready.{Put}
-
-sets-append : (xs ys l : List ℕ) (i : ℕ) → sets (sets l i xs) (i + length xs) ys ≡ sets l i (xs ++ ys)
-sets-append [] ys l i = ap (λ (n : ℕ). sets l n ys) (add-zero i)
-sets-append (x ∷ xs) ys l i =
-    let e : i + suc (length xs) ≡ suc i + length xs = omega arith in
-    ap (λ (n : ℕ). sets (sets l i (x ∷ xs)) n ys) e ∙ sets-append xs ys (sets l i (x ∷ [])) (suc i)
 
 -- past the end nothing is put
 pub put-past : (b : ℕ) (l : List ℕ) (at : ℕ) → length l ≤ at → Put (b ∷ []) l l at (at + 1)
@@ -29,7 +24,7 @@ put-then xs ys l₀ l₁ l₂ at r₁ r₂ p q =
     let first = p .next in
     let second = q .next in
     record {
-      holds = q .holds ∙ ap (λ (n : ℕ). sets l₁ n ys) first ∙ ap (λ (l : List ℕ). sets l (at + length xs) ys) (p .holds) ∙ sets-append xs ys l₀ at;
+      holds = sets-then xs ys l₀ l₁ l₂ at r₁ (p .holds) first (q .holds);
       next = omega arith;
     }
 

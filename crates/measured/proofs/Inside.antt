@@ -2,10 +2,9 @@
 use mathlib.Core.Path.{_≡_, refl, subst, sym}
 use mathlib.Core.Bool.{Bool, true, false, not, cond}
 use mathlib.Core.Logic.{_⊎_, inl, inr}
-use Prim.Native.Nat.{zero, suc}
-use lib.Dec.{T, eqb·suc-zero}
-use lib.Ieee.{Float, nan, inf, fin, binary32, neg, add, mul, div, lt, le, fits, isNan, ofBits}
-use lib.Ieee.Positive.{positive, positive-finite}
+use lib.Dec.{T}
+use lib.Ieee.{Float, inf, binary32, neg, add, mul, div, lt, le, fits, isNan, ofBits}
+use lib.Ieee.Positive.{positive}
 use lib.Ieee.Scale.{finite}
 use Rattle.numbers.specs.Rounded.{f32, _⊕_, _⊖_, _⊗_, _⊘_}
 use Rattle.numbers.specs.Root.{root}
@@ -29,6 +28,7 @@ use Rattle.area_bounds.specs.AreaBound.{crossBound, areaBound}
 use Rattle.area_bounds.proofs.AreaBound.{Bounds, Unsigned, area-bounded}
 use Rattle.area_bounds.proofs.Tiny.{area-not-below}
 use Rattle.plain.proofs.Judged.{positive-is}
+use Rattle.plain.proofs.Judged.{number-scaled}
 
 -- ---- constants: how far apart two coordinates are, the square of a distance, a distance
 abbrev apart : Float
@@ -139,15 +139,6 @@ module _ (p1 p2 p3 : Point3f) (P1 : Bounds p1 (point farthest farthest farthest)
       record { low = not-lt-le (area p1 p2 p3) (f32 0) (le-left (area p1 p2 p3) wide l) (unfold isNan ofBits in tt) k; high = l }
 
 -- ---- products
-number-scaled : (y c : Float) → T (not (isNan y)) → T (positive c) → T (not (isNan (y ⊗ c)))
-number-scaled nan c k p = absurd (unfold isNan in k)
-number-scaled (inf s) nan k p = absurd p
-number-scaled (inf s) (inf t) k p = absurd p
-number-scaled (inf s) (fin true n d) k p = absurd p
-number-scaled (inf s) (fin false zero d) k p = absurd p
-number-scaled (inf s) (fin false (suc n) d) k p = unfold mul isNan in rw (eqb·suc-zero n) tt
-number-scaled (fin s m e) c k p = mul-number (fin s m e) c tt (positive-finite c p)
-
 far-finite : T (finite far)
 far-finite = unfold ofBits in tt
 

@@ -19,16 +19,16 @@ use Rattle.lists.proofs.Members.{below-first, below-rest, up-below}
 use Rattle.lists.proofs.Bools.{and-both}
 
 -- an answer that is as P asks, if there is one
-abbrev All : {A : Type 0} → (A → Type 0) → Option A → Type 0
+abbrev pub All : {A : Type 0} → (A → Type 0) → Option A → Type 0
 All P none = Unit {0}
 All P (some x) = P x
 
 -- by cases, where a search goes by cases
-all-if : {A : Type 0} (P : A → Type 0) (b : Bool) (x y : Option A) → (b ≡ true → All P x) → (b ≡ false → All P y) → All P (elim b as (λ c. Option A) [ true ↦ x | false ↦ y ])
+pub all-if : {A : Type 0} (P : A → Type 0) (b : Bool) (x y : Option A) → (b ≡ true → All P x) → (b ≡ false → All P y) → All P (elim b as (λ c. Option A) [ true ↦ x | false ↦ y ])
 all-if P true x y h g = h refl
 all-if P false x y h g = g refl
 
-all-found : {A B : Type 0} (P : A → Type 0) (o : Option B) (x : Option A) (f : B → Option A) → (o ≡ none → All P x) → ((b : B) → o ≡ some b → All P (f b)) → All P (elim o as (λ c. Option A) [ none ↦ x | some b ↦ f b ])
+pub all-found : {A B : Type 0} (P : A → Type 0) (o : Option B) (x : Option A) (f : B → Option A) → (o ≡ none → All P x) → ((b : B) → o ≡ some b → All P (f b)) → All P (elim o as (λ c. Option A) [ none ↦ x | some b ↦ f b ])
 all-found P none x f h g = h refl
 all-found P (some b) x f h g = g b refl
 

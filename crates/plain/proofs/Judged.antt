@@ -70,7 +70,7 @@ zero-le x h = lt-le (f32 0) x h
 square-finite : (z s : Float) → T (lt (f32 0) z) → T (lt (z ⊗ z) s) → T (finite z)
 square-finite z s p h = mul-finite z z (finite-below (z ⊗ z) s (square-unsigned z (le-right (f32 0) z (zero-le z p))) h) .0
 
-number-scaled : (y c : Float) → T (not (isNan y)) → T (positive c) → T (not (isNan (y ⊗ c)))
+pub number-scaled : (y c : Float) → T (not (isNan y)) → T (positive c) → T (not (isNan (y ⊗ c)))
 number-scaled nan c k p = absurd (unfold isNan in k)
 number-scaled (inf s) nan k p = absurd p
 number-scaled (inf s) (inf t) k p = absurd p

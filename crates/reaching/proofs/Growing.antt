@@ -3,22 +3,19 @@ use Prim.Native.Nat.{ℕ, zero, suc, _+_, _*_, _/_, _%_, _≤_, _<_, min}
 use native.Mathlib.Nat.{mul-one, mul-div-cancel, div-add-mod', mod-lt, mul-le-mul-right, le-of-mul-le-mul-right}
 use mathlib.Core.Path.{_≡_, refl, sym, ap, _∙_, subst}
 use mathlib.Core.Logic.{⊎-elim}
-use mathlib.Core.Bool.{Bool, true, false, cond, not, _&&_}
+use mathlib.Core.Bool.{Bool, true, false, cond, _&&_}
 use mathlib.Core.List.{List, [], _∷_}
 use native.Mathlib.Omega.{arith}
 use lib.IntN.{ℤ}
 use lib.Dec.{T, eqb, ltb, leb}
 use borrow.Author.Tests.{leb-true, leb-false, le-leb, ltb-true, ltb-false}
-use lib.Ieee.{Float, nan, inf, fin, lt, le, eq, isNan, ofBits, mul, up, down, odd, toUnsigned}
-use lib.Ieee.Bits.{is-true}
+use lib.Ieee.{Float, nan, inf, fin, lt, le, eq, up, down, odd, toUnsigned}
 use lib.Ieee.Fits.{down-pos}
 use lib.Ieee.Exact.{HasValue, odd-sign}
 use lib.Ieee.Positive.{positive}
-use lib.Ieee.Scale.{finite}
-use Rattle.numbers.specs.Rounded.{f32, _⊘_}
+use Rattle.numbers.specs.Rounded.{_⊘_}
 use Rattle.numbers.specs.Cut.{cut, ceil}
-use Rattle.numbers.proofs.OrderLaws.{le→side, le-left, le-right, top-le, le-lt-trans}
-use Rattle.numbers.proofs.ProductOrder.{mul-monotone, mul-number}
+use Rattle.numbers.proofs.OrderLaws.{le→side, top-le}
 use Rattle.numbers.proofs.QuotientOrder.{div-monotone}
 use Rattle.points.specs.Points.{pointAt}
 use Rattle.vector.specs.declared.Point3f.{Point3f}
@@ -26,9 +23,10 @@ use Rattle.grid.specs.Grid.{cellOf, within, inRange, rangeOf, keep, byCell, nei
 use Rattle.grid.specs.declared.SpatialGrid.{SpatialGrid}
 use Rattle.grid.specs.declared.Cell.{Cell}
 use Rattle.lists.specs.Lists.{count}
-use Rattle.lists.proofs.Bools.{either, and-both, not-true}
-use Rattle.decisions.specs.Decisions.{reach, apart, isClose, around, floatsOf}
+use Rattle.lists.proofs.Bools.{either, and-both}
+use Rattle.decisions.specs.Decisions.{reach, around, floatsOf}
 use Rattle.decisions.specs.declared.Scene.{Scene}
+use Rattle.decisions.proofs.Growth.{double-monotone, close-more}
 use Rattle.reaching.specs.Triple.{Grows}
 
 clash : {A : Type 0} → true ≡ false → A
@@ -110,24 +108,6 @@ ceil-monotone (fin false m e) (fin false n d) h =
     let b = ceil-cut n d in
     omega arith
 
--- ---- twice the radius
-pub double-number : (x : Float) → T (not (isNan x)) → T (not (isNan (reach x)))
-unfolding isNan mul ofBits
-double-number nan h = absurd h
-double-number (inf s) h = tt
-double-number (fin s m e) h = mul-number (fin s m e) (f32 0x40000000) tt tt
-
-two-finite : T (finite (f32 0x40000000))
-unfolding ofBits
-two-finite = tt
-
-two-above : T (le (f32 0) (f32 0x40000000))
-unfolding le lt eq ofBits
-two-above = tt
-
-pub double-monotone : (x y : Float) → T (le x y) → T (le (reach x) (reach y))
-double-monotone x y h = mul-monotone x y (f32 0x40000000) two-finite h two-above (double-number x (le-left x y h)) (double-number y (le-right x y h))
-
 -- ---- cells
 leb-more : (x y a b : ℕ) → a ≤ b → leb x (y + a) ≡ true → leb x (y + b) ≡ true
 leb-more x y a b h t = let l = leb-true x (y + a) t in le-leb x (y + b) (omega arith)
@@ -169,12 +149,6 @@ neighbors-more : (indexed : Bool) (g : SpatialGrid) (pts : List Float) (n : ℕ)
 unfolding neighbors rangeOf
 neighbors-more false g pts n p r s c h k = omega arith
 neighbors-more true g pts n p r s c h k = keep-more (cut (ceil (r ⊘ g .«cell_size»))) (cut (ceil (s ⊘ g .«cell_size»))) (ceil-monotone (r ⊘ g .«cell_size») (s ⊘ g .«cell_size») (div-monotone r s (g .«cell_size») c h)) g pts (cellOf g p) k (byCell g pts n)
-
-close-more : (pts : List Float) (r s : Float) → T (le r s) → (i j : ℕ) → isClose pts r i j ≡ true → isClose pts s i j ≡ true
-unfolding isClose
-close-more pts r s h i j t = ap not (not-true (λ (l : lt (reach s) (apart pts i j) ≡ true).
-    let d = le-lt-trans (reach r) (reach s) (apart pts i j) (double-monotone r s h) (subst T (sym l) tt) in
-    subst T (ap not (is-true (lt (reach r) (apart pts i j)) d)) (subst T (sym t) tt)))
 
 pub floats-grow : (s : Scene) (pts : List Float) → T (positive (s .grid .«cell_size»)) → (r t : Float) → T (le r t) → Grows (floatsOf s pts) r t
 unfolding floatsOf around

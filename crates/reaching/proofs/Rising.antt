@@ -27,7 +27,7 @@ use Rattle.spatial_hash.proofs.Squares.{Good, root-good, squared-good, distance
 use Rattle.radii.specs.Radii.{distancesTo, average, nearOf, nearest, densitiesFrom, stepOf, sampleCount, spaced, dedup, candidates, radiiAt, adaptiveRadii}
 use Rattle.radii.proofs.Rising.{Number, Ascending, insert-ascending, sorted-good}
 use Rattle.radii.proofs.Densities.{average-number}
-use Rattle.reaching.proofs.Growing.{double-number}
+use Rattle.decisions.proofs.Growth.{double-number}
 
 -- ---- lists
 all-append : (P : Float → Type 0) (xs ys : List Float) → All P xs → All P ys → All P (xs ++ ys)

@@ -14,24 +14,9 @@ use Rattle.patch.specs.Frontier.{popOf}
 use Rattle.decisions.specs.Decisions.{apart, qualityAt, accepts, scoreAt, floatsOf}
 use Rattle.decisions.specs.declared.Scene.{Scene}
 use Rattle.ball_pivoting.specs.Reconstruct.{pointCount, sceneOf, radiiOf, laidOf}
+use Rattle.patch.proofs.Searching.{All, all-if, all-found}
 use Rattle.second_look.specs.SecondLook.{acceptedAgain, looked, rulesOf, lookingAgain, laidAgain, SecondLook}
 use Rattle.lists.specs.Lists.{unused}
-
--- an answer that is as P asks, if there is one
-abbrev All : {A : Type 0} → (A → Type 0) → Option A → Type 0
-All P none = Unit {0}
-All P (some x) = P x
-
--- by cases, where a search goes by cases
-all-if : {A : Type 0} (P : A → Type 0) (b : Bool) (x y : Option A) → All P x → All P y
-    → All P (elim b as (λ c. Option A) [ true ↦ x | false ↦ y ])
-all-if P true x y h g = h
-all-if P false x y h g = g
-
-all-found : {A B : Type 0} (P : A → Type 0) (o : Option B) (x : Option A) (f : B → Option A)
-    → All P x → ((b : B) → o ≡ some b → All P (f b)) → All P (elim o as (λ c. Option A) [ none ↦ x | some b ↦ f b ])
-all-found P none x f h g = h
-all-found P (some b) x f h g = g b refl
 
 -- ---- the search, whatever the floats say: only what passes a test has a score
 module _ {R : Type 0} (floats : Floats R) (r : R) (used : List ℕ) (e : Edge) (passes : ℕ → Bool)
@@ -43,7 +28,7 @@ module _ {R : Type 0} (floats : Floats R) (r : R) (used : List ℕ) (e : Edge) (
   unfolding scoreOf
   score-passes k =
       all-if (λ (x : Float). Passing k) (not (eqb k (e .v1)) && (not (eqb k (e .v2)) && unused used k))
-      (floats .score r e k) none (scored k) tt
+      (floats .score r e k) none (λ b. scored k) (λ b. tt)
 
   best-passes : (ks : List ℕ) (top : Float) (best : Option ℕ) → All Passing best
       → All Passing (bestOf floats r used e ks top best)
@@ -53,17 +38,17 @@ module _ {R : Type 0} (floats : Floats R) (r : R) (used : List ℕ) (e : Edge) (
       all-found Passing (scoreOf floats r used e k) (bestOf floats r used e ks top best)
       (λ s. elim (lt top s)
       [ true ↦ bestOf floats r used e ks s (some k) | false ↦ bestOf floats r used e ks top best ])
-      (best-passes ks top best h)
+      (λ q. best-passes ks top best h)
       (λ s q. all-if Passing (lt top s) (bestOf floats r used e ks s (some k)) (bestOf floats r used e ks top best)
-      (best-passes ks s (some k) (subst (All (λ (x : Float). Passing k)) q (score-passes k)))
-      (best-passes ks top best h))
+      (λ b. best-passes ks s (some k) (subst (All (λ (x : Float). Passing k)) q (score-passes k)))
+      (λ b. best-passes ks top best h))
 
   pivot-passes : (n : ℕ) → All Passing (searching floats n .pivotOf r used e)
   unfolding searching
   pivot-passes n =
       all-if Passing (floats .pivotable r e)
       (bestOf floats r used e (floats .around r e) (ofBits binary32 0) none) none
-      (best-passes (floats .around r e) (ofBits binary32 0) none tt) tt
+      (λ b. best-passes (floats .around r e) (ofBits binary32 0) none tt) (λ b. tt)
 
 -- ---- our floats: a score is of an acceptable triangle
 score-accepted : (s : Scene) (pts : List Float) (r : Float) (e : Edge) (k : ℕ)
