@@ -30,11 +30,11 @@ use Rattle.decisions.specs.declared.Scene.{Scene}
 use Rattle.decisions.specs.Decisions.{reach, apart, isClose, around, floatsOf}
 use Rattle.decisions.proofs.Within.{within}
 use Rattle.nearby.specs.declared.Filter.{Filter}
-use Rattle.nearby.specs.Ready.{Held, Listed, Kept, listed}
+use Rattle.nearby.specs.Ready.{Held, Listed, Kept, listed, nth}
 use Rattle.nearby.specs.Narrow.{inCells, cellAt, Filters, Collected}
 use Rattle.nearby.proofs.Earlier.{neighbors-only, order-of-count}
 use Rattle.nearby.proofs.Keeping.{held-kept, cells-kept, hashed-search}
-use Rattle.nearby.proofs.Rest.{Rest, nth, rest-start, rest-step, rest-hit, rest-end}
+use Rattle.nearby.proofs.Rest.{Rest, rest-start, rest-step, rest-hit, rest-end}
 use Rattle.reaching.specs.Reaching.{reaches}
 use Rattle.reaching.specs.Triple.{Reaches}
 use Rattle.reaching.proofs.Reaching.{both-true, differ, differs, reaches-exactly}
@@ -84,11 +84,11 @@ module _ (p : ℕ → Bool) {s : Scene} {w : List ℕ} {count : ℕ} where
   pub seek-start : {pts : List Float} → Held s pts w → Listed s w count → Seeking p s w count 0
   seek-start h l = rest-start h l (any p)
 
-  pub seek-hit : {m : ℕ} {b : Bool} → Seeking p s w count m → m < count → b ≡ p (nth s w m) → b ≡ true → true ≡ any p (listed s w count)
-  seek-hit {m} k h e t = sym (rest-hit k h (λ ks. any-hit p (nth s w m) ks (sym e ∙ t)))
+  pub seek-hit : {m x : ℕ} {b : Bool} → Seeking p s w count m → m < count → x ≡ nth s w m → b ≡ p x → b ≡ true → true ≡ any p (listed s w count)
+  seek-hit {x = x} k h q e t = sym (rest-hit k h q (λ ks. any-hit p x ks (sym e ∙ t)))
 
-  pub seek-miss : {m : ℕ} {b : Bool} → Seeking p s w count m → m < count → b ≡ p (nth s w m) → b ≡ false → Seeking p s w count (m + 1)
-  seek-miss {m} k h e t = rest-step k h (any p) (λ ks. any-miss p (nth s w m) ks (sym e ∙ t))
+  pub seek-miss : {m x : ℕ} {b : Bool} → Seeking p s w count m → m < count → x ≡ nth s w m → b ≡ p x → b ≡ false → Seeking p s w count (m + 1)
+  seek-miss {x = x} k h q e t = rest-step k h q (any p) (λ ks. any-miss p x ks (sym e ∙ t))
 
   pub seek-end : {m : ℕ} → Seeking p s w count m → count ≤ m → false ≡ any p (listed s w count)
   seek-end k h = sym (rest-end k h ∙ any-none p)

@@ -73,10 +73,9 @@ fn find_third(
     requires { ⌜ Around s (now points) (now w) radius f i × Listed s (now w) count × (j < s .n) ⌝ }
     ensures { λ r. ⌜ r ≡ any (isBesideBoth s (now (points .entry)) radius i j) (listed s (now (w .entry)) count) ⌝ }
 {
-    let at = regions::NEIGHBORS * s.n;
     let mut m: usize = 0;
     while m < count {
-        let k = w[at + m] as usize;
+        let k = nearby::listed_point(s, w, count, m);
         m += 1;
         if is_beside_both(s, points, w, radius, f, i, j, k) {
             return true;
@@ -119,10 +118,9 @@ fn find_second(
     ensures { λ r. ⌜ r ≡ any (hasThird s (now (points .entry)) radius (listed s (now (w .entry)) count) i)
         (listed s (now (w .entry)) count) ⌝ }
 {
-    let at = regions::NEIGHBORS * s.n;
     let mut m: usize = 0;
     while m < count {
-        let j = w[at + m] as usize;
+        let j = nearby::listed_point(s, w, count, m);
         m += 1;
         if has_third(s, points, w, count, radius, f, i, j) {
             return true;

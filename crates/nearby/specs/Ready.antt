@@ -22,10 +22,14 @@ usedIn s w = regions.usedIn (s .n) w
 abbrev pub listed : Scene → List ℕ → ℕ → List ℕ
 listed s w count = take count (drop (neighborsAt (s .n)) w)
 
+-- the m-th of them
+abbrev pub nth : Scene → List ℕ → ℕ → ℕ
+nth s w m = getD w (neighborsAt (s .n) + m) 0
+
 -- they are points of the cloud
 pub record Listed (s : Scene) (w : List ℕ) (count : ℕ) : Type 0 where
   pub most : count ≤ s .n
-  pub below : (m : ℕ) → m < count → getD w (neighborsAt (s .n) + m) 0 < s .n
+  pub below : (m : ℕ) → m < count → nth s w m < s .n
 
 -- a search changes nothing but the list of neighbours
 pub record Kept (s : Scene) (w u : List ℕ) : Type 0 where

@@ -12,7 +12,7 @@ ghost use Rattle.vector.specs.Vector.{Finite};
 ghost use Rattle.spatial_hash.specs.Near.{Hashed};
 ghost use Rattle.lists.specs.Lists.{unused};
 ghost use Rattle.regions.specs.Regions.{wordsLength};
-ghost use Rattle.nearby.specs.Ready.{Held, Listed, usedIn};
+ghost use Rattle.nearby.specs.Ready.{Held, Listed, usedIn, nth};
 ghost use Rattle.nearby.specs.Narrow.{passes, Filters, Collected, Narrowed};
 
 // What is looked for: at most a squared distance from a center, in the cells within a range of a cell.
@@ -29,6 +29,14 @@ pub fn is_unused(s: Scene, w: &[u32], k: usize) -> bool
     ensures { λ r. ⌜ r ≡ unused (usedIn s (now (w .entry))) k ⌝ }
 {
     w[regions::USED * s.n + k] == 0
+}
+
+// The m-th of the `count` points that are listed.
+pub fn listed_point(s: Scene, w: &[u32], count: usize, m: usize) -> usize
+    requires { ⌜ (s .n ≤ 4096) × (wordsLength (s .n) ≤ length (now w)) × Listed s (now w) count × (m < count) ⌝ }
+    ensures { λ r. ⌜ (r ≡ nth s (now (w .entry)) m) × (r < s .n) ⌝ }
+{
+    w[regions::NEIGHBORS * s.n + m] as usize
 }
 
 // Whether point k is as the filter asks.

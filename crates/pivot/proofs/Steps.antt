@@ -13,10 +13,10 @@ use Rattle.decisions.specs.Found.{scoreFound}
 use Rattle.decisions.specs.declared.Scene.{Scene}
 use Rattle.decisions.specs.declared.Score.{Score}
 use Rattle.decisions.specs.declared.Score.the-variants.{Of, None}
-use Rattle.nearby.specs.Ready.{Held, Listed, usedIn, listed}
+use Rattle.nearby.specs.Ready.{Held, Listed, usedIn, listed, nth}
 use Rattle.nearby.specs.declared.Filter.{Filter}
 use Rattle.nearby.specs.Narrow.{cellAt}
-use Rattle.nearby.proofs.Rest.{Rest, nth, rest-start, rest-step, rest-end}
+use Rattle.nearby.proofs.Rest.{Rest, rest-start, rest-step, rest-end}
 use Rattle.pivot.specs.declared.Pivot.{Pivot}
 use Rattle.pivot.specs.declared.Pivot.the-variants.{To, Nowhere}
 use Rattle.pivot.specs.Found.{Met, pivotFound, pointOf}
@@ -56,18 +56,18 @@ module _ {s : Scene} {pts : List Float} {r : Float} {f : Filter} {w : List ℕ} 
   best-start h l = record { rest = rest-start h l (bests s pts r f w a b (f32 0) Nowhere); met = λ k e. absurd (let z : _≡_ {A = ℕ} 0 1 = cc in omega arith) }
 
   module _ {top : Float} {best : Pivot} {m : ℕ} (k : Best s pts r f w count a b top best m) where
-    pub best-skip : {o : Score} → m < count → o ≡ scoreFound (aheads s pts r f w a b top best (nth s w m)) → o ≡ None → Best s pts r f w count a b top best (m + 1)
+    pub best-skip : {z : ℕ} {o : Score} → m < count → z ≡ nth s w m → o ≡ scoreFound (aheads s pts r f w a b top best z) → o ≡ None → Best s pts r f w count a b top best (m + 1)
     unfolding leader
-    best-skip h e t = record {
-      rest = rest-step (k .rest) h (bests s pts r f w a b top best) (λ (ks : List ℕ). turn-none (earlier (s .indexed) (cellAt (s .grid) pts)) (scoreIn s pts r (usedIn s w) f (edge a b)) (nth s w m) ks top (pointOf best) (aheads s pts r f w a b top best (nth s w m)) (sym e ∙ t));
+    best-skip {z = z} h q e t = record {
+      rest = rest-step (k .rest) h q (bests s pts r f w a b top best) (λ (ks : List ℕ). turn-none (earlier (s .indexed) (cellAt (s .grid) pts)) (scoreIn s pts r (usedIn s w) f (edge a b)) z ks top (pointOf best) (aheads s pts r f w a b top best z) (sym e ∙ t));
       met = k .met;
     }
 
-    pub best-taken : {o : Score} {x : Float} → Listed s w count → m < count → o ≡ scoreFound (aheads s pts r f w a b top best (nth s w m)) → o ≡ Of x → Best s pts r f w count a b x (To (nth s w m)) (m + 1)
+    pub best-taken : {z : ℕ} {o : Score} {x : Float} → z < s .n → m < count → z ≡ nth s w m → o ≡ scoreFound (aheads s pts r f w a b top best z) → o ≡ Of x → Best s pts r f w count a b x (To z) (m + 1)
     unfolding leader
-    best-taken {x = x} l h e t = record {
-      rest = rest-step (k .rest) h (bests s pts r f w a b x (To (nth s w m))) (λ (ks : List ℕ). turn-more (earlier (s .indexed) (cellAt (s .grid) pts)) (scoreIn s pts r (usedIn s w) f (edge a b)) (nth s w m) ks top x (pointOf best) (aheads s pts r f w a b top best (nth s w m)) (sym e ∙ t));
-      met = λ j q. let i : nth s w m ≡ j = cc in subst (λ (v : ℕ). v < s .n) i (l .below m h);
+    best-taken {z = z} {x = x} l h q e t = record {
+      rest = rest-step (k .rest) h q (bests s pts r f w a b x (To z)) (λ (ks : List ℕ). turn-more (earlier (s .indexed) (cellAt (s .grid) pts)) (scoreIn s pts r (usedIn s w) f (edge a b)) z ks top x (pointOf best) (aheads s pts r f w a b top best z) (sym e ∙ t));
+      met = λ j e. let i : z ≡ j = cc in subst (λ (v : ℕ). v < s .n) i l;
     }
 
     pub best-all : count ≤ m → best ≡ pivotFound (bests s pts r f w a b (f32 0) Nowhere (listed s w count))

@@ -132,7 +132,6 @@ fn best_of(
         (scoreIn s (now (points .entry)) radius (usedIn s (now (w .entry))) f (edge a b))
         (listed s (now (w .entry)) count) (f32 0) none) ⌝ }
 {
-    let at = regions::NEIGHBORS * s.n;
     let p = points::point_at(points, a);
     let side = scores::side_of(p, points::point_at(points, b));
     let mut top = 0.0;
@@ -140,7 +139,7 @@ fn best_of(
     let mut best = Pivot::Nowhere;
     let mut m: usize = 0;
     while m < count {
-        let k = w[at + m] as usize;
+        let k = nearby::listed_point(s, w, count, m);
         m += 1;
         if let Score::Of(x) = score_ahead(s, points, w, radius, f, a, b, k, side, top, thin, best) {
             top = x;

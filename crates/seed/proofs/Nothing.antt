@@ -26,7 +26,7 @@ use Rattle.decisions.proofs.Within.{within}
 use Rattle.filters.specs.declared.Limits.{Limits}
 use Rattle.filters.specs.Refused.{Refused, RefusesAll}
 use Rattle.filters.proofs.Refusals.{refused-turned, refused-accepts, refuses-all-accepts}
-use Rattle.nearby.specs.Ready.{listed}
+use Rattle.nearby.specs.Ready.{listed, nth}
 use Rattle.nearby.proofs.Laws.{chosen, passed}
 use Rattle.seed.specs.Found.{withSecond, withFirst}
 use Rattle.flatness.specs.Flat.{Flat}
@@ -141,7 +141,7 @@ place-of : (k : ℕ) (xs : List ℕ) → 1 ≤ count (eqb k) xs → (m : ℕ) ×
 place-of k [] h = absurd (omega arith)
 place-of k (x ∷ xs) h = in-either (eqb k x) (λ e. (0, (omega arith, sym (eqb-true k x e)))) (λ c. let r = place-of k xs c in (suc (r .0), (omega (arith, r .1 .0), r .1 .1))) h
 
-pub listed-place : (s : Scene) (w : List ℕ) (c k : ℕ) → 1 ≤ count (eqb k) (listed s w c) → (m : ℕ) × ((m < c) × (getD w (neighborsAt (s .n) + m) 0 ≡ k))
+pub listed-place : (s : Scene) (w : List ℕ) (c k : ℕ) → 1 ≤ count (eqb k) (listed s w c) → (m : ℕ) × ((m < c) × (nth s w m ≡ k))
 listed-place s w c k h =
     let r = place-of k (listed s w c) h in
     let z : r .0 < c = omega (arith, r .1 .0, length-take c (drop (neighborsAt (s .n)) w), min-le-left c (length (drop (neighborsAt (s .n)) w))) in

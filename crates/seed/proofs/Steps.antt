@@ -9,8 +9,8 @@ use lib.Ieee.{Float}
 use Rattle.patch.specs.Search.{isThird, thirdOf, secondOf}
 use Rattle.decisions.specs.Decisions.{floatsOf}
 use Rattle.decisions.specs.declared.Scene.{Scene}
-use Rattle.nearby.specs.Ready.{Held, Listed, usedIn, listed}
-use Rattle.nearby.proofs.Rest.{Rest, nth, rest-start, rest-is, rest-step, rest-hit, rest-end}
+use Rattle.nearby.specs.Ready.{Held, Listed, usedIn, listed, nth}
+use Rattle.nearby.proofs.Rest.{Rest, rest-start, rest-is, rest-step, rest-hit, rest-end}
 use Rattle.seed.specs.declared.Seed.{Seed}
 use Rattle.seed.specs.declared.Seed.the-variants.{Triangle, Nothing}
 use Rattle.seed.specs.Found.{seedFound, withSecond}
@@ -30,12 +30,12 @@ module _ {s : Scene} {pts : List Float} {r : Float} {w : List ℕ} {count i j : 
   pub third-start : Held s pts w → Listed s w count → Third s pts r w count i j 0
   third-start h l = record { rest = rest-start h l (thirds s pts r w i j) }
 
-  pub third-found : {m : ℕ} {t : Bool} → Third s pts r w count i j m → m < count → t ≡ isThird (floatsOf s pts) r (usedIn s w) i j (nth s w m) → t ≡ true
-      → Triangle i j (nth s w m) ≡ seedFound (thirds s pts r w i j (listed s w count))
-  third-found {m = m} k h e t = sym (ap seedFound (rest-hit (k .rest) h (λ (ks : List ℕ). third-hit (floatsOf s pts) r (usedIn s w) i j (nth s w m) ks (sym e ∙ t))))
+  pub third-found : {m k : ℕ} {t : Bool} → Third s pts r w count i j m → m < count → k ≡ nth s w m → t ≡ isThird (floatsOf s pts) r (usedIn s w) i j k → t ≡ true
+      → Triangle i j k ≡ seedFound (thirds s pts r w i j (listed s w count))
+  third-found {k = k} l h q e t = sym (ap seedFound (rest-hit (l .rest) h q (λ (ks : List ℕ). third-hit (floatsOf s pts) r (usedIn s w) i j k ks (sym e ∙ t))))
 
-  pub third-on : {m : ℕ} {t : Bool} → Third s pts r w count i j m → m < count → t ≡ isThird (floatsOf s pts) r (usedIn s w) i j (nth s w m) → t ≡ false → Third s pts r w count i j (m + 1)
-  third-on {m = m} k h e t = record { rest = rest-step (k .rest) h (thirds s pts r w i j) (λ (ks : List ℕ). third-miss (floatsOf s pts) r (usedIn s w) i j (nth s w m) ks (sym e ∙ t)) }
+  pub third-on : {m k : ℕ} {t : Bool} → Third s pts r w count i j m → m < count → k ≡ nth s w m → t ≡ isThird (floatsOf s pts) r (usedIn s w) i j k → t ≡ false → Third s pts r w count i j (m + 1)
+  third-on {k = k} l h q e t = record { rest = rest-step (l .rest) h q (thirds s pts r w i j) (λ (ks : List ℕ). third-miss (floatsOf s pts) r (usedIn s w) i j k ks (sym e ∙ t)) }
 
   pub third-none : {m : ℕ} → Third s pts r w count i j m → count ≤ m → Nothing ≡ seedFound (thirds s pts r w i j (listed s w count))
   third-none k h = sym (ap seedFound (rest-end (k .rest) h ∙ third-end (floatsOf s pts) r (usedIn s w) i j))
@@ -54,15 +54,15 @@ module _ {s : Scene} {pts : List Float} {r : Float} {w : List ℕ} {count i : �
   pub second-start : Held s pts w → Listed s w count → Second s pts r w count i 0
   second-start h l = record { rest = rest-start h l (seconds s pts r w i (listed s w count)) }
 
-  pub second-found : {m a b c : ℕ} {found : Seed} → Second s pts r w count i m → m < count → found ≡ seedFound (withSecond (floatsOf s pts) r (usedIn s w) i (listed s w count) (nth s w m)) → found ≡ Triangle a b c
+  pub second-found : {m j a b c : ℕ} {found : Seed} → Second s pts r w count i m → m < count → j ≡ nth s w m → found ≡ seedFound (withSecond (floatsOf s pts) r (usedIn s w) i (listed s w count) j) → found ≡ Triangle a b c
       → Triangle a b c ≡ seedFound (seconds s pts r w i (listed s w count) (listed s w count))
-  second-found {m = m} {a = a} {b = b} {c = c} k h e t =
+  second-found {m = m} {j = j} {a = a} {b = b} {c = c} k h q e t =
       let ks = drop (m + 1) (listed s w count) in
-      sym (ap seedFound (rest-is (k .rest) h ∙ second-step (floatsOf s pts) r (usedIn s w) i (listed s w count) (nth s w m) ks) ∙ else-hit (withSecond (floatsOf s pts) r (usedIn s w) i (listed s w count) (nth s w m)) (seconds s pts r w i (listed s w count) ks) a b c (sym e ∙ t))
+      sym (ap seedFound (rest-is (k .rest) h q ∙ second-step (floatsOf s pts) r (usedIn s w) i (listed s w count) j ks) ∙ else-hit (withSecond (floatsOf s pts) r (usedIn s w) i (listed s w count) j) (seconds s pts r w i (listed s w count) ks) a b c (sym e ∙ t))
 
-  pub second-on : {m : ℕ} {found : Seed} → Second s pts r w count i m → m < count → found ≡ seedFound (withSecond (floatsOf s pts) r (usedIn s w) i (listed s w count) (nth s w m)) → found ≡ Nothing → Second s pts r w count i (m + 1)
-  second-on {m = m} k h e t = record {
-    rest = rest-step (k .rest) h (seconds s pts r w i (listed s w count)) (λ (ks : List ℕ). second-step (floatsOf s pts) r (usedIn s w) i (listed s w count) (nth s w m) ks ∙ else-miss (withSecond (floatsOf s pts) r (usedIn s w) i (listed s w count) (nth s w m)) (seconds s pts r w i (listed s w count) ks) (sym e ∙ t));
+  pub second-on : {m j : ℕ} {found : Seed} → Second s pts r w count i m → m < count → j ≡ nth s w m → found ≡ seedFound (withSecond (floatsOf s pts) r (usedIn s w) i (listed s w count) j) → found ≡ Nothing → Second s pts r w count i (m + 1)
+  second-on {j = j} k h q e t = record {
+    rest = rest-step (k .rest) h q (seconds s pts r w i (listed s w count)) (λ (ks : List ℕ). second-step (floatsOf s pts) r (usedIn s w) i (listed s w count) j ks ∙ else-miss (withSecond (floatsOf s pts) r (usedIn s w) i (listed s w count) j) (seconds s pts r w i (listed s w count) ks) (sym e ∙ t));
   }
 
   pub second-none : {m : ℕ} → Second s pts r w count i m → count ≤ m → Nothing ≡ seedFound (seconds s pts r w i (listed s w count) (listed s w count))

@@ -13,7 +13,6 @@ use lib.Ieee.{Float, lt}
 use borrow.Author.Tests.{ltb-true, ltb-false, lt-ltb, eq-eqb}
 use Rattle.vector.proofs.Distances.{squared-turned}
 use Rattle.points.specs.Points.{pointAt}
-use Rattle.regions.specs.Regions.{neighborsAt}
 use Rattle.spatial_hash.specs.declared.Hash.{Hash}
 use Rattle.lists.specs.Lists.{count, unused}
 use Rattle.patch.specs.Search.{isSecond, isThird}
@@ -24,7 +23,7 @@ use Rattle.filters.specs.declared.Limits.{Limits}
 use Rattle.filters.specs.Refused.{RefusedThroughout, distant, each}
 use Rattle.filters.proofs.Refusals.{far-apart}
 use Rattle.spatial_hash.specs.Near.{Hashed}
-use Rattle.nearby.specs.Ready.{Held, Listed, Kept, usedIn, listed}
+use Rattle.nearby.specs.Ready.{Held, Listed, Kept, usedIn, listed, nth}
 use Rattle.nearby.specs.Narrow.{inReach}
 use Rattle.sifting.specs.Sift.{isWithin}
 use Rattle.sifting.proofs.Parts.{drop-more, word-same}
@@ -156,11 +155,11 @@ refused-seedless g hi hj hk (each a b c) = record { first = refused-no-seed g hi
 -- ---- the points that were gathered are enough
 
 -- each two of those that are left were looked at
-pub left-seedless : {s : Scene} {pts : List Float} {r : Float} {lo i : ℕ} {w v : List ℕ} {found c : ℕ} → Left s lo i w v found c → AllSeedless s pts r v (neighborsAt (s .n)) c i → AllLeftSeedless s pts r lo i w found
+pub left-seedless : {s : Scene} {pts : List Float} {r : Float} {lo i : ℕ} {w v : List ℕ} {found c : ℕ} → Left s lo i w v found c → AllSeedless s pts r v c i → AllLeftSeedless s pts r lo i w found
 left-seedless {s} {pts} {r} {lo} {i} {w} {v} {found} {c} x all j k pj pk hj hk ne = two (x .complete j pj hj) (x .complete k pk hk)
   where
     word : ℕ → ℕ
-    word m = getD v (neighborsAt (s .n) + m) 0
+    word m = nth s v m
 
     at : (a b : ℕ) → a < c → b < c → word a ≢ word b → Seedless s pts r i (word a) (word b)
     at a b ha hb d = ⊎-elim (λ (t : a < b). all a ha b (omega arith) hb) (λ (t : b < a). seedless-turned (all b hb a (omega arith) ha)) (apart-order a b (λ e. d (ap word e)))

@@ -5,12 +5,10 @@ use mathlib.Core.Logic.{_≢_}
 use mathlib.Core.Bool.{Bool, true, false, _&&_, _||_}
 use mathlib.Core.List.{List}
 use lib.Dec.{ltb}
-use lib.ListN.{getD}
 use lib.Ieee.{Float}
-use Rattle.regions.specs.Regions.{neighborsAt}
 use Rattle.lists.specs.Lists.{unused}
 use Rattle.decisions.specs.declared.Scene.{Scene}
-use Rattle.nearby.specs.Ready.{Listed, Kept, usedIn}
+use Rattle.nearby.specs.Ready.{Listed, Kept, usedIn, nth}
 use Rattle.seed.specs.Judged.{NoSeed}
 
 -- points i, j and k make no seed, whichever of them comes first
@@ -19,13 +17,13 @@ pub record Seedless (s : Scene) (pts : List Float) (r : Float) (i j k : ℕ) : T
   pub second : NoSeed s pts r j i k
   pub third : NoSeed s pts r k i j
 
--- points i and j make none with those that stand in w from `at` on, the first `from` left out
-abbrev pub SeedlessAfter : Scene → List Float → Float → List ℕ → ℕ → ℕ → ℕ → ℕ → ℕ → Type 0
-SeedlessAfter s pts r w at count i j from = (m : ℕ) → from ≤ m → m < count → Seedless s pts r i j (getD w (at + m) 0)
+-- points i and j make none with the listed ones, the first `from` left out
+abbrev pub SeedlessAfter : Scene → List Float → Float → List ℕ → ℕ → ℕ → ℕ → ℕ → Type 0
+SeedlessAfter s pts r w count i j from = (m : ℕ) → from ≤ m → m < count → Seedless s pts r i j (nth s w m)
 
--- no two that stand there make one with point i
-abbrev pub AllSeedless : Scene → List Float → Float → List ℕ → ℕ → ℕ → ℕ → Type 0
-AllSeedless s pts r w at count i = (m : ℕ) → m < count → SeedlessAfter s pts r w at count i (getD w (at + m) 0) (m + 1)
+-- no two of the listed points make one with point i
+abbrev pub AllSeedless : Scene → List Float → Float → List ℕ → ℕ → ℕ → Type 0
+AllSeedless s pts r w count i = (m : ℕ) → m < count → SeedlessAfter s pts r w count i (nth s w m) (m + 1)
 
 -- k comes after point i or before point lo
 abbrev pub isOther : ℕ → ℕ → ℕ → Bool
@@ -46,7 +44,7 @@ SeedlessBetween s pts r used lo i = (a : ℕ) → a < i → lo ≤ a → unused 
 
 -- k is one of the listed points
 abbrev pub Stands : Scene → List ℕ → ℕ → ℕ → Type 0
-Stands s w count k = (m : ℕ) × ((m < count) × (getD w (neighborsAt (s .n) + m) 0 ≡ k))
+Stands s w count k = (m : ℕ) × ((m < count) × (nth s w m ≡ k))
 
 -- no two of the listed points that are such make one with point i
 abbrev pub AllLeftSeedless : Scene → List Float → Float → ℕ → ℕ → List ℕ → ℕ → Type 0

@@ -11,7 +11,7 @@ ghost use mathlib.Core.Bool.{true};
 ghost use Prim.Native.Nat.{_*_, _≤_, _<_};
 ghost use lib.ListN.{length};
 ghost use Rattle.lists.specs.Lists.{unused};
-ghost use Rattle.regions.specs.Regions.{neighborsAt, wordsLength};
+ghost use Rattle.regions.specs.Regions.{wordsLength};
 ghost use Rattle.spatial_hash.specs.Near.{Hashed};
 ghost use Rattle.filters.specs.Refused.{Limiting};
 ghost use Rattle.nearby.specs.Ready.{Held, Listed, Kept, usedIn};
@@ -78,13 +78,12 @@ fn pay_beside(
     requires { ⌜ Held s (now points) (now w) × Listed s (now w) count × (i < s .n) × (j < s .n)
         × Judged s (now points) radius limits ⌝ }
     ensures { λ r. ⌜ (0 < r
-        → SeedlessAfter s (now (points .entry)) radius (now (w .entry)) (neighborsAt (s .n)) count i j from) ⌝ }
+        → SeedlessAfter s (now (points .entry)) radius (now (w .entry)) count i j from) ⌝ }
 {
-    let at = regions::NEIGHBORS * s.n;
     let mut left = purse;
     let mut m = from;
     while m < count {
-        let k = w[at + m] as usize;
+        let k = nearby::listed_point(s, w, count, m);
         let price = price_of(s, points, radius, limits, i, j, k);
         if price == 0 {
             return 0;
@@ -112,13 +111,12 @@ fn pay_all(
     requires { ⌜ Held s (now points) (now w) × Listed s (now w) count × (i < s .n)
         × Judged s (now points) radius limits ⌝ }
     ensures { λ r. ⌜ (0 < r
-        → AllSeedless s (now (points .entry)) radius (now (w .entry)) (neighborsAt (s .n)) count i) ⌝ }
+        → AllSeedless s (now (points .entry)) radius (now (w .entry)) count i) ⌝ }
 {
-    let at = regions::NEIGHBORS * s.n;
     let mut left = purse;
     let mut m: usize = 0;
     while m < count {
-        let j = w[at + m] as usize;
+        let j = nearby::listed_point(s, w, count, m);
         m += 1;
         left = pay_beside(s, points, w, count, radius, limits, i, j, m, left);
         if left == 0 {
@@ -174,13 +172,12 @@ fn count_near(s: Scene, points: &[f32], w: &[u32], count: usize, far: f32) -> us
     requires { ⌜ Held s (now points) (now w) × Listed s (now w) count ⌝ }
     ensures { λ r. ⌜ r ≤ count ⌝ }
 {
-    let at = regions::NEIGHBORS * s.n;
     let half = count / 2;
     let mut near: usize = 0;
     let mut m: usize = 0;
     while m < half {
-        let p = points::point_at(points, w[at + m] as usize);
-        let q = points::point_at(points, w[at + (half + m)] as usize);
+        let p = points::point_at(points, nearby::listed_point(s, w, count, m));
+        let q = points::point_at(points, nearby::listed_point(s, w, count, half + m));
         m += 1;
         if vector::distance_squared(p, q) <= far {
             near += 1;

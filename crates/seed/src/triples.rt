@@ -82,10 +82,9 @@ fn find_third(
         ≡ seedFound (thirdOf (floatsOf s (now (points .entry))) radius (usedIn s (now (w .entry))) i j
         (listed s (now (w .entry)) count)) ⌝ }
 {
-    let at = regions::NEIGHBORS * s.n;
     let mut m: usize = 0;
     while m < count {
-        let k = w[at + m] as usize;
+        let k = nearby::listed_point(s, w, count, m);
         if is_third(s, points, w, radius, limits, i, j, k) {
             return Seed::Triangle(i, j, k);
         }
@@ -133,10 +132,9 @@ fn find_second(
         ≡ seedFound (secondOf (floatsOf s (now (points .entry))) radius (usedIn s (now (w .entry))) i
         (listed s (now (w .entry)) count) (listed s (now (w .entry)) count)) ⌝ }
 {
-    let at = regions::NEIGHBORS * s.n;
     let mut m: usize = 0;
     while m < count {
-        let j = w[at + m] as usize;
+        let j = nearby::listed_point(s, w, count, m);
         let found = try_second(s, points, w, count, radius, limits, i, j);
         if let Seed::Triangle(a, b, c) = found {
             return Seed::Triangle(a, b, c);

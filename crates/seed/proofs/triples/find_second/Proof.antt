@@ -1,48 +1,34 @@
 -- `find_second` meets its contract. The loop's invariant: what is found among all neighbours is found among those from m on. Assumes nothing.
 use Prim.Native.Nat.{_-_}
-use native.Mathlib.Omega.{arith}
 use borrow.Author.Needs.{needs}
 use Rattle.seed.proofs.Steps.{Second, second-start, second-found, second-on, second-none}
 use Rattle.seed.proofs.triples.find_second.Statement.{statement}
 use Rattle.seed.proofs.triples.find_second.Tie as tie
 
 abbrev Inv-loop : tie.InvT-loop
-Inv-loop s points w count radius limits i at m₀ m = Second s points radius w count i m
+Inv-loop s points w count radius limits i m₀ m = Second s points radius w count i m
 
 abbrev μ-loop : tie.MeasureT-loop
-μ-loop s points w count radius limits i at m₀ m = count - m
-
-mul-at : tie.Need-mul-at Inv-loop μ-loop
-mul-at c = search needs
+μ-loop s points w count radius limits i m₀ m = count - m
 
 loop-holds : tie.Need-loop-holds Inv-loop μ-loop
-loop-holds c = let a = c .before .before .before in second-start (a .pre .0) (a .pre .1)
+loop-holds c = let a = c .before .before in second-start (a .pre .0) (a .pre .1)
 
-add-j : tie.Need-add-j Inv-loop μ-loop
-add-j c = search needs
-
-mul-j : tie.Need-mul-j Inv-loop μ-loop
-mul-j c = search needs
-
-shared-slice-read-j : tie.Need-shared-slice-read-j Inv-loop μ-loop
-shared-slice-read-j c = search needs
-
-cast-j : tie.Need-cast-j Inv-loop μ-loop
-cast-j c =
-    let a = c .before .before .before .before .before .before in
-    let h = a .pre .1 .below (c .before .before .loop .m) (c .before .loop-test .taken) in
-    record { fits = omega (arith, h, a .pre .0 .few) }
+listed-point-requires : tie.Need-listed-point-requires Inv-loop μ-loop
+listed-point-requires c κs =
+    let a = c .before .before .before .before in
+    (a .pre .0 .few, a .pre .0 .work-long, a .pre .1, c .loop-test .taken)
 
 try-second-requires : tie.Need-try-second-requires Inv-loop μ-loop
 try-second-requires c κs =
-    let a = c .before .before .before .before .before .before in
-    (a .pre .0, a .pre .1, a .pre .2, a .pre .1 .below (c .before .before .loop .m) (c .before .loop-test .taken), a .pre .3)
+    let a = c .before .before .before .before .before in
+    (a .pre .0, a .pre .1, a .pre .2, c .listed-point .ensures .1, a .pre .3)
 
 enum-known-found : tie.Need-enum-known-found Inv-loop μ-loop
 enum-known-found c = search needs
 
 returns : tie.Need-returns Inv-loop μ-loop
-returns c = second-found (c .before .before .before .before .before .before .loop .inv) (c .before .before .before .before .before .loop-test .taken) (c .before .before .before .try-second .ensures) (c .before .found .given .1)
+returns c = second-found (c .before .before .before .before .before .before .loop .inv) (c .before .before .before .before .before .loop-test .taken) (c .before .before .before .before .listed-point .ensures .0) (c .before .before .before .try-second .ensures) (c .before .found .given .1)
 
 enum-told : tie.Need-enum-told Inv-loop μ-loop
 enum-told c = search needs
@@ -54,10 +40,10 @@ loop-less : tie.Need-loop-less Inv-loop μ-loop
 loop-less c = search needs
 
 loop-again : tie.Need-loop-again Inv-loop μ-loop
-loop-again c = second-on (c .before .before .before .before .before .loop .inv) (c .before .before .before .before .loop-test .taken) (c .before .before .try-second .ensures) (c .enum-told .given .1)
+loop-again c = second-on (c .before .before .before .before .before .loop .inv) (c .before .before .before .before .loop-test .taken) (c .before .before .before .listed-point .ensures .0) (c .before .before .try-second .ensures) (c .enum-told .given .1)
 
 returns-2 : tie.Need-returns-2 Inv-loop μ-loop
 returns-2 c = second-none (c .before .loop .inv) (c .loop-test .left)
 
 pub find-second-spec : {M : Type 1} → statement M
-find-second-spec = tie.close (tie.spec Inv-loop μ-loop mul-at loop-holds add-j mul-j shared-slice-read-j cast-j try-second-requires enum-known-found returns enum-told add-m loop-less loop-again returns-2)
+find-second-spec = tie.close (tie.spec Inv-loop μ-loop loop-holds listed-point-requires try-second-requires enum-known-found returns enum-told add-m loop-less loop-again returns-2)
