@@ -20,24 +20,32 @@ ghost use Rattle.laying.specs.Laying.{Pivoting, BetweenLooks, BetweenRad
 ghost use Rattle.spatial_hash.specs.Near.{Linked};
 ghost use mathlib.Core.List.{[], _∷_};
 
+// What one radius is laid by: the scene, the hash of its unused points, the radius, and the rule of popping.
+pub struct Pass {
+    pub scene: Scene,
+    pub hash: Hash,
+    pub radius: f32,
+    pub rule: u32,
+}
+
 // The ball is pivoted over the edge a, b; if it meets a point, their face is laid. Then the edge is processed.
 fn pivot_over(
-    s: Scene,
+    p: Pass,
     points: &[f32],
     faces: &mut [u32],
     w: &mut [u32],
-    radius: f32,
     c: Counts,
     a: u32,
     b: u32,
-    hash: Hash,
 ) -> Counts
-    requires { ⌜ Pivoting s hash (now points) c (now w) (now faces) (edge a b) ⌝ }
-    ensures { λ r. ⌜ Lays s hash (now (points .entry)) (Opened (s .n) (edge a b))
-        (pivotOver s (now (points .entry)) radius (edge a b)) c (now (w .entry)) (now (faces .entry)) r (now (w .exit))
-        (now (faces .exit)) ⌝ }
+    requires { ⌜ Pivoting (p .scene) (p .hash) (now points) c (now w) (now faces) (edge a b) ⌝ }
+    ensures { λ r. ⌜ Lays (p .scene) (p .hash) (now (points .entry)) (Opened (p .scene .n) (edge a b))
+        (pivotOver (p .scene) (now (points .entry)) (p .radius) (edge a b)) c (now (w .entry)) (now (faces .entry)) r
+        (now (w .exit)) (now (faces .exit)) ⌝ }
 {
-    let found = pivot::try_ball_pivot(s, points, w, radius, a as usize, b as usize, hash);
+    let s = p.scene;
+    let hash = p.hash;
+    let found = pivot::try_ball_pivot(s, points, w, p.radius, a as usize, b as usize, hash);
     match found {
         Pivot::To(k) => {
             spatial_hash::remove(points, w, s.n, hash, k);
@@ -48,48 +56,31 @@ fn pivot_over(
 }
 
 // One look: an entry is popped, and pivoted over unless its edge is processed.
-fn look(
-    s: Scene,
-    points: &[f32],
-    faces: &mut [u32],
-    w: &mut [u32],
-    radius: f32,
-    c: Counts,
-    hash: Hash,
-    rule: u32,
-) -> Counts
-    requires { ⌜ BetweenLooks s hash (now points) c (now w) (now faces) × (0 < c .frontier) ⌝ }
-    ensures { λ r. ⌜ Lays s hash (now (points .entry)) (Inv (s .n)) (looked rule s (now (points .entry)) radius) c
-        (now (w .entry)) (now (faces .entry)) r (now (w .exit)) (now (faces .exit)) ⌝ }
+fn look(p: Pass, points: &[f32], faces: &mut [u32], w: &mut [u32], c: Counts) -> Counts
+    requires { ⌜ BetweenLooks (p .scene) (p .hash) (now points) c (now w) (now faces) × (0 < c .frontier) ⌝ }
+    ensures { λ r. ⌜ Lays (p .scene) (p .hash) (now (points .entry)) (Inv (p .scene .n))
+        (looked (p .rule) (p .scene) (now (points .entry)) (p .radius)) c (now (w .entry)) (now (faces .entry)) r
+        (now (w .exit)) (now (faces .exit)) ⌝ }
 {
-    let top = frontier::pop(w, s.n, c, rule);
+    let top = frontier::pop(w, p.scene.n, c, p.rule);
     let left = top.counts;
     let entry = frontier::read_entry(top.entry);
     if entry.processed {
         return left;
     }
-    pivot_over(s, points, faces, w, radius, left, entry.a, entry.b, hash)
+    pivot_over(p, points, faces, w, left, entry.a, entry.b)
 }
 
 // Looks until no entry waits.
-fn run(
-    s: Scene,
-    points: &[f32],
-    faces: &mut [u32],
-    w: &mut [u32],
-    radius: f32,
-    start: Counts,
-    hash: Hash,
-    rule: u32,
-) -> Counts
-    requires { ⌜ BetweenLooks s hash (now points) start (now w) (now faces) ⌝ }
-    ensures { λ r. ⌜ Lays s hash (now (points .entry)) (Inv (s .n))
-        (run (rulesOf s (now (points .entry))) (popOf rule) radius (3 * s .n)) start (now (w .entry))
-        (now (faces .entry)) r (now (w .exit)) (now (faces .exit)) ⌝ }
+fn run(p: Pass, points: &[f32], faces: &mut [u32], w: &mut [u32], start: Counts) -> Counts
+    requires { ⌜ BetweenLooks (p .scene) (p .hash) (now points) start (now w) (now faces) ⌝ }
+    ensures { λ r. ⌜ Lays (p .scene) (p .hash) (now (points .entry)) (Inv (p .scene .n))
+        (run (rulesOf (p .scene) (now (points .entry))) (popOf (p .rule)) (p .radius) (3 * p .scene .n)) start
+        (now (w .entry)) (now (faces .entry)) r (now (w .exit)) (now (faces .exit)) ⌝ }
 {
     let mut c = start;
     while 0 < c.frontier {
-        c = look(s, points, faces, w, radius, c, hash, rule);
+        c = look(p, points, faces, w, c);
     }
     c
 }
@@ -112,31 +103,30 @@ pub struct Laid {
 
 // One radius: from its seed, if there is one.
 fn lay_one(
-    s: Scene,
+    p: Pass,
     points: &[f32],
     faces: &mut [u32],
     w: &mut [u32],
-    radius: f32,
     before: Counts,
-    hash: Hash,
     known: bool,
-    rule: u32,
 ) -> Laid
-    requires { ⌜ BetweenRadii s hash (now points) before (now w) (now faces)
-        × (known ≡ true → rulesOf s (now points) .seedOf radius (usedIn s (now w)) ≡ none) ⌝ }
-    ensures { λ r. ⌜ Lays s hash (now (points .entry)) (Rest (s .n))
-        (layOne (rulesOf s (now (points .entry))) (popOf rule) (s .n) radius) before (now (w .entry))
-        (now (faces .entry)) (r .counts) (now (w .exit)) (now (faces .exit))
-        × (known ≡ true → usedIn s (now (w .exit)) ≡ usedIn s (now (w .entry))) ⌝ }
+    requires { ⌜ BetweenRadii (p .scene) (p .hash) (now points) before (now w) (now faces)
+        × (known ≡ true → rulesOf (p .scene) (now points) .seedOf (p .radius) (usedIn (p .scene) (now w)) ≡ none) ⌝ }
+    ensures { λ r. ⌜ Lays (p .scene) (p .hash) (now (points .entry)) (Rest (p .scene .n))
+        (layOne (rulesOf (p .scene) (now (points .entry))) (popOf (p .rule)) (p .scene .n) (p .radius)) before
+        (now (w .entry)) (now (faces .entry)) (r .counts) (now (w .exit)) (now (faces .exit))
+        × (known ≡ true → usedIn (p .scene) (now (w .exit)) ≡ usedIn (p .scene) (now (w .entry))) ⌝ }
 {
+    let s = p.scene;
+    let hash = p.hash;
     let c = frontier::clear(before);
-    let search = seed::find_seed_triangle(s, points, w, radius, hash, known);
+    let search = seed::find_seed_triangle(s, points, w, p.radius, hash, known);
     let seed = search.seed;
     match seed {
         Seed::Triangle(i, j, k) => {
             remove_three(points, w, s.n, hash, i, j, k);
             let first = frontier::lay_seed(faces, w, s.n, c, i as u32, j as u32, k as u32);
-            let last = run(s, points, faces, w, radius, first, hash, rule);
+            let last = run(p, points, faces, w, first);
             Laid {
                 counts: last,
                 purse: 0,
@@ -193,7 +183,13 @@ pub fn advanced_ball_pivoting(
     while i < count {
         let radius = radii[i];
         let known = known_radii::is_known(s, flat, radius, upto);
-        let laid = lay_one(s, points, faces, w, radius, c, hash, known, rule);
+        let pass = Pass {
+            scene: s,
+            hash: hash,
+            radius: radius,
+            rule: rule,
+        };
+        let laid = lay_one(pass, points, faces, w, c, known);
         c = laid.counts;
         marks[i] = c.faces;
         upto = known_radii::known_to(s, points, w, radius, largest, hash, known, upto, laid.purse);

@@ -7,40 +7,81 @@ use borrow.Author.Needs.{needs}
 use Rattle.laying.proofs.lay_one.Statement.{statement}
 use Rattle.laying.proofs.lay_one.Tie as tie
 
+abbrev start-of : tie.After-find-seed-triangle → tie.Start
+start-of t = t .before .before .before .before .before .before .before .before
+
+abbrev search-of : tie.After-seed → tie.After-find-seed-triangle
+search-of f = f .before .before .before .before
+
+abbrev seed-of : tie.After-remove-three → tie.After-seed
+seed-of r = r .before .before .before
+
+abbrev remove-of : tie.After-lay-seed → tie.After-remove-three
+remove-of l = l .before .before .before .before .before
+
+abbrev lay-of : tie.After-run → tie.After-lay-seed
+lay-of u = u .before .before .before .before .before .before .before
+
 clear-requires : tie.Need-clear-requires
 clear-requires c κs = search needs
 
 find-seed-triangle-requires : tie.Need-find-seed-triangle-requires
-find-seed-triangle-requires c κs = let g = c .before .before .before .before .before .pre .0 .searchable in (g .held, g .indexed, g .hashed, c .before .before .before .before .before .pre .1)
+find-seed-triangle-requires c κs =
+    let s = c .before .before .before .before .before .before .before in
+    let g = s .pre .0 .searchable in
+    (g .held, g .indexed, g .hashed, s .pre .1)
 
 enum-known-seed : tie.Need-enum-known-seed
 enum-known-seed c = search needs
 
 remove-three-requires : tie.Need-remove-three-requires
 remove-three-requires c κs =
-    let g = free-seed (c .before .before .before .before .before .before .before .before .before .before .before .before .args .rule) (c .before .before .before .before .before .before .before .before .before .before .before .before .args .radius) (c .before .before .before .before .before .before .before .before .before .before .before .before .pre .0) (c .before .before .before .before .before .before .before .before .clear .ensures) (c .before .before .before .before .before .before .find-seed-triangle .ensures .0) (c .before .before .before .before .before .before .find-seed-triangle .ensures .1) (c .before .before .before .before .before .before .find-seed-triangle .kept .1 .1 .0) (c .before .before .seed .given .1) in
-    (searched (c .before .before .before .before .before .before .before .before .before .before .before .before .args .rule) (c .before .before .before .before .before .before .before .before .before .before .before .before .args .radius) (c .before .before .before .before .before .before .before .before .before .before .before .before .pre .0) (c .before .before .before .before .before .before .before .before .clear .ensures) (c .before .before .before .before .before .before .find-seed-triangle .ensures .0) (c .before .before .before .before .before .before .find-seed-triangle .ensures .1) (c .before .before .before .before .before .before .find-seed-triangle .kept .1 .1 .0) .hashed .linked, g .first .below, g .second .below, g .third .below)
+    let f = c .before .before in
+    let t = search-of f in
+    let s = start-of t in
+    let g = free-seed (s .args .p .rule) (s .args .p .radius) (s .pre .0) (t .before .before .clear .ensures) (t .find-seed-triangle .ensures .0) (t .find-seed-triangle .ensures .1) (t .find-seed-triangle .kept .1 .1 .0) (f .seed .given .1) in
+    (searched (s .args .p .rule) (s .args .p .radius) (s .pre .0) (t .before .before .clear .ensures) (t .find-seed-triangle .ensures .0) (t .find-seed-triangle .ensures .1) (t .find-seed-triangle .kept .1 .1 .0) .hashed .linked, g .first .below, g .second .below, g .third .below)
 
 cast-lay-seed : tie.Need-cast-lay-seed
 cast-lay-seed c =
-    let g = free-seed (c .before .before .before .before .before .before .before .before .before .before .before .before .before .before .before .before .before .args .rule) (c .before .before .before .before .before .before .before .before .before .before .before .before .before .before .before .before .before .args .radius) (c .before .before .before .before .before .before .before .before .before .before .before .before .before .before .before .before .before .pre .0) (c .before .before .before .before .before .before .before .before .before .before .before .before .before .clear .ensures) (c .before .before .before .before .before .before .before .before .before .before .before .find-seed-triangle .ensures .0) (c .before .before .before .before .before .before .before .before .before .before .before .find-seed-triangle .ensures .1) (c .before .before .before .before .before .before .before .before .before .before .before .find-seed-triangle .kept .1 .1 .0) (c .before .before .before .before .before .before .before .seed .given .1) in
-    omega (arith, g .first .below, c .before .before .before .before .before .before .before .before .before .before .before .before .before .before .before .before .before .pre .0 .searchable .held .few)
+    let r = c .before .before .before .before in
+    let f = seed-of r in
+    let t = search-of f in
+    let s = start-of t in
+    omega (arith, free-seed (s .args .p .rule) (s .args .p .radius) (s .pre .0) (t .before .before .clear .ensures) (t .find-seed-triangle .ensures .0) (t .find-seed-triangle .ensures .1) (t .find-seed-triangle .kept .1 .1 .0) (f .seed .given .1) .first .below, s .pre .0 .searchable .held .few)
 
 cast-lay-seed-2 : tie.Need-cast-lay-seed-2
 cast-lay-seed-2 c =
-    let g = free-seed (c .before .before .before .before .before .before .before .before .before .before .before .before .before .before .before .before .before .args .rule) (c .before .before .before .before .before .before .before .before .before .before .before .before .before .before .before .before .before .args .radius) (c .before .before .before .before .before .before .before .before .before .before .before .before .before .before .before .before .before .pre .0) (c .before .before .before .before .before .before .before .before .before .before .before .before .before .clear .ensures) (c .before .before .before .before .before .before .before .before .before .before .before .find-seed-triangle .ensures .0) (c .before .before .before .before .before .before .before .before .before .before .before .find-seed-triangle .ensures .1) (c .before .before .before .before .before .before .before .before .before .before .before .find-seed-triangle .kept .1 .1 .0) (c .before .before .before .before .before .before .before .seed .given .1) in
-    omega (arith, g .second .below, c .before .before .before .before .before .before .before .before .before .before .before .before .before .before .before .before .before .pre .0 .searchable .held .few)
+    let r = c .before .before .before .before in
+    let f = seed-of r in
+    let t = search-of f in
+    let s = start-of t in
+    omega (arith, free-seed (s .args .p .rule) (s .args .p .radius) (s .pre .0) (t .before .before .clear .ensures) (t .find-seed-triangle .ensures .0) (t .find-seed-triangle .ensures .1) (t .find-seed-triangle .kept .1 .1 .0) (f .seed .given .1) .second .below, s .pre .0 .searchable .held .few)
 
 cast-lay-seed-3 : tie.Need-cast-lay-seed-3
 cast-lay-seed-3 c =
-    let g = free-seed (c .before .before .before .before .before .before .before .before .before .before .before .before .before .before .before .before .before .args .rule) (c .before .before .before .before .before .before .before .before .before .before .before .before .before .before .before .before .before .args .radius) (c .before .before .before .before .before .before .before .before .before .before .before .before .before .before .before .before .before .pre .0) (c .before .before .before .before .before .before .before .before .before .before .before .before .before .clear .ensures) (c .before .before .before .before .before .before .before .before .before .before .before .find-seed-triangle .ensures .0) (c .before .before .before .before .before .before .before .before .before .before .before .find-seed-triangle .ensures .1) (c .before .before .before .before .before .before .before .before .before .before .before .find-seed-triangle .kept .1 .1 .0) (c .before .before .before .before .before .before .before .seed .given .1) in
-    omega (arith, g .third .below, c .before .before .before .before .before .before .before .before .before .before .before .before .before .before .before .before .before .pre .0 .searchable .held .few)
+    let r = c .before .before .before .before in
+    let f = seed-of r in
+    let t = search-of f in
+    let s = start-of t in
+    omega (arith, free-seed (s .args .p .rule) (s .args .p .radius) (s .pre .0) (t .before .before .clear .ensures) (t .find-seed-triangle .ensures .0) (t .find-seed-triangle .ensures .1) (t .find-seed-triangle .kept .1 .1 .0) (f .seed .given .1) .third .below, s .pre .0 .searchable .held .few)
 
 lay-seed-requires : tie.Need-lay-seed-requires
-lay-seed-requires c κs = seed-room (c .before .before .before .before .before .before .before .before .before .before .before .before .before .before .before .before .before .args .rule) (c .before .before .before .before .before .before .before .before .before .before .before .before .before .before .before .before .before .args .radius) (c .before .before .before .before .before .before .before .before .before .before .before .before .before .before .before .before .before .pre .0) (c .before .before .before .before .before .before .before .before .before .before .before .before .before .clear .ensures) (c .before .before .before .before .before .before .before .before .before .before .before .find-seed-triangle .ensures .0) (c .before .before .before .before .before .before .before .before .before .before .before .find-seed-triangle .ensures .1) (c .before .before .before .before .before .before .before .before .before .before .before .find-seed-triangle .kept .1 .1 .0) (c .before .before .before .before .before .before .before .seed .given .1) (c .before .before .before .before .remove-three .ensures) (c .before .before .before .before .remove-three .kept .1 .0)
+lay-seed-requires c κs =
+    let r = c .before .before .before .before in
+    let f = seed-of r in
+    let t = search-of f in
+    let s = start-of t in
+    seed-room (s .args .p .rule) (s .args .p .radius) (s .pre .0) (t .before .before .clear .ensures) (t .find-seed-triangle .ensures .0) (t .find-seed-triangle .ensures .1) (t .find-seed-triangle .kept .1 .1 .0) (f .seed .given .1) (r .remove-three .ensures) (r .remove-three .kept .1 .0)
 
 run-requires : tie.Need-run-requires
-run-requires c κs = seed-between-looks (c .before .before .before .before .before .before .before .before .before .before .before .before .before .before .before .before .before .before .before .before .before .before .before .before .args .rule) (c .before .before .before .before .before .before .before .before .before .before .before .before .before .before .before .before .before .before .before .before .before .before .before .before .args .radius) (c .before .before .before .before .before .before .before .before .before .before .before .before .before .before .before .before .before .before .before .before .before .before .before .before .pre .0) (c .before .before .before .before .before .before .before .before .before .before .before .before .before .before .before .before .before .before .before .before .clear .ensures) (c .before .before .before .before .before .before .before .before .before .before .before .before .before .before .before .before .before .before .find-seed-triangle .ensures .0) (c .before .before .before .before .before .before .before .before .before .before .before .before .before .before .before .before .before .before .find-seed-triangle .ensures .1) (c .before .before .before .before .before .before .before .before .before .before .before .before .before .before .before .before .before .before .find-seed-triangle .kept .1 .1 .0) (c .before .before .before .before .before .before .before .before .before .before .before .before .before .before .seed .given .1) (c .before .before .before .before .before .before .before .before .before .before .before .remove-three .ensures) (c .before .before .before .before .before .before .before .before .before .before .before .remove-three .kept .1 .0) (c .before .before .before .before .before .before .lay-seed .ensures .0) (c .before .before .before .before .before .before .lay-seed .ensures .1)
+run-requires c κs =
+    let l = c .before .before .before .before .before .before in
+    let r = remove-of l in
+    let f = seed-of r in
+    let t = search-of f in
+    let s = start-of t in
+    seed-between-looks (s .args .p .rule) (s .args .p .radius) (s .pre .0) (t .before .before .clear .ensures) (t .find-seed-triangle .ensures .0) (t .find-seed-triangle .ensures .1) (t .find-seed-triangle .kept .1 .1 .0) (f .seed .given .1) (r .remove-three .ensures) (r .remove-three .kept .1 .0) (l .lay-seed .ensures .0) (l .lay-seed .ensures .1)
 
 enum-told : tie.Need-enum-told
 enum-told c = search needs
@@ -49,22 +90,33 @@ same-length : tie.Need-same-length
 same-length c = search needs
 
 same-length-2 : tie.Need-same-length-2
-same-length-2 c = seed-laid (c .before .before .before .before .before .before .before .before .before .before .before .before .before .before .before .before .before .before .before .before .before .before .before .before .before .before .before .before .before .args .rule) (c .before .before .before .before .before .before .before .before .before .before .before .before .before .before .before .before .before .before .before .before .before .before .before .before .before .before .before .before .before .args .radius) (c .before .before .before .before .before .before .before .before .before .before .before .before .before .before .before .before .before .before .before .before .before .before .before .before .before .before .before .before .before .pre .0) (c .before .before .before .before .before .before .before .before .before .before .before .before .before .before .before .before .before .before .before .before .before .before .before .before .before .clear .ensures) (c .before .before .before .before .before .before .before .before .before .before .before .before .before .before .before .before .before .before .before .before .before .before .before .find-seed-triangle .ensures .0) (c .before .before .before .before .before .before .before .before .before .before .before .before .before .before .before .before .before .before .before .before .before .before .before .find-seed-triangle .ensures .1) (c .before .before .before .before .before .before .before .before .before .before .before .before .before .before .before .before .before .before .before .before .before .before .before .find-seed-triangle .kept .1 .1 .0) (c .before .before .before .before .before .before .before .before .before .before .before .before .before .before .before .before .before .before .before .seed .given .1) (c .before .before .before .before .before .before .before .before .before .before .before .before .before .before .before .before .remove-three .ensures) (c .before .before .before .before .before .before .before .before .before .before .before .before .before .before .before .before .remove-three .kept .1 .0) (c .before .before .before .before .before .before .before .before .before .before .before .lay-seed .ensures .0) (c .before .before .before .before .before .before .before .before .before .before .before .lay-seed .ensures .1) (c .before .before .before .before .run .ensures) .length-same
+same-length-2 c =
+    let u = c .before .before .before .before in
+    let l = lay-of u in
+    let r = remove-of l in
+    let f = seed-of r in
+    let t = search-of f in
+    let s = start-of t in
+    seed-laid (s .args .p .rule) (s .args .p .radius) (s .pre .0) (t .before .before .clear .ensures) (t .find-seed-triangle .ensures .0) (t .find-seed-triangle .ensures .1) (t .find-seed-triangle .kept .1 .1 .0) (f .seed .given .1) (r .remove-three .ensures) (r .remove-three .kept .1 .0) (l .lay-seed .ensures .0) (l .lay-seed .ensures .1) (u .run .ensures) .length-same
 
 returns : tie.Need-returns
-returns c = (
-  seed-laid (c .before .before .before .before .before .before .before .before .before .before .before .before .before .before .before .before .before .before .before .before .before .before .before .before .before .before .before .before .before .args .rule) (c .before .before .before .before .before .before .before .before .before .before .before .before .before .before .before .before .before .before .before .before .before .before .before .before .before .before .before .before .before .args .radius) (c .before .before .before .before .before .before .before .before .before .before .before .before .before .before .before .before .before .before .before .before .before .before .before .before .before .before .before .before .before .pre .0) (c .before .before .before .before .before .before .before .before .before .before .before .before .before .before .before .before .before .before .before .before .before .before .before .before .before .clear .ensures) (c .before .before .before .before .before .before .before .before .before .before .before .before .before .before .before .before .before .before .before .before .before .before .before .find-seed-triangle .ensures .0) (c .before .before .before .before .before .before .before .before .before .before .before .before .before .before .before .before .before .before .before .before .before .before .before .find-seed-triangle .ensures .1) (c .before .before .before .before .before .before .before .before .before .before .before .before .before .before .before .before .before .before .before .before .before .before .before .find-seed-triangle .kept .1 .1 .0) (c .before .before .before .before .before .before .before .before .before .before .before .before .before .before .before .before .before .before .before .seed .given .1) (c .before .before .before .before .before .before .before .before .before .before .before .before .before .before .before .before .remove-three .ensures) (c .before .before .before .before .before .before .before .before .before .before .before .before .before .before .before .before .remove-three .kept .1 .0) (c .before .before .before .before .before .before .before .before .before .before .before .lay-seed .ensures .0) (c .before .before .before .before .before .before .before .before .before .before .before .lay-seed .ensures .1) (c .before .before .before .before .run .ensures),
-  λ h. absurd (known-seedless (c .before .before .before .before .before .before .before .before .before .before .before .before .before .before .before .before .before .before .before .before .before .before .before .find-seed-triangle .ensures .0) (c .before .before .before .before .before .before .before .before .before .before .before .before .before .before .before .before .before .before .before .before .before .before .before .before .before .before .before .before .before .pre .1 h) (c .before .before .before .before .before .before .before .before .before .before .before .before .before .before .before .before .before .before .before .seed .given .1)),
-)
+returns c =
+    let u = c .before .before .before .before in
+    let l = lay-of u in
+    let r = remove-of l in
+    let f = seed-of r in
+    let t = search-of f in
+    let s = start-of t in
+    (seed-laid (s .args .p .rule) (s .args .p .radius) (s .pre .0) (t .before .before .clear .ensures) (t .find-seed-triangle .ensures .0) (t .find-seed-triangle .ensures .1) (t .find-seed-triangle .kept .1 .1 .0) (f .seed .given .1) (r .remove-three .ensures) (r .remove-three .kept .1 .0) (l .lay-seed .ensures .0) (l .lay-seed .ensures .1) (u .run .ensures), λ h. absurd (known-seedless (t .find-seed-triangle .ensures .0) (s .pre .1 h) (f .seed .given .1)))
 
 same-length-3 : tie.Need-same-length-3
 same-length-3 c = search needs
 
 returns-2 : tie.Need-returns-2
-returns-2 c = (
-  no-seed (c .before .before .before .before .before .before .before .before .before .before .args .rule) (c .before .before .before .before .before .before .before .before .before .before .args .radius) (c .before .before .before .before .before .before .before .before .before .before .pre .0) (c .before .before .before .before .before .before .clear .ensures) (c .before .before .before .before .find-seed-triangle .ensures .0) (c .before .before .before .before .find-seed-triangle .ensures .1) (c .before .before .before .before .find-seed-triangle .kept .1 .1 .0) (c .enum-told .given .1),
-  λ h. ap (take (c .before .before .before .before .before .before .before .before .before .before .args .s .n)) (c .before .before .before .before .find-seed-triangle .ensures .1 .after),
-)
+returns-2 c =
+    let t = c .before .before .before .before in
+    let s = start-of t in
+    (no-seed (s .args .p .rule) (s .args .p .radius) (s .pre .0) (t .before .before .clear .ensures) (t .find-seed-triangle .ensures .0) (t .find-seed-triangle .ensures .1) (t .find-seed-triangle .kept .1 .1 .0) (c .enum-told .given .1), λ h. ap (take (s .args .p .scene .n)) (t .find-seed-triangle .ensures .1 .after))
 
 pub lay-one-spec : {M : Type 1} → statement M
 lay-one-spec = tie.close (tie.spec clear-requires find-seed-triangle-requires enum-known-seed remove-three-requires cast-lay-seed cast-lay-seed-2 cast-lay-seed-3 lay-seed-requires run-requires enum-told same-length same-length-2 returns same-length-3 returns-2)

@@ -13,7 +13,7 @@ pop-of i = i .before .before .before .before
 pop-requires : tie.Need-pop-requires
 pop-requires c κs =
     let s = c .before .before .before .before in
-    (pop-ready (s .args .rule) (s .args .radius) (s .pre .0) (s .pre .1), s .pre .1)
+    (pop-ready (s .args .p .rule) (s .args .p .radius) (s .pre .0) (s .pre .1), s .pre .1)
 
 read-entry-requires : tie.Need-read-entry-requires
 read-entry-requires c κs = search needs
@@ -26,7 +26,7 @@ returns c =
     let i = c .before in
     let p = pop-of i in
     let s = start-of p in
-    skipped (s .args .rule) (s .args .radius) (s .pre .0) (s .pre .1) (p .pop .ensures .0) (p .pop .ensures .1) (i .read-entry .ensures) (c .if1 .taken)
+    skipped (s .args .p .rule) (s .args .p .radius) (s .pre .0) (s .pre .1) (p .pop .ensures .0) (p .pop .ensures .1) (i .read-entry .ensures) (c .if1 .taken)
 
 pivot-over-requires : tie.Need-pivot-over-requires
 pivot-over-requires c κs =
@@ -34,7 +34,7 @@ pivot-over-requires c κs =
     let i = e .before in
     let p = pop-of i in
     let s = start-of p in
-    pivoting (s .args .rule) (s .args .radius) (s .pre .0) (s .pre .1) (p .pop .ensures .0) (p .pop .ensures .1) (i .read-entry .ensures) (e .if1 .left)
+    pivoting (s .args .p .rule) (s .args .p .radius) (s .pre .0) (s .pre .1) (p .pop .ensures .0) (p .pop .ensures .1) (i .read-entry .ensures) (e .if1 .left)
 
 same-length-2 : tie.Need-same-length-2
 same-length-2 c = search needs
@@ -49,7 +49,7 @@ returns-2 c =
     let i = e .before in
     let p = pop-of i in
     let s = start-of p in
-    looked-over (s .args .rule) (s .args .radius) (s .pre .0) (s .pre .1) (p .pop .ensures .0) (p .pop .ensures .1) (i .read-entry .ensures) (e .if1 .left) (o .pivot-over .ensures)
+    looked-over (s .args .p .rule) (s .args .p .radius) (s .pre .0) (s .pre .1) (p .pop .ensures .0) (p .pop .ensures .1) (i .read-entry .ensures) (e .if1 .left) (o .pivot-over .ensures)
 
 pub look-spec : {M : Type 1} → statement M
 look-spec =

@@ -5,10 +5,10 @@ use Rattle.laying.proofs.run.Statement.{statement}
 use Rattle.laying.proofs.run.Tie as tie
 
 abbrev Inv-loop : tie.InvT-loop
-Inv-loop s points faces₀ w₀ radius hash rule c₀ faces w c = Running rule s hash points radius c₀ w₀ faces₀ c w faces
+Inv-loop p points faces₀ w₀ c₀ faces w c = Running (p .rule) (p .scene) (p .hash) points (p .radius) c₀ w₀ faces₀ c w faces
 
 abbrev μ-loop : tie.MeasureT-loop
-μ-loop s points faces₀ w₀ radius hash rule c₀ faces w c = 3 * s .n - c .looks
+μ-loop p points faces₀ w₀ c₀ faces w c = 3 * p .scene .n - c .looks
 
 loop-holds : tie.Need-loop-holds Inv-loop μ-loop
 loop-holds c =
