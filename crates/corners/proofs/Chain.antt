@@ -15,7 +15,8 @@ use Rattle.lists.proofs.Bools.{either}
 use Rattle.lists.proofs.Counts.{true-any, false-any}
 use Rattle.patch.specs.Lay.{Face, face, pointsOf}
 use Rattle.patch.specs.Shape.{touches}
-use Rattle.corners.specs.Corners.{linksAt, headsAt, headsEnd, lastAt, Linked, Bound, Links}
+use Rattle.regions.specs.Ordering.{cornersAt, headsAt, headsEnd}
+use Rattle.corners.specs.Corners.{lastAt, Linked, Bound, Links}
 
 module _ (corner : ℕ → ℕ) (x : ℕ) where
   pub last-here : (k : ℕ) → eqb x (corner k) ≡ true → lastAt corner x (suc k) ≡ suc k
@@ -69,8 +70,8 @@ module _ (n sides : ℕ) (before : List ℕ) where
   -- the corners below s are linked
   pub record Partly (s : ℕ) (w : List ℕ) : Type 0 where
     pub heads : (x : ℕ) → x < n → getD w (headsAt n + x) 0 ≡ lastAt corner x s
-    pub links : (t : ℕ) → t < s → getD w (linksAt n + t) 0 ≡ lastAt corner (corner t) t
-    pub outside : (k : ℕ) → (k < linksAt n) ⊎ (headsEnd n ≤ k) → getD w k 0 ≡ getD before k 0
+    pub links : (t : ℕ) → t < s → getD w (cornersAt n + t) 0 ≡ lastAt corner (corner t) t
+    pub outside : (k : ℕ) → (k < cornersAt n) ⊎ (headsEnd n ≤ k) → getD w k 0 ≡ getD before k 0
 
   pub partly-start : ((x : ℕ) → x < n → getD before (headsAt n + x) 0 ≡ 0) → Partly 0 before
   unfolding lastAt
@@ -136,14 +137,14 @@ module _ (n sides : ℕ) (few : sides ≤ 3 * n) (v w : List ℕ) (same : (k : �
   linked-same corner h = record {
     corners = λ s l. same s (omega arith) ∙ h .corners s l;
     heads = λ x l. same (headsAt n + x) (omega arith) ∙ h .heads x l;
-    links = λ s l. same (linksAt n + s) (omega arith) ∙ h .links s l;
+    links = λ s l. same (cornersAt n + s) (omega arith) ∙ h .links s l;
   }
 
   pub bound-same : Bound n sides v → Bound n sides w
   bound-same h = record {
     points = λ s l. rw (same s (omega arith)) (h .points s l);
     heads = λ x l. rw (same (headsAt n + x) (omega arith)) (h .heads x l);
-    links = λ s l. rw (same (linksAt n + s) (omega arith)) (h .links s l);
+    links = λ s l. rw (same (cornersAt n + s) (omega arith)) (h .links s l);
   }
 
 -- ---- a face's points, asked one by one

@@ -3,21 +3,12 @@
 use Prim.Native.Nat.{ℕ, zero, suc, _+_, _*_, _≤_, _<_}
 use mathlib.Core.Path.{_≡_}
 use mathlib.Core.Logic.{_⊎_}
-use mathlib.Core.Bool.{Bool, true, false}
+use mathlib.Core.Bool.{true, false}
 use mathlib.Core.List.{List}
 use lib.Dec.{eqb}
 use lib.ListN.{getD}
 use Rattle.patch.specs.Lay.{Face, face}
-
--- for n points: where the links of the corners and the heads of the points stand, and where the heads end
-abbrev pub linksAt : ℕ → ℕ
-linksAt n = 3 * n
-
-abbrev pub headsAt : ℕ → ℕ
-headsAt n = 6 * n
-
-abbrev pub headsEnd : ℕ → ℕ
-headsEnd n = 7 * n
+use Rattle.regions.specs.Ordering.{cornersAt, headsAt, headsEnd}
 
 -- one above the last of the corners below k that is at the point x, 0 if none is
 unfoldable pub lastAt : (ℕ → ℕ) → ℕ → ℕ → ℕ
@@ -32,16 +23,16 @@ faceIn w g = face (getD w (3 * g) 0) (getD w (3 * g + 1) 0) (getD w (3 * g + 2) 
 pub record Linked (n sides : ℕ) (corner : ℕ → ℕ) (w : List ℕ) : Type 0 where
   pub corners : (s : ℕ) → s < sides → getD w s 0 ≡ corner s
   pub heads : (x : ℕ) → x < n → getD w (headsAt n + x) 0 ≡ lastAt corner x sides
-  pub links : (s : ℕ) → s < sides → getD w (linksAt n + s) 0 ≡ lastAt corner (corner s) s
+  pub links : (s : ℕ) → s < sides → getD w (cornersAt n + s) 0 ≡ lastAt corner (corner s) s
 
 -- every point is below n, and no head or link leads upwards
 pub record Bound (n sides : ℕ) (w : List ℕ) : Type 0 where
   pub points : (s : ℕ) → s < sides → getD w s 0 < n
   pub heads : (x : ℕ) → x < n → getD w (headsAt n + x) 0 ≤ sides
-  pub links : (s : ℕ) → s < sides → getD w (linksAt n + s) 0 ≤ s
+  pub links : (s : ℕ) → s < sides → getD w (cornersAt n + s) 0 ≤ s
 
 -- what linking leaves: nothing outside the links and the heads has changed
 pub record Links (n sides : ℕ) (before after : List ℕ) : Type 0 where
   pub linked : Linked n sides (λ s. getD before s 0) after
   pub bound : Bound n sides after
-  pub outside : (k : ℕ) → (k < linksAt n) ⊎ (headsEnd n ≤ k) → getD after k 0 ≡ getD before k 0
+  pub outside : (k : ℕ) → (k < cornersAt n) ⊎ (headsEnd n ≤ k) → getD after k 0 ≡ getD before k 0

@@ -4,7 +4,8 @@ ghost use mathlib.Core.Path.{_≡_};
 ghost use Prim.Native.Nat.{ℕ, _+_, _*_, _≤_, _<_};
 ghost use lib.ListN.{length, getD};
 ghost use Rattle.patch.specs.Shape.{touches};
-ghost use Rattle.corners.specs.Corners.{headsAt, headsEnd, faceIn, Links};
+ghost use Rattle.regions.specs.Ordering.{headsAt, headsEnd};
+ghost use Rattle.corners.specs.Corners.{faceIn, Links};
 
 // Links the corners of `count` faces over n points, whose heads are zeros.
 pub fn link_corners(n: usize, count: usize, words: &mut [u32])
@@ -16,8 +17,8 @@ pub fn link_corners(n: usize, count: usize, words: &mut [u32])
     let mut s: usize = 0;
     while s < 3 * count {
         let x = words[s] as usize;
-        words[3 * n + s] = words[6 * n + x];
-        words[6 * n + x] = (s + 1) as u32;
+        words[regions::CORNERS * n + s] = words[regions::HEADS * n + x];
+        words[regions::HEADS * n + x] = (s + 1) as u32;
         s += 1;
     }
 }

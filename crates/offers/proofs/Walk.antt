@@ -14,9 +14,10 @@ use Rattle.lists.proofs.Counts.{bit-le, count-ext}
 use Rattle.patch.specs.Lay.{edge, Face, face}
 use Rattle.patch.specs.Shape.{has, touches}
 use Rattle.minima.specs.Minima.{Nodes, leaf, Outside, Renewed}
-use Rattle.corners.specs.Corners.{linksAt, headsAt, lastAt, faceIn, Linked, Bound}
+use Rattle.corners.specs.Corners.{lastAt, faceIn, Linked, Bound}
 use Rattle.corners.proofs.Chain.{last-le, last-at, last-none, linked-same, bound-same}
-use Rattle.offers.specs.Offers.{treeAt, offered, Offered, OfferedAt, Faces, Met, Meets}
+use Rattle.regions.specs.Ordering.{cornersAt, headsAt, treeAt}
+use Rattle.offers.specs.Offers.{offered, Offered, OfferedAt, Faces, Met, Meets}
 use Rattle.offers.proofs.Faces.{has-both, tally, tally-here, tally-last, tally-none, tally-faces, corner-touches, touches-corner}
 
 -- ---- one face
@@ -134,9 +135,9 @@ module _ (n faces x y : ℕ) (start : List ℕ) where
       at-x : corner side ≡ x
       at-x = last-at corner x (now-going .from) side (sym (now-going .next-is) ∙ (omega arith))
 
-      next-now : getD u (linksAt n + side) 0 ≡ lastAt corner x side
+      next-now : getD u (cornersAt n + side) 0 ≡ lastAt corner x side
       next-now =
-          outside-now (linksAt n + side) (inl (omega arith))
+          outside-now (cornersAt n + side) (inl (omega arith))
           ∙ linked .links side (omega arith)
           ∙ ap (λ (p : ℕ). lastAt corner p side) at-x
 
@@ -149,16 +150,16 @@ module _ (n faces x y : ℕ) (start : List ℕ) where
       abbrev q : ℕ → Bool
       q g = touches y (at g)
 
-      tallied-now : met + r + tally corner x q (getD u (linksAt n + side) 0) ≡ tally corner x q (3 * faces)
+      tallied-now : met + r + tally corner x q (getD u (cornersAt n + side) 0) ≡ tally corner x q (3 * faces)
       tallied-now =
           let before = now-going .tallied in
           let one : tally corner x q next ≡ bit (q here) + tally corner x q side =
           (let e : next ≡ suc side = omega arith in ap (tally corner x q) e ∙ tally-here corner x q side at-x) in
-          let now : tally corner x q (getD u (linksAt n + side) 0) ≡ tally corner x q side = ap (tally corner x q) next-now ∙ tally-last corner x q side in
+          let now : tally corner x q (getD u (cornersAt n + side) 0) ≡ tally corner x q side = ap (tally corner x q) next-now ∙ tally-last corner x q side in
           let found : r ≡ bit (q here) = at-face .0 ∙ ap bit test-is in
           omega arith
 
-      seen-now : (t : ℕ) → getD u (linksAt n + side) 0 ≤ t → t < 3 * faces → corner t ≡ x → q (t / 3) ≡ true → leaf (treeAt n) faces u (t / 3) ≡ offered true faces (t / 3) (leaf (treeAt n) faces start (t / 3))
+      seen-now : (t : ℕ) → getD u (cornersAt n + side) 0 ≤ t → t < 3 * faces → corner t ≡ x → q (t / 3) ≡ true → leaf (treeAt n) faces u (t / 3) ≡ offered true faces (t / 3) (leaf (treeAt n) faces start (t / 3))
       seen-now t a b e h = ⊎-elim
           (λ (s : eqb (t / 3) here ≡ true).
           let same = eqb-true (t / 3) here s in
@@ -191,7 +192,7 @@ module _ (n faces x y : ℕ) (start : List ℕ) where
           (λ (s : eqb g here ≡ false). step .others g b (eqb-false g here s) ∙ now-going .others g b e)
           (either (eqb g here))
 
-      going-on : Going corner at u (met + r) (getD u (linksAt n + side) 0)
+      going-on : Going corner at u (met + r) (getD u (cornersAt n + side) 0)
       going-on = record {
         from = side;
         within = omega arith;
@@ -202,7 +203,7 @@ module _ (n faces x y : ℕ) (start : List ℕ) where
         others = others-now;
       }
 
-    pub walk-step : Walked u (met + r) (getD u (linksAt n + side) 0)
+    pub walk-step : Walked u (met + r) (getD u (cornersAt n + side) 0)
     walk-step = record { nodes = λ h. step .nodes (walked .nodes h); outside = outside-now; going = going-on }
 
   pub walk-end : (w : List ℕ) (met next : ℕ) → next ≡ 0 → Walked w met next → Meets n faces x y met start w

@@ -1,6 +1,6 @@
 -- Faces that are offered because an edge of theirs was placed, in the tree of minima that holds a value for each face:
 -- count + g while the face g shares no edge with a placed one, then g. Definitions only.
-use Prim.Native.Nat.{ℕ, _+_, _*_, _≤_, _<_}
+use Prim.Native.Nat.{ℕ, _+_, _*_, _<_}
 use mathlib.Core.Path.{_≡_}
 use mathlib.Core.Logic.{_≢_}
 use mathlib.Core.Bool.{Bool, true, false}
@@ -11,13 +11,7 @@ use Rattle.patch.specs.Lay.{edge, Face, face}
 use Rattle.patch.specs.Shape.{has, touches}
 use Rattle.corners.specs.Corners.{faceIn, Linked}
 use Rattle.minima.specs.Minima.{Nodes, leaf, Outside}
-
--- for n points: where the tree stands, and where it ends
-abbrev pub treeAt : ℕ → ℕ
-treeAt n = 8 * n
-
-abbrev pub treeEnd : ℕ → ℕ
-treeEnd n = 10 * n
+use Rattle.regions.specs.Ordering.{treeAt}
 
 -- the value of the face g once it is offered: a face that is placed, or was offered before, keeps its value
 unfoldable pub offered : Bool → ℕ → ℕ → ℕ → ℕ

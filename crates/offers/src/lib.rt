@@ -5,18 +5,19 @@ ghost use mathlib.Core.Bool.{true};
 ghost use Prim.Native.Nat.{_+_, _*_, _≤_, _<_};
 ghost use lib.ListN.{length};
 ghost use Rattle.corners.specs.Corners.{Bound};
-ghost use Rattle.offers.specs.Offers.{treeEnd, Offered, OfferedAt, Meets};
+ghost use Rattle.regions.specs.Ordering.{treeEnd};
+ghost use Rattle.offers.specs.Offers.{Offered, OfferedAt, Meets};
 
 // Offers the face g, if it is left and was not offered before.
 fn offer(n: usize, count: usize, words: &mut [u32], g: usize)
     requires { ⌜ (n ≤ 4096) × (count ≤ n) × (g < count) × (treeEnd n ≤ length (now words)) ⌝ }
     ensures { λ _. ⌜ Offered n count g true (now (words .entry)) (now (words .exit)) ⌝ }
 {
-    let value = words[8 * n + count + g] as usize;
+    let value = words[regions::TREE * n + count + g] as usize;
     if value != count + g {
         return;
     }
-    minima::renew(8 * n, count, words, g, g as u32);
+    minima::renew(regions::TREE * n, count, words, g, g as u32);
 }
 
 // Offers the face g if it has the point y; answers 1 if it has, else 0.
@@ -38,11 +39,11 @@ pub fn offer_at(n: usize, count: usize, words: &mut [u32], x: usize, y: u32) -> 
     ensures { λ r. ⌜ Meets n count x y r (now (words .entry)) (now (words .exit)) ⌝ }
 {
     let mut met: usize = 0;
-    let mut next: usize = words[6 * n + x] as usize;
+    let mut next: usize = words[regions::HEADS * n + x] as usize;
     while 0 < next {
         let side = next - 1;
         met += offer_with(n, count, words, side / 3, y);
-        next = words[3 * n + side] as usize;
+        next = words[regions::CORNERS * n + side] as usize;
     }
     met
 }

@@ -26,10 +26,11 @@ use Rattle.minima.specs.Minima.{leaf}
 use Rattle.minima.proofs.Trees.{Leaf, root-least, root-leaf}
 use Rattle.corners.specs.Corners.{Bound}
 use Rattle.corners.proofs.Chain.{linked-same, bound-same}
-use Rattle.offers.specs.Offers.{treeAt, treeEnd, Faces}
-use Rattle.placing.specs.Placing.{usedAt, lies, laid, value, Kept, Placed, Places}
+use Rattle.offers.specs.Offers.{Faces}
+use Rattle.placing.specs.Placing.{lies, laid, value, Kept, Placed, Places}
 use Rattle.placing.proofs.Keeping.{value-placed, value-joined, value-left}
-use Rattle.ordering.specs.Ordering.{orderAt, faceOf, Found, Finds}
+use Rattle.regions.specs.Ordering.{reachedAt, treeAt, treeEnd, placedAt}
+use Rattle.ordering.specs.Ordering.{faceOf, Found, Finds}
 use Rattle.ordering.proofs.Rising.{Rising, rising-up, rising-without, first-is, first-default, head-least}
 
 pub face-low : (faces root : ℕ) → root < faces → faceOf faces root ≡ root
@@ -44,7 +45,7 @@ face-high faces root l = rw (le-ltb root faces l)
 pub kept-same : (n faces : ℕ) (few : faces ≤ n) (corner : ℕ → ℕ) (at : ℕ → Face) (placed v w : List ℕ) → ((k : ℕ) → k < treeEnd n → getD w k 0 ≡ getD v k 0) → Kept n faces corner at placed v → Kept n faces corner at placed w
 kept-same n faces few corner at placed v w same h = record {
   linked = linked-same n (3 * faces) (omega arith) v w (λ k l. same k (omega arith)) corner (h .linked);
-  used = λ x l. same (usedAt n + x) (omega arith) ∙ h .used x l;
+  used = λ x l. same (reachedAt n + x) (omega arith) ∙ h .used x l;
   nodes = λ k l m.
       same (treeAt n + k) (omega arith) ∙ h .nodes k l m
       ∙ ap₂ min (sym (same (treeAt n + 2 * k) (omega arith))) (sym (same (treeAt n + 2 * k + 1) (omega arith)));
@@ -163,7 +164,7 @@ module _ (n faces : ℕ) (few : faces ≤ n) (corner : ℕ → ℕ) (fs : List F
     pub tail : (j : ℕ) → getD (greedy fs) (k + j) 0 ≡ getD (ahead n faces few corner at placed left) j 0
     pub fit : allFit at [] (greedy fs) ≡ allFit at placed (ahead n faces few corner at placed left)
     pub loosed : seeded + loose at placed (ahead n faces few corner at placed left) ≡ loose at [] (greedy fs)
-    pub order : (j : ℕ) → j < k → getD w (orderAt n + j) 0 ≡ getD (greedy fs) j 0
+    pub order : (j : ℕ) → j < k → getD w (placedAt n + j) 0 ≡ getD (greedy fs) j 0
 
   pub record Run (k seeded : ℕ) (w : List ℕ) : Type 0 where
     pub placed : List ℕ
@@ -237,7 +238,7 @@ module _ (n faces : ℕ) (few : faces ≤ n) (corner : ℕ → ℕ) (fs : List F
     unfolding allFit
     fit-stop h = rw h
 
-    pub run-step : (u : List ℕ) → u ≡ set z (orderAt n + k) i → orderAt n + k < length z
+    pub run-step : (u : List ℕ) → u ≡ set z (placedAt n + k) i → placedAt n + k < length z
         → ((j : ℕ) → treeEnd n ≤ j → getD z j 0 ≡ getD w j 0)
         → Kept n faces corner at (i ∷ r .placed) z → fits at (r .placed) i ≡ true
         → (more : ℕ) → more ≡ bit (not (ltb (getD w (treeAt n + 1) 0) faces)) → Run (k + 1) (seeded + more) u
@@ -246,7 +247,7 @@ module _ (n faces : ℕ) (few : faces ≤ n) (corner : ℕ → ℕ) (fs : List F
       left = without i (r .left);
       here = record {
         kept = kept-same n faces few corner at (i ∷ r .placed) z u
-            (λ j b. ap (λ (v : List ℕ). getD v j 0) is ∙ getD-set-other z (orderAt n + k) j i 0 (λ (q : j ≡ orderAt n + k). omega arith)) kept;
+            (λ j b. ap (λ (v : List ℕ). getD v j 0) is ∙ getD-set-other z (placedAt n + k) j i 0 (λ (q : j ≡ placedAt n + k). omega arith)) kept;
         rising = rising-without i (r .left) (r .here .rising);
         counts = λ g. (let c = r .here .counts g in let e = without-count i (r .left) (picks .is-left) g in omega arith);
         long = (let a = r .here .long in let b = without-length i (r .left) (picks .is-left) in omega arith);
@@ -260,14 +261,14 @@ module _ (n faces : ℕ) (few : faces ≤ n) (corner : ℕ → ℕ) (fs : List F
             let b = ap (loose at (r .placed)) (picks .first) in
             let s : bit (not (ltb (getD w (treeAt n + 1) 0) faces)) ≡ bit (not (joined at (r .placed) i)) = ap (λ (v : Bool). bit (not v)) (picks .shared) in
             omega arith);
-        order = λ j b. ap (λ (v : List ℕ). getD v (orderAt n + j) 0) is ∙ ⊎-elim
+        order = λ j b. ap (λ (v : List ℕ). getD v (placedAt n + j) 0) is ∙ ⊎-elim
             (λ (t : eqb j k ≡ true).
             let e = eqb-true j k t in
-            rw e (getD-set-same z (orderAt n + k) i 0 room ∙ sym here-is))
+            rw e (getD-set-same z (placedAt n + k) i 0 room ∙ sym here-is))
             (λ (t : eqb j k ≡ false).
             let ne : j ≢ k = eqb-false j k t in
-            getD-set-other z (orderAt n + k) (orderAt n + j) i 0 (λ (q : orderAt n + j ≡ orderAt n + k). ne (omega arith))
-            ∙ same (orderAt n + j) (omega arith)
+            getD-set-other z (placedAt n + k) (placedAt n + j) i 0 (λ (q : placedAt n + j ≡ placedAt n + k). ne (omega arith))
+            ∙ same (placedAt n + j) (omega arith)
             ∙ r .here .order j (omega arith))
             (either (eqb j k));
       };
@@ -375,7 +376,7 @@ module _ (n faces : ℕ) (few : faces ≤ n) (start w : List ℕ) (k seeded : �
           (d .unfit refl));
     }
 
-    pub runs-step : (u : List ℕ) (more : ℕ) → Places n faces next shared true w z → u ≡ set z (orderAt n + k) next → orderAt n + k < length z → more ≡ bit (not shared) → Runs n faces start (k + 1) (seeded + more) u
+    pub runs-step : (u : List ℕ) (more : ℕ) → Places n faces next shared true w z → u ≡ set z (placedAt n + k) next → placedAt n + k < length z → more ≡ bit (not shared) → Runs n faces start (k + 1) (seeded + more) u
     runs-step u more p is room m few corner fs many different held kept =
         let r = runs few corner fs many different held kept in
         let q = run-picks n faces few corner fs many different k seeded w l r in
@@ -391,8 +392,8 @@ module _ (n faces : ℕ) (few : faces ≤ n) (start w : List ℕ) (k seeded : �
 pub places-as : (n faces i j : ℕ) (shared r s : Bool) (w z : List ℕ) → i ≡ j → r ≡ s → Places n faces i shared r w z → Places n faces j shared s w z
 places-as n faces i j shared r s w z e f p = subst (λ (q : Bool). Places n faces j shared q w z) f (subst (λ (q : ℕ). Places n faces q shared r w z) e p)
 
-pub placed-bound : (n faces : ℕ) → faces ≤ n → (i : ℕ) (shared r : Bool) (w z : List ℕ) (k v : ℕ) → Places n faces i shared r w z → Bound n (3 * faces) w → Bound n (3 * faces) (set z (orderAt n + k) v)
+pub placed-bound : (n faces : ℕ) → faces ≤ n → (i : ℕ) (shared r : Bool) (w z : List ℕ) (k v : ℕ) → Places n faces i shared r w z → Bound n (3 * faces) w → Bound n (3 * faces) (set z (placedAt n + k) v)
 placed-bound n faces few i shared r w z k v p h =
-    bound-same n (3 * faces) (omega arith) w (set z (orderAt n + k) v)
-    (λ j l. getD-set-other z (orderAt n + k) j v 0 (λ (q : j ≡ orderAt n + k). omega arith) ∙ p .outside j (inl l))
+    bound-same n (3 * faces) (omega arith) w (set z (placedAt n + k) v)
+    (λ j l. getD-set-other z (placedAt n + k) j v 0 (λ (q : j ≡ placedAt n + k). omega arith) ∙ p .outside j (inl l))
     h

@@ -20,12 +20,13 @@ use Rattle.orders.proofs.Totals.{same-length}
 use Rattle.orders.proofs.Decide.{numbers-length, numbers-permute, greedy-permutes}
 use Rattle.lists.specs.Lists.{upFrom}
 use Rattle.minima.specs.Minima.{Planted}
-use Rattle.corners.specs.Corners.{faceIn, headsEnd, Links, Bound}
+use Rattle.corners.specs.Corners.{faceIn, Links, Bound}
 use Rattle.corners.proofs.Chain.{linked-same, bound-same}
-use Rattle.offers.specs.Offers.{treeAt, Faces}
-use Rattle.placing.specs.Placing.{usedAt, laid, Kept}
+use Rattle.offers.specs.Offers.{Faces}
+use Rattle.placing.specs.Placing.{laid, Kept}
 use Rattle.placing.proofs.Keeping.{value-left}
-use Rattle.ordering.specs.Ordering.{orderAt, Told, Found, Finds, Ordering}
+use Rattle.regions.specs.Ordering.{headsEnd, reachedAt, treeAt, placedAt}
+use Rattle.ordering.specs.Ordering.{Told, Found, Finds, Ordering}
 
 -- ---- clearing
 -- the words from `from` up to k are zeros, and nothing outside the part has changed
@@ -75,9 +76,9 @@ module _ (n faces : ℕ) (few : faces ≤ n) (w0 w1 w2 w3 : List ℕ) (zeros : (
     start-kept = record {
       linked = linked-same n (3 * faces) (omega arith) w2 w3 front corner (links .linked);
       used = λ x l.
-          planted .outside (usedAt n + x) (inl (omega arith))
-          ∙ links .outside (usedAt n + x) (inr (omega arith))
-          ∙ zeros (usedAt n + x) (omega arith) (omega arith)
+          planted .outside (reachedAt n + x) (inl (omega arith))
+          ∙ links .outside (reachedAt n + x) (inr (omega arith))
+          ∙ zeros (reachedAt n + x) (omega arith) (omega arith)
           ∙ sym (ap bit (false-any (λ j. touches x (faceAt fs j)) [] refl));
       nodes = planted .nodes;
       values = λ g l. planted .leaves g l ∙ sym (value-left (faceAt fs) faces [] g (false-any (eqb g) [] refl) (false-any (λ j. neighbours (faceAt fs g) (faceAt fs j)) [] refl));
@@ -89,15 +90,15 @@ greedy-long : (fs : List Face) → length (greedy fs) ≡ length fs
 greedy-long fs = same-length (length fs) (greedy fs) (upFrom 0 (length fs)) (greedy-permutes fs) (numbers-permute (length fs)) ∙ numbers-length (length fs) 0
 
 module _ (n faces : ℕ) (fs : List Face) (many : length fs ≡ faces) (seeded : ℕ) (w : List ℕ) where
-  copied : orderAt n + faces ≤ length w → (ok : Bool) → ok ≡ true → Found n fs ok seeded w → take faces (drop (orderAt n) w) ≡ greedy fs
+  copied : placedAt n + faces ≤ length w → (ok : Bool) → ok ≡ true → Found n fs ok seeded w → take faces (drop (placedAt n) w) ≡ greedy fs
   copied room ok t f =
-      let long : length (take faces (drop (orderAt n) w)) ≡ faces = length-take-le faces (drop (orderAt n) w) (let d = length-drop (orderAt n) w in omega arith) in
-      ext-getD 0 (take faces (drop (orderAt n) w)) (greedy fs) (let g = greedy-long fs in omega arith)
+      let long : length (take faces (drop (placedAt n) w)) ≡ faces = length-take-le faces (drop (placedAt n) w) (let d = length-drop (placedAt n) w in omega arith) in
+      ext-getD 0 (take faces (drop (placedAt n) w)) (greedy fs) (let g = greedy-long fs in omega arith)
       (λ j l.
       let b : j < faces = omega arith in
-      getD-take faces (drop (orderAt n) w) j 0 b ∙ getD-drop (orderAt n) w j 0 ∙ f .order t j (omega arith))
+      getD-take faces (drop (placedAt n) w) j 0 b ∙ getD-drop (placedAt n) w j 0 ∙ f .order t j (omega arith))
 
-  pub ordered-yes : (before after : List ℕ) → orderAt n + faces ≤ length w → (ok : Bool) → ok ≡ true → Found n fs ok seeded w → after ≡ take faces (drop (orderAt n) w) ++ drop faces before → Ordering fs ok seeded before after
+  pub ordered-yes : (before after : List ℕ) → placedAt n + faces ≤ length w → (ok : Bool) → ok ≡ true → Found n fs ok seeded w → after ≡ take faces (drop (placedAt n) w) ++ drop faces before → Ordering fs ok seeded before after
   ordered-yes before after room ok t f is = record {
     decided = f .decided;
     ordered = λ _. is ∙ ap (λ (l : List ℕ). l ++ drop faces before) (copied room ok t f) ∙ ap (λ (k : ℕ). greedy fs ++ drop k before) (sym many);

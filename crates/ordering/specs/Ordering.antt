@@ -1,5 +1,5 @@
 -- What the search for the greedy order leaves. Definitions only.
-use Prim.Native.Nat.{ℕ, _+_, _-_, _*_, _≤_, _<_}
+use Prim.Native.Nat.{ℕ, _+_, _-_, _<_}
 use mathlib.Core.Path.{_≡_}
 use mathlib.Core.Bool.{Bool, true, false, cond}
 use mathlib.Core.List.{List, [], _++_}
@@ -10,13 +10,7 @@ use Rattle.orders.specs.Order.{faceAt, greedy, seeds, AllDifferent, accepted}
 use Rattle.corners.specs.Corners.{faceIn}
 use Rattle.offers.specs.Offers.{Faces}
 use Rattle.placing.specs.Placing.{Kept}
-
--- for n points: where the order stands while it is found, and where it ends
-abbrev pub orderAt : ℕ → ℕ
-orderAt n = 10 * n
-
-abbrev pub orderEnd : ℕ → ℕ
-orderEnd n = 11 * n
+use Rattle.regions.specs.Ordering.{placedAt}
 
 -- the face that the least value tells
 unfoldable pub faceOf : ℕ → ℕ → ℕ
@@ -33,7 +27,7 @@ pub record Found (n : ℕ) (fs : List Face) (ok : Bool) (count : ℕ) (after : L
   pub decided : ok ≡ accepted fs
   pub many : ok ≡ true → count ≡ seeds fs
   pub none : ok ≡ false → count ≡ 0
-  pub order : ok ≡ true → (j : ℕ) → j < length fs → getD after (orderAt n + j) 0 ≡ getD (greedy fs) j 0
+  pub order : ok ≡ true → (j : ℕ) → j < length fs → getD after (placedAt n + j) 0 ≡ getD (greedy fs) j 0
 
 -- whatever the faces, where none is placed yet
 pub record Finds (n faces : ℕ) (ok : Bool) (count : ℕ) (before after : List ℕ) : Type 0 where

@@ -8,7 +8,8 @@ ghost use lib.ListN.{length, getD, take, drop};
 ghost use Rattle.lists.specs.Lists.{bit};
 ghost use Rattle.patch.specs.Lay.{Face};
 ghost use Rattle.corners.specs.Corners.{Bound};
-ghost use Rattle.ordering.specs.Ordering.{orderAt, orderEnd, faceOf, Told, Finds, Ordering};
+ghost use Rattle.regions.specs.Ordering.{placedAt, placedEnd};
+ghost use Rattle.ordering.specs.Ordering.{faceOf, Told, Finds, Ordering};
 
 // Whether some order is valid, and how many faces of the greedy one share no edge with an earlier one.
 pub struct Ordered {
@@ -52,13 +53,13 @@ fn seed_of(shared: bool) -> u32
 
 // Places the faces in greedy order, until one does not fit or an edge lies in three faces.
 fn place_all(n: usize, count: usize, words: &mut [u32]) -> Ordered
-    requires { ⌜ (n ≤ 4096) × (count ≤ n) × (orderEnd n ≤ length (now words)) × Bound n (3 * count) (now words) ⌝ }
+    requires { ⌜ (n ≤ 4096) × (count ≤ n) × (placedEnd n ≤ length (now words)) × Bound n (3 * count) (now words) ⌝ }
     ensures { λ r. ⌜ Finds n count (r .ok) (r .seeds) (now (words .entry)) (now (words .exit)) ⌝ }
 {
     let mut seeds: u32 = 0;
     let mut k: usize = 0;
     while k < count {
-        let root = words[8 * n + 1] as usize;
+        let root = words[regions::TREE * n + 1] as usize;
         let i = face_of(count, root);
         if count <= i {
             return Ordered {
@@ -74,7 +75,7 @@ fn place_all(n: usize, count: usize, words: &mut [u32]) -> Ordered
             };
         }
         seeds += seed_of(shared);
-        words[10 * n + k] = i as u32;
+        words[regions::PLACED * n + k] = i as u32;
         k += 1;
     }
     Ordered {
@@ -85,13 +86,13 @@ fn place_all(n: usize, count: usize, words: &mut [u32]) -> Ordered
 
 // Copies the order out of the words.
 fn copy_order(n: usize, count: usize, order: &mut [u32], words: &[u32])
-    requires { ⌜ (count ≤ n) × (count ≤ length (now order)) × (orderEnd n ≤ length (now words)) ⌝ }
-    ensures { λ _. ⌜ now (order .exit) ≡ take count (drop (orderAt n) (now (words .entry)))
+    requires { ⌜ (count ≤ n) × (count ≤ length (now order)) × (placedEnd n ≤ length (now words)) ⌝ }
+    ensures { λ _. ⌜ now (order .exit) ≡ take count (drop (placedAt n) (now (words .entry)))
         ++ drop count (now (order .entry)) ⌝ }
 {
     let mut j: usize = 0;
     while j < count {
-        order[j] = words[10 * n + j];
+        order[j] = words[regions::PLACED * n + j];
         j += 1;
     }
 }
@@ -99,14 +100,14 @@ fn copy_order(n: usize, count: usize, order: &mut [u32], words: &[u32])
 // Decides whether `count` faces over n points, three words each in front of `words`, could be a patch of ours in shape;
 // if so `order` gets the greedy order in front. What `words` holds afterwards is free.
 pub fn order_faces(n: usize, count: usize, order: &mut [u32], words: &mut [u32]) -> Ordered
-    requires { ⌜ (n ≤ 4096) × (count ≤ n) × (count ≤ length (now order)) × (orderEnd n ≤ length (now words))
+    requires { ⌜ (n ≤ 4096) × (count ≤ n) × (count ≤ length (now order)) × (placedEnd n ≤ length (now words))
         × ((s : ℕ) → s < 3 * count → getD (now words) s 0 < n) ⌝ }
     ensures { λ r. ⌜ ((fs : List Face) → Told count fs (now (words .entry))
         → Ordering fs (r .ok) (r .seeds) (now (order .entry)) (now (order .exit))) ⌝ }
 {
-    clear_part(words, 6 * n, 8 * n);
+    clear_part(words, regions::HEADS * n, regions::TREE * n);
     corners::link_corners(n, count, words);
-    minima::plant(8 * n, count, words);
+    minima::plant(regions::TREE * n, count, words);
     let found = place_all(n, count, words);
     let ok = found.ok;
     if !ok {

@@ -14,7 +14,8 @@ use Rattle.patch.proofs.View.{length-written}
 use Rattle.orders.specs.Order.{accepted}
 use Rattle.face_lines.specs.Answers.{Readable, Stored}
 use Rattle.corners.specs.Corners.{faceIn}
-use Rattle.ordering.specs.Ordering.{orderEnd, Told, Ordering}
+use Rattle.ordering.specs.Ordering.{Told, Ordering}
+use Rattle.regions.specs.Ordering.{placedEnd}
 use Rattle.patch_order.specs.Ordering.{refusedWith}
 use Rattle.patch_order.specs.Ready.{tooMany, Checked, Judged}
 use Rattle.patch_order.specs.declared.Ordered.{Ordered}
@@ -63,7 +64,7 @@ module _ (bytes : List ℕ) (n count : ℕ) (words : List ℕ) (p : Checked byte
         subst (λ (f : Face). (f .a < n) × (f .b < n) × (f .c < n)) at (t .a-below, t .b-below, t .c-below)
 
     module _ (order : List ℕ) (fits : count ≤ length order) where
-      pub between-looks : (n ≤ 4096) × (count ≤ n) × (count ≤ length order) × (orderEnd n ≤ length words') × ((s : ℕ) → s < 3 * count → getD words' s 0 < n)
+      pub between-looks : (n ≤ 4096) × (count ≤ n) × (count ≤ length order) × (placedEnd n ≤ length words') × ((s : ℕ) → s < 3 * count → getD words' s 0 < n)
       between-looks = (
         p .points,
         few-most n count few,

@@ -21,9 +21,10 @@ use Rattle.minima.specs.Minima.{Nodes, leaf, Outside, Renewed}
 use Rattle.minima.proofs.Trees.{nodes-same}
 use Rattle.corners.specs.Corners.{Linked, Bound}
 use Rattle.corners.proofs.Chain.{linked-same, bound-same, touches-first, touches-second, touches-third}
-use Rattle.offers.specs.Offers.{treeAt, treeEnd, offered, Faces, Met, Meets}
+use Rattle.offers.specs.Offers.{offered, Faces, Met, Meets}
 use Rattle.offers.proofs.Walk.{offered-left, offered-kept, offered-no}
-use Rattle.placing.specs.Placing.{usedAt, lies, laid, opens, known, fitting, Opened, Opens, Around, Arounds, value, Kept, Placed, Places}
+use Rattle.regions.specs.Ordering.{reachedAt, treeAt, treeEnd}
+use Rattle.placing.specs.Placing.{lies, laid, opens, known, fitting, Opened, Opens, Around, Arounds, value, Kept, Placed, Places}
 use Rattle.placing.proofs.Sides.{or-either, or-left, or-right, own-edge, own-ab, own-bc, own-ca, neighbours-which, laid-joined, old-ab, old-bc, old-ca}
 
 -- ---- one side
@@ -264,14 +265,14 @@ module _ (n faces i : ℕ) (corner : ℕ → ℕ) (at : ℕ → Face) (placed : 
   module _ (w u z : List ℕ) (held : Faces faces corner at) (kept : Kept n faces corner at placed w) (fit : fits at placed i ≡ true)
       (renewed : Renewed (treeAt n) faces i (2 * faces) w u) (long : treeEnd n ≤ length u) where
     abbrev v : List ℕ
-    v = set (set (set u (usedAt n + at i .a) 1) (usedAt n + at i .b) 1) (usedAt n + at i .c) 1
+    v = set (set (set u (reachedAt n + at i .a) 1) (reachedAt n + at i .b) 1) (reachedAt n + at i .c) 1
 
-    beside : (k : ℕ) → (k < usedAt n) ⊎ (treeAt n ≤ k) → getD v k 0 ≡ getD u k 0
+    beside : (k : ℕ) → (k < reachedAt n) ⊎ (treeAt n ≤ k) → getD v k 0 ≡ getD u k 0
     beside k s =
         let p = points in
         ⊎-elim
-        (λ (l : k < usedAt n). three-else (usedAt n) u (at i) k (λ (q : k ≡ usedAt n + at i .a). omega arith) (λ (q : k ≡ usedAt n + at i .b). omega arith) (λ (q : k ≡ usedAt n + at i .c). omega arith))
-        (λ (l : treeAt n ≤ k). three-else (usedAt n) u (at i) k (λ (q : k ≡ usedAt n + at i .a). omega (arith, p .0)) (λ (q : k ≡ usedAt n + at i .b). omega (arith, p .1)) (λ (q : k ≡ usedAt n + at i .c). omega (arith, p .2)))
+        (λ (l : k < reachedAt n). three-else (reachedAt n) u (at i) k (λ (q : k ≡ reachedAt n + at i .a). omega arith) (λ (q : k ≡ reachedAt n + at i .b). omega arith) (λ (q : k ≡ reachedAt n + at i .c). omega arith))
+        (λ (l : treeAt n ≤ k). three-else (reachedAt n) u (at i) k (λ (q : k ≡ reachedAt n + at i .a). omega (arith, p .0)) (λ (q : k ≡ reachedAt n + at i .b). omega (arith, p .1)) (λ (q : k ≡ reachedAt n + at i .c). omega (arith, p .2)))
         s
 
     pub linked-v : Linked n (3 * faces) corner v
@@ -284,13 +285,13 @@ module _ (n faces i : ℕ) (corner : ℕ → ℕ) (at : ℕ → Face) (placed : 
       sides : Around n faces (at i .a) (at i .b) (at i .c) (not (ra && rb)) (not (rb && rc)) (not (rc && ra)) true at v z
       sides = let d = held .different i below in around .sides corner at linked-v held (d .0) (d .1) (d .2)
 
-      used-z : (x : ℕ) → x < n → getD z (usedAt n + x) 0 ≡ bit (reached at (i ∷ placed) x)
+      used-z : (x : ℕ) → x < n → getD z (reachedAt n + x) 0 ≡ bit (reached at (i ∷ placed) x)
       unfolding reached
       used-z x l =
           let p = points in
-          around .outside (usedAt n + x) (inl (omega arith))
-          ∙ three-used (usedAt n) u (at i) x (reached at placed x) (omega (arith, p .0)) (omega (arith, p .1)) (omega (arith, p .2))
-          (renewed .outside (usedAt n + x) (inl (omega arith)) ∙ kept .used x l)
+          around .outside (reachedAt n + x) (inl (omega arith))
+          ∙ three-used (reachedAt n) u (at i) x (reached at placed x) (omega (arith, p .0)) (omega (arith, p .1)) (omega (arith, p .2))
+          (renewed .outside (reachedAt n + x) (inl (omega arith)) ∙ kept .used x l)
           ∙ ap bit (sym (any-cons (λ j. touches x (at j)) i placed))
 
       nodes-z : Nodes (treeAt n) faces z
@@ -448,13 +449,13 @@ module _ (n faces i : ℕ) (few : faces ≤ n) (below : i < faces) (w : List ℕ
   c = getD w (3 * i + 2) 0
 
   abbrev ua : ℕ
-  ua = getD w (usedAt n + a) 0
+  ua = getD w (reachedAt n + a) 0
 
   abbrev ub : ℕ
-  ub = getD w (usedAt n + b) 0
+  ub = getD w (reachedAt n + b) 0
 
   abbrev uc : ℕ
-  uc = getD w (usedAt n + c) 0
+  uc = getD w (reachedAt n + c) 0
 
   pub points-below : (a < n) × (b < n) × (c < n)
   points-below = (bound .points (3 * i) (omega arith), bound .points (3 * i + 1) (omega arith), bound .points (3 * i + 2) (omega arith))
@@ -471,7 +472,7 @@ module _ (n faces i : ℕ) (few : faces ≤ n) (below : i < faces) (w : List ℕ
     inside : (at i .a < n) × (at i .b < n) × (at i .c < n)
     inside = subst (λ (f : Face). (f .a < n) × (f .b < n) × (f .c < n)) face-is points-below
 
-    flag-of : (x y : ℕ) → x ≡ y → x < n → getD w (usedAt n + x) 0 ≡ bit (reached at placed y)
+    flag-of : (x y : ℕ) → x ≡ y → x < n → getD w (reachedAt n + x) 0 ≡ bit (reached at placed y)
     flag-of x y e l = kept .used x l ∙ ap (λ (k : ℕ). bit (reached at placed k)) e
 
     ua-is : ua ≡ bit (reached at placed (at i .a))
@@ -496,12 +497,12 @@ module _ (n faces i : ℕ) (few : faces ≤ n) (below : i < faces) (w : List ℕ
     opens-is x y p q e f = (λ k. opens (e k) (f k)) ∙ opens-bits p q
 
   -- with its points reached no head or link has changed
-  pub marked-bound : (u m : List ℕ) → Renewed (treeAt n) faces i (2 * faces) w u → m ≡ set (set (set u (usedAt n + a) 1) (usedAt n + b) 1) (usedAt n + c) 1 → Bound n (3 * faces) m
+  pub marked-bound : (u m : List ℕ) → Renewed (treeAt n) faces i (2 * faces) w u → m ≡ set (set (set u (reachedAt n + a) 1) (reachedAt n + b) 1) (reachedAt n + c) 1 → Bound n (3 * faces) m
   marked-bound u m r is =
       bound-same n (3 * faces) (omega arith) w m
       (λ k l.
       ap (λ (z : List ℕ). getD z k 0) is
-      ∙ three-else (usedAt n) u (face a b c) k (λ (q : k ≡ usedAt n + a). omega arith) (λ (q : k ≡ usedAt n + b). omega arith) (λ (q : k ≡ usedAt n + c). omega arith)
+      ∙ three-else (reachedAt n) u (face a b c) k (λ (q : k ≡ reachedAt n + a). omega arith) (λ (q : k ≡ reachedAt n + b). omega arith) (λ (q : k ≡ reachedAt n + c). omega arith)
       ∙ r .outside k (inl (omega arith)))
       bound
 
@@ -518,7 +519,7 @@ module _ (n faces i : ℕ) (few : faces ≤ n) (below : i < faces) (w : List ℕ
 
     module _ (u z : List ℕ) (r : Bool) (fitted : fitting (known ua + known ub + known uc) shared ≡ true) (renewed : Renewed (treeAt n) faces i (2 * faces) w u) (long : treeEnd n ≤ length u) where
       abbrev marked : Face → List ℕ
-      marked f = set (set (set u (usedAt n + f .a) 1) (usedAt n + f .b) 1) (usedAt n + f .c) 1
+      marked f = set (set (set u (reachedAt n + f .a) 1) (reachedAt n + f .b) 1) (reachedAt n + f .c) 1
 
       module _ (m : List ℕ) (is : m ≡ marked (face a b c)) (around-m : Arounds n faces a b c (opens ua ub) (opens ub uc) (opens uc ua) r m z) where
         around : Arounds n faces a b c (opens ua ub) (opens ub uc) (opens uc ua) r (marked (face a b c)) z
@@ -559,18 +560,18 @@ module _ (n faces i : ℕ) (few : faces ≤ n) (below : i < faces) (w : List ℕ
               let p = points-below in
               let m = marked-else k s in
               ⊎-elim
-              (λ (l : k < usedAt n). around .outside k (inl (omega arith)) ∙ m ∙ renewed .outside k (inl (omega arith)))
+              (λ (l : k < reachedAt n). around .outside k (inl (omega arith)) ∙ m ∙ renewed .outside k (inl (omega arith)))
               (λ (l : treeEnd n ≤ k). around .outside k (inr (omega arith)) ∙ m ∙ renewed .outside k (inr (omega arith)))
               s;
           places = λ corner at placed held kept s. placed-at corner at placed held kept s;
         }
           where
-            marked-else : (k : ℕ) → (k < usedAt n) ⊎ (treeEnd n ≤ k) → getD (marked (face a b c)) k 0 ≡ getD u k 0
+            marked-else : (k : ℕ) → (k < reachedAt n) ⊎ (treeEnd n ≤ k) → getD (marked (face a b c)) k 0 ≡ getD u k 0
             marked-else k s =
                 let p = points-below in
                 ⊎-elim
-                (λ (l : k < usedAt n). three-else (usedAt n) u (face a b c) k (λ (q : k ≡ usedAt n + a). omega arith) (λ (q : k ≡ usedAt n + b). omega arith) (λ (q : k ≡ usedAt n + c). omega arith))
-                (λ (l : treeEnd n ≤ k). three-else (usedAt n) u (face a b c) k (λ (q : k ≡ usedAt n + a). omega (arith, p .0)) (λ (q : k ≡ usedAt n + b). omega (arith, p .1)) (λ (q : k ≡ usedAt n + c). omega (arith, p .2)))
+                (λ (l : k < reachedAt n). three-else (reachedAt n) u (face a b c) k (λ (q : k ≡ reachedAt n + a). omega arith) (λ (q : k ≡ reachedAt n + b). omega arith) (λ (q : k ≡ reachedAt n + c). omega arith))
+                (λ (l : treeEnd n ≤ k). three-else (reachedAt n) u (face a b c) k (λ (q : k ≡ reachedAt n + a). omega (arith, p .0)) (λ (q : k ≡ reachedAt n + b). omega (arith, p .1)) (λ (q : k ≡ reachedAt n + c). omega (arith, p .2)))
                 s
 
 pub known-le : (u : ℕ) → known u ≤ 1

@@ -12,11 +12,8 @@ use Rattle.patch.specs.Shape.{has}
 use Rattle.orders.specs.Order.{reached, joined, fits}
 use Rattle.minima.specs.Minima.{Nodes, leaf, Outside}
 use Rattle.corners.specs.Corners.{Linked}
-use Rattle.offers.specs.Offers.{treeAt, treeEnd, offered, Faces}
-
--- for n points: where a flag stands for each that is reached
-abbrev pub usedAt : ℕ → ℕ
-usedAt n = 7 * n
+use Rattle.offers.specs.Offers.{offered, Faces}
+use Rattle.regions.specs.Ordering.{reachedAt, treeAt, treeEnd}
 
 -- in how many faces an edge lies
 abbrev pub lies : ℕ → (ℕ → Face) → Edge → ℕ
@@ -86,7 +83,7 @@ value at faces placed g =
 -- what the words hold when the faces of `placed` are
 pub record Kept (n faces : ℕ) (corner : ℕ → ℕ) (at : ℕ → Face) (placed w : List ℕ) : Type 0 where
   pub linked : Linked n (3 * faces) corner w
-  pub used : (x : ℕ) → x < n → getD w (usedAt n + x) 0 ≡ bit (reached at placed x)
+  pub used : (x : ℕ) → x < n → getD w (reachedAt n + x) 0 ≡ bit (reached at placed x)
   pub nodes : Nodes (treeAt n) faces w
   pub values : (g : ℕ) → g < faces → leaf (treeAt n) faces w g ≡ value at faces placed g
   pub few : (e : Edge) → laid at placed e ≡ true → lies faces at e ≤ 2
@@ -98,7 +95,7 @@ pub record Placed (n faces i : ℕ) (r : Bool) (corner : ℕ → ℕ) (at : ℕ 
   pub unfit : r ≡ false → (fits at placed i ≡ false) ⊎ ((e : Edge) × (3 ≤ lies faces at e))
 
 pub record Places (n faces i : ℕ) (shared r : Bool) (before after : List ℕ) : Type 0 where
-  pub outside : (k : ℕ) → (k < usedAt n) ⊎ (treeEnd n ≤ k) → getD after k 0 ≡ getD before k 0
+  pub outside : (k : ℕ) → (k < reachedAt n) ⊎ (treeEnd n ≤ k) → getD after k 0 ≡ getD before k 0
   pub places :
       (corner : ℕ → ℕ) (at : ℕ → Face) (placed : List ℕ) → Faces faces corner at → Kept n faces corner at placed before
       → shared ≡ joined at placed i → Placed n faces i r corner at placed after

@@ -4,8 +4,8 @@ ghost use mathlib.Core.Path.{_≡_};
 ghost use Prim.Native.Nat.{_+_, _*_, _≤_, _<_};
 ghost use lib.ListN.{length, set};
 ghost use Rattle.corners.specs.Corners.{Bound};
-ghost use Rattle.offers.specs.Offers.{treeEnd};
-ghost use Rattle.placing.specs.Placing.{usedAt, opens, known, fitting, Opens, Arounds, Places};
+ghost use Rattle.regions.specs.Ordering.{reachedAt, treeEnd};
+ghost use Rattle.placing.specs.Placing.{opens, known, fitting, Opens, Arounds, Places};
 
 // The side from x to y of a face that is placed, ux and uy 0 where the point was not reached before.
 fn open_side(n: usize, count: usize, words: &mut [u32], x: u32, y: u32, ux: u32, uy: u32) -> bool
@@ -51,12 +51,12 @@ fn open_sides(
 // Three points are reached.
 fn reach(n: usize, words: &mut [u32], a: usize, b: usize, c: usize)
     requires { ⌜ (n ≤ 4096) × (a < n) × (b < n) × (c < n) × (treeEnd n ≤ length (now words)) ⌝ }
-    ensures { λ _. ⌜ now (words .exit) ≡ set (set (set (now (words .entry)) (usedAt n + a) 1) (usedAt n + b) 1)
-        (usedAt n + c) 1 ⌝ }
+    ensures { λ _. ⌜ now (words .exit) ≡ set (set (set (now (words .entry)) (reachedAt n + a) 1) (reachedAt n + b) 1)
+        (reachedAt n + c) 1 ⌝ }
 {
-    words[7 * n + a] = 1;
-    words[7 * n + b] = 1;
-    words[7 * n + c] = 1;
+    words[regions::REACHED * n + a] = 1;
+    words[regions::REACHED * n + b] = 1;
+    words[regions::REACHED * n + c] = 1;
 }
 
 // 1 if the flag is set.
@@ -90,13 +90,13 @@ pub fn place(n: usize, count: usize, words: &mut [u32], i: usize, shared: bool) 
     let a = words[3 * i];
     let b = words[3 * i + 1];
     let c = words[3 * i + 2];
-    let ua = words[7 * n + a as usize];
-    let ub = words[7 * n + b as usize];
-    let uc = words[7 * n + c as usize];
+    let ua = words[regions::REACHED * n + a as usize];
+    let ub = words[regions::REACHED * n + b as usize];
+    let uc = words[regions::REACHED * n + c as usize];
     if !may_place(ua, ub, uc, shared) {
         return false;
     }
-    minima::renew(8 * n, count, words, i, (2 * count) as u32);
+    minima::renew(regions::TREE * n, count, words, i, (2 * count) as u32);
     reach(n, words, a as usize, b as usize, c as usize);
     open_sides(n, count, words, a, b, c, ua, ub, uc)
 }

@@ -21,5 +21,16 @@ pub const EXTRA: usize = 64;
 // The order starts at so many times n, and as many words further.
 pub const ORDER: usize = 16;
 
+// Where a region of the u32 slice starts while a patch is put in order, in times n.
+pub const CORNERS: usize = 3;
+
+pub const HEADS: usize = 6;
+
+pub const REACHED: usize = 7;
+
+pub const TREE: usize = 8;
+
+pub const PLACED: usize = 10;
+
 // How far behind the first n numbers of the f32 slice the radii start.
 pub const RADII: usize = 10;

@@ -4,7 +4,7 @@ use mathlib.Core.Path.{_≡_}
 use mathlib.Core.Bool.{true}
 use lib.ListN.{getD}
 use Rattle.minima.specs.Minima.{leaf}
-use Rattle.offers.specs.Offers.{treeAt}
+use Rattle.regions.specs.Ordering.{treeAt}
 use Rattle.offers.proofs.Walk.{offered-kept, offer-none, offer-renewed}
 use native.Mathlib.Omega.{arith}
 use borrow.Author.Needs.{needs}

@@ -5,7 +5,8 @@ use Rattle.lists.specs.Lists.{bit}
 use Rattle.patch.specs.Shape.{touches}
 use Rattle.minima.specs.Minima.{leaf}
 use Rattle.corners.specs.Corners.{faceIn}
-use Rattle.offers.specs.Offers.{treeAt, offered}
+use Rattle.regions.specs.Ordering.{treeAt}
+use Rattle.offers.specs.Offers.{offered}
 use Rattle.offers.proofs.Walk.{offered-no, offer-none, offer-yes}
 use native.Mathlib.Omega.{arith}
 use borrow.Author.Needs.{needs}

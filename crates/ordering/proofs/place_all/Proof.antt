@@ -1,7 +1,7 @@
 -- `ordering::place_all` meets its contract. The loop's invariant: for any faces that the words tell, the greedy order so far. Assumes nothing.
+use Rattle.regions.specs.Ordering.{treeAt, placedAt}
 use Rattle.ordering.proofs.Running.{Runs, runs-start, runs-astray, runs-refused, runs-step, runs-end, places-as, placed-bound}
-use Rattle.ordering.specs.Ordering.{orderAt, faceOf}
-use Rattle.offers.specs.Offers.{treeAt}
+use Rattle.ordering.specs.Ordering.{faceOf}
 use Rattle.corners.specs.Corners.{Bound}
 use Rattle.lists.proofs.Counts.{bit-le}
 use borrow.Author.Tests.{not-true, not-false}
@@ -113,11 +113,11 @@ loop-again c =
     let s = c .seed-of in
     let b = bit-le (not (ltb (getD (l .words) (treeAt (a .n) + 1) 0) (a .count))) in
     let z = q .last .1 .1 .0 in (
-      length-set z (orderAt (a .n) + l .k) (f .result) ∙ q .kept .1 .1 .0 ∙ l .inv .0,
+      length-set z (placedAt (a .n) + l .k) (f .result) ∙ q .kept .1 .1 .0 ∙ l .inv .0,
       omega arith,
       omega (arith, s .ensures, l .inv .2),
       placed-bound (a .n) (a .count) (p .1) (f .result) (ltb (getD (l .words) (treeAt (a .n) + 1) 0) (a .count)) (q .result) (l .words) z (l .k) (f .result) (q .ensures) (l .inv .3),
-      runs-step (a .n) (a .count) (p .1) (a .words .now) (l .words) (l .k) (l .seeds) (l .inv .4) z (omega arith) (set z (orderAt (a .n) + l .k) (f .result)) (s .result) (places-as (a .n) (a .count) (f .result) (faceOf (a .count) (getD (l .words) (treeAt (a .n) + 1) 0)) (ltb (getD (l .words) (treeAt (a .n) + 1) 0) (a .count)) (q .result) true (l .words) (q .last .1 .1 .0) (f .ensures) (not-false (q .result) (c .before .if2 .left)) (q .ensures)) (ap (set z (orderAt (a .n) + l .k)) (f .ensures)) (omega (arith, q .kept .1 .1 .0, l .inv .0, p .0, p .1, p .2)) (s .ensures),
+      runs-step (a .n) (a .count) (p .1) (a .words .now) (l .words) (l .k) (l .seeds) (l .inv .4) z (omega arith) (set z (placedAt (a .n) + l .k) (f .result)) (s .result) (places-as (a .n) (a .count) (f .result) (faceOf (a .count) (getD (l .words) (treeAt (a .n) + 1) 0)) (ltb (getD (l .words) (treeAt (a .n) + 1) 0) (a .count)) (q .result) true (l .words) (q .last .1 .1 .0) (f .ensures) (not-false (q .result) (c .before .if2 .left)) (q .ensures)) (ap (set z (placedAt (a .n) + l .k)) (f .ensures)) (omega (arith, q .kept .1 .1 .0, l .inv .0, p .0, p .1, p .2)) (s .ensures),
     )
 
 same-length-3 : tie.Need-same-length-3 Inv-loop μ-loop
