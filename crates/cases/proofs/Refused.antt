@@ -19,7 +19,7 @@ use Rattle.domain.specs.Refusals.{check, firstRefusal, sizeChecks, pointCheck, 
 use Rattle.domain.specs.declared.Refusal.{Refusal}
 use Rattle.domain.proofs.Accepted.{accepted-reconstruct}
 use Rattle.grid.specs.declared.SpatialGrid.{SpatialGrid}
-use Rattle.radii.specs.Radii.{stepOf, sampleCount, average, nearOf, nearest, densitiesFrom, candidates, radiiAt, adaptiveRadii}
+use Rattle.radii.specs.Radii.{stepOf, sampleCount, average, nearOf, nearest, densitiesFrom, candidates, radiiFrom, adaptiveRadii}
 use Rattle.patch.specs.Lay.{Edge, same, face, State, Rules, Pop, withFace, cleared, seeded, popped, met, pivoted, judged, look, next, run, begun, layOne, layAll, blank, patch}
 use Rattle.patch.specs.Frontier.{popOf}
 use Rattle.patch.specs.Search.{searching}
@@ -88,8 +88,8 @@ module _ (a b : ℕ) (c : BallPivotingConfig) (pts : List Float) where
       let ds = nearest (ruled a c) g pts n i in
       ap (λ (later : List Float). cond (eqb (length ds) 0) later (average ds ∷ later)) (densities-same g n step (i + step) m)
 
-  radii-at : (ds : List Float) → radiiAt (ruled b c) ds ≡ radiiAt (ruled a c) ds
-  unfolding radiiAt candidates
+  radii-at : (ds : List Float) → radiiFrom (ruled b c) ds ≡ radiiFrom (ruled a c) ds
+  unfolding radiiFrom candidates
   radii-at [] = refl
   radii-at (d ∷ ds) = refl
 
@@ -98,7 +98,7 @@ module _ (a b : ℕ) (c : BallPivotingConfig) (pts : List Float) where
   radii-same =
       let n : ℕ = pointCount pts in
       ap (λ (rs : List Float). cond (c .«adaptive_radius») rs [])
-      (radii-at _ ∙ ap (radiiAt (ruled a c)) (densities-same (indexOf c pts) n (stepOf n) 0 (sampleCount n)))
+      (radii-at _ ∙ ap (radiiFrom (ruled a c)) (densities-same (indexOf c pts) n (stepOf n) 0 (sampleCount n)))
 
   laid-none : length (laidOf (ruled a c) pts .faces) ≡ 0 → laidOf (ruled b c) pts ≡ laidOf (ruled a c) pts
   unfolding laidOf sceneOf indexOf patch

@@ -33,23 +33,23 @@ use Rattle.decisions.specs.declared.Scene.{Scene}
 use Rattle.decisions.specs.Decisions.{apart}
 use Rattle.nearby.specs.declared.Filter.{Filter}
 use Rattle.nearby.specs.Ready.{Held, Listed, Kept, usedIn, listed}
-use Rattle.nearby.specs.Narrow.{insertAll, inReach, inCells, cellAt, passes, Filters, Collected, Narrowed, Sought}
+use Rattle.nearby.specs.Narrow.{insertPassing, inReach, inCells, cellAt, passes, Filters, Collected, Narrowed, Sought}
 use Rattle.nearby.proofs.Ordered.{insert-all-is}
 use Rattle.nearby.proofs.Earlier.{earlier-strict, order-of-sorted, order-of-count, neighbors-only}
 use Rattle.nearby.proofs.Keeping.{kept-self, kept-on, cells-kept}
 
 -- ---- one point
 module _ (less : ℕ → ℕ → Bool) (test : ℕ → Bool) (k : ℕ) (js xs : List ℕ) where
-  insert-skip : test k ≡ false → insertAll less test xs (k ∷ js) ≡ insertAll less test xs js
-  unfolding insertAll
+  insert-skip : test k ≡ false → insertPassing less test xs (k ∷ js) ≡ insertPassing less test xs js
+  unfolding insertPassing
   insert-skip h = rw h
 
-  insert-take : test k ≡ true → insertAll less test xs (k ∷ js) ≡ insertAll less test (insertBefore (less k) k xs) js
-  unfolding insertAll
+  insert-take : test k ≡ true → insertPassing less test xs (k ∷ js) ≡ insertPassing less test (insertBefore (less k) k xs) js
+  unfolding insertPassing
   insert-take h = rw h
 
-insert-end : (less : ℕ → ℕ → Bool) (test : ℕ → Bool) (xs : List ℕ) → insertAll less test xs [] ≡ xs
-unfolding insertAll
+insert-end : (less : ℕ → ℕ → Bool) (test : ℕ → Bool) (xs : List ℕ) → insertPassing less test xs [] ≡ xs
+unfolding insertPassing
 insert-end less test xs = refl
 
 -- over the kept cells the order is that of the points' own
@@ -61,7 +61,7 @@ earlier-kept indexed g pts n w c i j hi hj = rw (c i hi, c j hj)
 
 -- those of js that pass, inserted into xs
 abbrev narrows : Scene → List Float → Filter → List ℕ → List ℕ → List ℕ → List ℕ
-narrows s pts f w xs js = insertAll (earlier (s .indexed) (cellAt (s .grid) pts)) (passes s pts (usedIn s w) f) xs js
+narrows s pts f w xs js = insertPassing (earlier (s .indexed) (cellAt (s .grid) pts)) (passes s pts (usedIn s w) f) xs js
 
 pub record Narrowing (s : Scene) (pts : List Float) (f : Filter) (w₀ w : List ℕ) (found count m : ℕ) : Type 0 where
   pub same : length w ≡ length w₀
@@ -160,7 +160,7 @@ out-of-reach pts used r a k t l h = go (unused used k) refl (lt t (squared (poin
 
 narrowed-only : (s : Scene) (pts : List Float) (f : Filter) (used js : List ℕ) → Below (s .n) js → ((k : ℕ) → count (eqb k) js ≤ 1)
     → ((k : ℕ) → k < s .n → unused used k ≡ true → isWithin pts (f .center) (f .limit) k ≡ true → 1 ≤ count (eqb k) js)
-    → insertAll (earlier (s .indexed) (cellAt (s .grid) pts)) (passes s pts used f) [] js
+    → insertPassing (earlier (s .indexed) (cellAt (s .grid) pts)) (passes s pts used f) [] js
     ≡ only (inReach pts used (f .center) (f .limit)) (only (inCells (s .indexed) (s .grid) pts (f .range) (f .cell)) (orderOf (s .indexed) (s .grid) pts (s .n)))
 unfolding passes
 narrowed-only s pts f used js below once complete =
@@ -178,7 +178,7 @@ sought {s} {pts} {f} {w} {u} {v} {a} {found} {r} {p} {q} {radius} ep i c n = rec
     limit = f .limit;
     limits = i .limits;
     same = n .same
-        ∙ ap (λ (l : List ℕ). insertAll (earlier (s .indexed) (cellAt (s .grid) pts)) (passes s pts (take (s .n) l) f) [] (listed s u found)) (c .kept .after)
+        ∙ ap (λ (l : List ℕ). insertPassing (earlier (s .indexed) (cellAt (s .grid) pts)) (passes s pts (take (s .n) l) f) [] (listed s u found)) (c .kept .after)
         ∙ narrowed-only s pts f (usedIn s w) (listed s u found) (c .below) (c .once) (λ k h free t. c .complete k h free t t)
         ∙ ap (λ (z : Point3f). only (inReach pts (usedIn s w) z (f .limit)) (only (inCells (s .indexed) (s .grid) pts (f .range) (f .cell)) (orderOf (s .indexed) (s .grid) pts (s .n)))) (i .center-is ∙ ep)
         ∙ ap (λ (z : ℕ). only (inReach pts (usedIn s w) (pointAt pts a) (f .limit)) (only (inCells (s .indexed) (s .grid) pts z (f .cell)) (orderOf (s .indexed) (s .grid) pts (s .n)))) (i .range-is)

@@ -13,7 +13,7 @@ use Rattle.lists.proofs.Bools.{either, not-true, true-not-false}
 use Rattle.lists.specs.Members.{only, In}
 use Rattle.lists.proofs.Members.{in-head, in-cases, only-count, only-none, only-fewer}
 use Rattle.sorting.proofs.Counting.{insert-count}
-use Rattle.nearby.specs.Narrow.{insertAll}
+use Rattle.nearby.specs.Narrow.{insertPassing}
 
 -- ---- in order
 
@@ -81,8 +81,8 @@ module _ {less : ℕ → ℕ → Bool} where
 
     -- ---- those that pass a test, inserted in turn
     module _ (test : ℕ → Bool) where
-      pub insert-all-sorted : (js xs : List ℕ) → Sorted less xs → ((k : ℕ) → count (eqb k) xs + count (eqb k) js ≤ 1) → Sorted less (insertAll less test xs js)
-      unfolding insertAll
+      pub insert-all-sorted : (js xs : List ℕ) → Sorted less xs → ((k : ℕ) → count (eqb k) xs + count (eqb k) js ≤ 1) → Sorted less (insertPassing less test xs js)
+      unfolding insertPassing
       insert-all-sorted [] xs s once = s
       insert-all-sorted (j ∷ js) xs s once = go (test j) (insert-all-sorted js xs s (λ k. let o = once k in omega arith)) (
           insert-all-sorted js (insertBefore (less j) j xs) (
@@ -90,32 +90,32 @@ module _ {less : ℕ → ℕ → Bool} where
           ) (λ k. let o = once k in let c = insert-count (eqb k) (less j) j xs in omega arith)
           )
         where
-          go : (b : Bool) → Sorted less (insertAll less test xs js) → Sorted less (insertAll less test (insertBefore (less j) j xs) js) → Sorted less (insertAll less test (cond b (insertBefore (less j) j xs) xs) js)
+          go : (b : Bool) → Sorted less (insertPassing less test xs js) → Sorted less (insertPassing less test (insertBefore (less j) j xs) js) → Sorted less (insertPassing less test (cond b (insertBefore (less j) j xs) xs) js)
           go true p q = q
           go false p q = p
 
-      pub insert-all-count : (k : ℕ) → test k ≡ true → (js xs : List ℕ) → count (eqb k) (insertAll less test xs js) ≡ count (eqb k) xs + count (eqb k) js
-      unfolding insertAll
+      pub insert-all-count : (k : ℕ) → test k ≡ true → (js xs : List ℕ) → count (eqb k) (insertPassing less test xs js) ≡ count (eqb k) xs + count (eqb k) js
+      unfolding insertPassing
       insert-all-count k t [] xs = omega arith
       insert-all-count k t (j ∷ js) xs = go (test j) refl (insert-all-count k t js xs) (insert-all-count k t js (insertBefore (less j) j xs))
         where
-          go : (b : Bool) → test j ≡ b → count (eqb k) (insertAll less test xs js) ≡ count (eqb k) xs + count (eqb k) js
-              → count (eqb k) (insertAll less test (insertBefore (less j) j xs) js) ≡ count (eqb k) (insertBefore (less j) j xs) + count (eqb k) js
-              → count (eqb k) (insertAll less test (cond b (insertBefore (less j) j xs) xs) js) ≡ count (eqb k) xs + count (eqb k) (j ∷ js)
+          go : (b : Bool) → test j ≡ b → count (eqb k) (insertPassing less test xs js) ≡ count (eqb k) xs + count (eqb k) js
+              → count (eqb k) (insertPassing less test (insertBefore (less j) j xs) js) ≡ count (eqb k) (insertBefore (less j) j xs) + count (eqb k) js
+              → count (eqb k) (insertPassing less test (cond b (insertBefore (less j) j xs) xs) js) ≡ count (eqb k) xs + count (eqb k) (j ∷ js)
           go true e p q = let c = insert-count (eqb k) (less j) j xs in omega arith
           go false e p q =
               let z : eqb k j ≡ false = not-true (λ b. true-not-false t (ap test (eqb-true k j b) ∙ e)) in
               let o : bit (eqb k j) ≡ 0 = ap bit z in
               omega arith
 
-      pub insert-all-none : (k : ℕ) → test k ≡ false → (js xs : List ℕ) → count (eqb k) (insertAll less test xs js) ≡ count (eqb k) xs
-      unfolding insertAll
+      pub insert-all-none : (k : ℕ) → test k ≡ false → (js xs : List ℕ) → count (eqb k) (insertPassing less test xs js) ≡ count (eqb k) xs
+      unfolding insertPassing
       insert-all-none k t [] xs = refl
       insert-all-none k t (j ∷ js) xs = go (test j) refl (insert-all-none k t js xs) (insert-all-none k t js (insertBefore (less j) j xs))
         where
-          go : (b : Bool) → test j ≡ b → count (eqb k) (insertAll less test xs js) ≡ count (eqb k) xs
-              → count (eqb k) (insertAll less test (insertBefore (less j) j xs) js) ≡ count (eqb k) (insertBefore (less j) j xs)
-              → count (eqb k) (insertAll less test (cond b (insertBefore (less j) j xs) xs) js) ≡ count (eqb k) xs
+          go : (b : Bool) → test j ≡ b → count (eqb k) (insertPassing less test xs js) ≡ count (eqb k) xs
+              → count (eqb k) (insertPassing less test (insertBefore (less j) j xs) js) ≡ count (eqb k) (insertBefore (less j) j xs)
+              → count (eqb k) (insertPassing less test (cond b (insertBefore (less j) j xs) xs) js) ≡ count (eqb k) xs
           go true e p q =
               let z : eqb k j ≡ false = not-true (λ b. true-not-false e (ap test (sym (eqb-true k j b)) ∙ t)) in
               let o : bit (eqb k j) ≡ 0 = ap bit z in
@@ -124,11 +124,11 @@ module _ {less : ℕ → ℕ → Bool} where
 
       -- of the numbers below n in order those that pass are also what insertion makes of any list, without repetitions, that has them all
       pub insert-all-is : (n : ℕ) (xs js : List ℕ) → Sorted less xs → ((k : ℕ) → count (eqb k) xs ≡ bit (ltb k n)) → ((k : ℕ) → count (eqb k) js ≤ 1) → ((k : ℕ) → In k js → k < n)
-          → ((k : ℕ) → k < n → test k ≡ true → In k js) → insertAll less test [] js ≡ only test xs
+          → ((k : ℕ) → k < n → test k ≡ true → In k js) → insertPassing less test [] js ≡ only test xs
       insert-all-is n xs js s counts once below complete =
-          sorted-unique (insertAll less test [] js) (only test xs) (insert-all-sorted js [] tt (λ k. let o = once k in omega arith)) (sorted-only less test xs s) (λ k. ⊎-elim (yes k) (λ (t : test k ≡ false). insert-all-none k t js [] ∙ sym (only-none test k t xs)) (either (test k)))
+          sorted-unique (insertPassing less test [] js) (only test xs) (insert-all-sorted js [] tt (λ k. let o = once k in omega arith)) (sorted-only less test xs s) (λ k. ⊎-elim (yes k) (λ (t : test k ≡ false). insert-all-none k t js [] ∙ sym (only-none test k t xs)) (either (test k)))
         where
-          yes : (k : ℕ) → test k ≡ true → count (eqb k) (insertAll less test [] js) ≡ count (eqb k) (only test xs)
+          yes : (k : ℕ) → test k ≡ true → count (eqb k) (insertPassing less test [] js) ≡ count (eqb k) (only test xs)
           yes k t = let a = insert-all-count k t js [] in let b = only-count test k t xs in let e = same in omega arith
             where
               same : count (eqb k) js ≡ count (eqb k) xs

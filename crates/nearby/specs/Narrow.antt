@@ -21,9 +21,10 @@ use Rattle.nearby.specs.declared.Filter.{Filter}
 use Rattle.nearby.specs.Ready.{usedIn, listed, Kept}
 
 -- each of the points ks that passes a test goes before the first one that it is less than
-unfoldable pub insertAll : (ℕ → ℕ → Bool) → (ℕ → Bool) → List ℕ → List ℕ → List ℕ
-insertAll less test sorted [] = sorted
-insertAll less test sorted (k ∷ ks) = insertAll less test (cond (test k) (insertBefore (less k) k sorted) sorted) ks
+unfoldable pub insertPassing : (ℕ → ℕ → Bool) → (ℕ → Bool) → List ℕ → List ℕ → List ℕ
+insertPassing less test sorted [] = sorted
+insertPassing less test sorted (k ∷ ks) =
+    insertPassing less test (cond (test k) (insertBefore (less k) k sorted) sorted) ks
 
 -- point k is unused, and the square of its distance from a place is not above a limit
 unfoldable pub inReach : List Float → List ℕ → Point3f → Float → ℕ → Bool
@@ -70,7 +71,7 @@ pub record Collected (s : Scene) (pts : List Float) (f : Filter) (q : Point3f) (
 -- of the `found` points r are left, those that pass, inserted in turn
 pub record Narrowed (s : Scene) (pts : List Float) (f : Filter) (w u : List ℕ) (found r : ℕ) : Type 0 where
   pub most : r ≤ found
-  pub same : listed s u r ≡ insertAll (earlier (s .indexed) (cellAt (s .grid) pts)) (passes s pts (usedIn s w) f) []
+  pub same : listed s u r ≡ insertPassing (earlier (s .indexed) (cellAt (s .grid) pts)) (passes s pts (usedIn s w) f) []
       (listed s w found)
   pub kept : Kept s w u
 

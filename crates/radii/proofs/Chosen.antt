@@ -14,7 +14,7 @@ use Rattle.sorting.specs.Sorted.{insert, insertAll, sorted, percentileOf}
 use Rattle.sorting.proofs.Insertion.{insert-length}
 use Rattle.settings.specs.declared.BallPivotingConfig.{BallPivotingConfig}
 use Rattle.grid.specs.declared.SpatialGrid.{SpatialGrid}
-use Rattle.radii.specs.Radii.{dedup, candidates, radiiAt, densitiesFrom, stepOf, sampleCount, adaptiveRadii}
+use Rattle.radii.specs.Radii.{dedup, candidates, radiiFrom, densitiesFrom, stepOf, sampleCount, adaptiveRadii}
 use Rattle.radii.specs.Steps.{percentileRadius}
 
 -- ---- insertion of a list
@@ -87,13 +87,13 @@ chosen c ds f₁ f₂ f₃ at e₁ e₂ e₃ =
     ∙ sym (insert-append [] (map (percentileRadius ds) (take (c .«percentile_count») (c .«adaptive_percentiles»))) (c .radius ∷ take (c .«additional_count») (c .«additional_radii»)))
 
 -- ---- the radii
-pub radii-none : (c : BallPivotingConfig) (f ds : List Float) → take 0 f ≡ sorted ds → [] ≡ radiiAt c ds
-unfolding radiiAt insertAll
+pub radii-none : (c : BallPivotingConfig) (f ds : List Float) → take 0 f ≡ sorted ds → [] ≡ radiiFrom c ds
+unfolding radiiFrom insertAll
 radii-none c f [] e = refl
 radii-none c f (d ∷ ds) e = absurd (omega (arith, ap length e, insert-count (insert d []) ds, insert-length (lt d) d []))
 
-pub radii-some : (c : BallPivotingConfig) (f ds : List Float) (count : ℕ) → 1 ≤ count → count ≤ length f → take count f ≡ sorted ds → dedup (sorted (candidates c (take count f))) ≡ radiiAt c ds
-unfolding radiiAt insertAll
+pub radii-some : (c : BallPivotingConfig) (f ds : List Float) (count : ℕ) → 1 ≤ count → count ≤ length f → take count f ≡ sorted ds → dedup (sorted (candidates c (take count f))) ≡ radiiFrom c ds
+unfolding radiiFrom insertAll
 radii-some c f [] count h long e = absurd (omega (arith, ap length e, length-take-le count f long))
 radii-some c f (d ∷ ds) count h long e = ap (λ (l : List Float). dedup (sorted (candidates c l))) e
 
@@ -101,6 +101,6 @@ pub radii-off : (c : BallPivotingConfig) (g : SpatialGrid) (pts : List Float) (n
 unfolding adaptiveRadii
 radii-off c g pts n e = rw (not-true (c .«adaptive_radius») e)
 
-pub radii-on : (c : BallPivotingConfig) (g : SpatialGrid) (pts : List Float) (n : ℕ) → not (c .«adaptive_radius») ≡ false → radiiAt c (densitiesFrom c g pts n (stepOf n) 0 (sampleCount n)) ≡ adaptiveRadii c g pts n
+pub radii-on : (c : BallPivotingConfig) (g : SpatialGrid) (pts : List Float) (n : ℕ) → not (c .«adaptive_radius») ≡ false → radiiFrom c (densitiesFrom c g pts n (stepOf n) 0 (sampleCount n)) ≡ adaptiveRadii c g pts n
 unfolding adaptiveRadii
 radii-on c g pts n e = rw (not-false (c .«adaptive_radius») e)

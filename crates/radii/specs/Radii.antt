@@ -71,10 +71,10 @@ candidates c densities =
     ++ (c .radius ∷ take (c .«additional_count») (c .«additional_radii»))
 
 -- none where no sample has a neighbour
-unfoldable pub radiiAt : BallPivotingConfig → List Float → List Float
-radiiAt c [] = []
-radiiAt c (d ∷ ds) = dedup (sorted (candidates c (sorted (d ∷ ds))))
+unfoldable pub radiiFrom : BallPivotingConfig → List Float → List Float
+radiiFrom c [] = []
+radiiFrom c (d ∷ ds) = dedup (sorted (candidates c (sorted (d ∷ ds))))
 
 unfoldable pub adaptiveRadii : BallPivotingConfig → SpatialGrid → List Float → ℕ → List Float
 adaptiveRadii c g pts n =
-    cond (c .«adaptive_radius») (radiiAt c (densitiesFrom c g pts n (stepOf n) 0 (sampleCount n))) []
+    cond (c .«adaptive_radius») (radiiFrom c (densitiesFrom c g pts n (stepOf n) 0 (sampleCount n))) []

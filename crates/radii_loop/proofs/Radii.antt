@@ -19,7 +19,7 @@ use Rattle.domain.proofs.Accepted.{accepted-reconstruct}
 use Rattle.sorting.specs.Sorted.{sorted, All, whole, percentileOf}
 use Rattle.spatial_hash.proofs.Squares.{Good}
 use Rattle.radii.specs.Radii.{distancesTo, total, average, nearOf, nearest, densitiesFrom, stepOf, sampleCount, dedup}
-use Rattle.radii.specs.Radii.{candidates, radiiAt, adaptiveRadii}
+use Rattle.radii.specs.Radii.{candidates, radiiFrom, adaptiveRadii}
 use Rattle.radii.proofs.Rising.{sorted-rising}
 use Rattle.ball_pivoting.specs.Reconstruct.{pointCount, indexOf, radiiOf}
 use Rattle.total_order.specs.TotalOrder.{totallySorted, Given}
@@ -101,8 +101,8 @@ module _ (start : Float) (zero-start : (start ≡ f32 0) ⊎ (start ≡ neg (f32
         (sorted xs) (all-insert (Fine farther) [] xs tt a))
         (sorted-rising xs (all-map (Fine farther) Good (λ x h. (h .held, h .clear)) xs a))
 
-    chosen-same : (ds : List Float) → All (Fine far) ds → length ds ≤ 4096 → chosen start c points ds ≡ radiiAt c ds
-    unfolding chosen radiiAt
+    chosen-same : (ds : List Float) → All (Fine far) ds → length ds ≤ 4096 → chosen start c points ds ≡ radiiFrom c ds
+    unfolding chosen radiiFrom
     chosen-same [] a few = refl
     chosen-same (d ∷ ds) a few =
         let xs : List Float = sorted (d ∷ ds) in

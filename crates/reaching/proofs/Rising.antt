@@ -24,7 +24,7 @@ use Rattle.grid.specs.declared.SpatialGrid.{SpatialGrid}
 use Rattle.grid.proofs.Near.{neighbors-below}
 use Rattle.lists.proofs.Bools.{and-both}
 use Rattle.spatial_hash.proofs.Squares.{Good, root-good, squared-good, distance-back}
-use Rattle.radii.specs.Radii.{distancesTo, average, nearOf, nearest, densitiesFrom, stepOf, sampleCount, spaced, dedup, candidates, radiiAt, adaptiveRadii}
+use Rattle.radii.specs.Radii.{distancesTo, average, nearOf, nearest, densitiesFrom, stepOf, sampleCount, spaced, dedup, candidates, radiiFrom, adaptiveRadii}
 use Rattle.radii.proofs.Rising.{Number, Ascending, insert-ascending, sorted-good}
 use Rattle.radii.proofs.Densities.{average-number}
 use Rattle.decisions.proofs.Growth.{double-number}
@@ -150,8 +150,8 @@ module _ (c : BallPivotingConfig) (g : SpatialGrid) (pts : List Float) (n : ℕ)
         (all-map Number (λ p. percentileOf ds p ⊗ f32 0x40000000) (λ p. double-number (percentileOf ds p) (all-get Number (f32 0) zero-number ds (indexOf (length ds) p) a)) ps)
         (number-inside (f32 0x3a83126f) (f32 0x447a0000) (c .radius) (settled .main), slots-number (f32 0x3a83126f) (f32 0x447a0000) (c .«additional_radii») (c .«additional_count») (settled .additional .each))
 
-    radii-at : (ds : List Float) → All Number ds → Rising (radiiAt c ds)
-    unfolding radiiAt
+    radii-at : (ds : List Float) → All Number ds → Rising (radiiFrom c ds)
+    unfolding radiiFrom
     radii-at [] a = tt
     radii-at (d ∷ ds) a =
         let all = candidates c (sorted (d ∷ ds)) in
@@ -161,6 +161,6 @@ module _ (c : BallPivotingConfig) (g : SpatialGrid) (pts : List Float) (n : ℕ)
     unfolding adaptiveRadii
     radii-rising = go (c .«adaptive_radius»)
       where
-        go : (b : Bool) → Rising (cond b (radiiAt c (densitiesFrom c g pts n (stepOf n) 0 (sampleCount n))) [])
+        go : (b : Bool) → Rising (cond b (radiiFrom c (densitiesFrom c g pts n (stepOf n) 0 (sampleCount n))) [])
         go true = radii-at (densitiesFrom c g pts n (stepOf n) 0 (sampleCount n)) (densities-number (stepOf n) 0 (sampleCount n) (samples-inside some))
         go false = tt

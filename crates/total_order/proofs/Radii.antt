@@ -32,7 +32,7 @@ use Rattle.lists.proofs.Members.{below-first, below-rest}
 use Rattle.grid.specs.declared.SpatialGrid.{SpatialGrid}
 use Rattle.grid.proofs.Near.{neighbors-below}
 use Rattle.radii.specs.Radii.{distancesTo, average, nearOf, nearest, densitiesFrom, stepOf, sampleCount, spaced, dedup}
-use Rattle.radii.specs.Radii.{candidates, radiiAt, adaptiveRadii}
+use Rattle.radii.specs.Radii.{candidates, radiiFrom, adaptiveRadii}
 use Rattle.total_order.specs.TotalOrder.{totallySorted, Given}
 use Rattle.total_order.proofs.Order.{Plain, Fine, insert-keeps, sorted-total}
 use Rattle.total_order.proofs.Fine.{far, fine-finite, apart-fine, average-fine}
@@ -239,8 +239,8 @@ module _ (c : BallPivotingConfig) (points : List Float) (n : ℕ) (cloud : Cloud
       percents (p ∷ ps) =
           (twice far farther (percentileOf ds p) (plain-tops .0) product-top (percent-fine ds p a), percents ps)
 
-  radii-at-fine : (ds : List Float) → All (Fine far) ds → All (Fine farther) (radiiAt c ds)
-  unfolding radiiAt
+  radii-at-fine : (ds : List Float) → All (Fine far) ds → All (Fine farther) (radiiFrom c ds)
+  unfolding radiiFrom
   radii-at-fine [] a = tt
   radii-at-fine (d ∷ ds) a =
       all-dedup (Fine farther) (sorted (candidates c (sorted (d ∷ ds))))
@@ -257,6 +257,6 @@ module _ (c : BallPivotingConfig) (points : List Float) (n : ℕ) (cloud : Cloud
   unfolding adaptiveRadii
   radii-fine = go (c .«adaptive_radius»)
     where
-      go : (t : Bool) → All (Fine farther) (cond t (radiiAt c densities) [])
+      go : (t : Bool) → All (Fine farther) (cond t (radiiFrom c densities) [])
       go true = radii-at-fine densities all-fine
       go false = tt

@@ -21,12 +21,12 @@ use Rattle.numbers.specs.Order.{minimum}
 use Rattle.numbers.specs.Cut.{cut}
 use Rattle.numbers.proofs.Minimum.{minimum-either}
 use Rattle.grid.specs.Grid.{leastFrom, cellOn}
-use Rattle.zeros.specs.Zeros.{isZero, unlikeZeros, UpToZeros}
+use Rattle.zeros.specs.Zeros.{isZeroOf, unlikeZeros, UpToZeros}
 use Rattle.zeros.specs.Call.{leastFromBy}
 
 -- a zero of either sign
 abbrev pub Zero : Float → Type 0
-Zero x = (isZero true x ≡ true) ⊎ (isZero false x ≡ true)
+Zero x = (isZeroOf true x ≡ true) ⊎ (isZeroOf false x ≡ true)
 
 -- the same, or both zero
 abbrev pub Alike : Float → Float → Type 0
@@ -187,9 +187,9 @@ minimum-alike a k b (inr z) =
 -- both of two unlike zeros are zeros
 unlike-both : (a b : Float) → unlikeZeros a b ≡ true → Zero a × Zero b
 unfolding unlikeZeros
-unlike-both a b h = go (isZero true a) (isZero false b) (isZero false a) (isZero true b) refl refl refl refl h
+unlike-both a b h = go (isZeroOf true a) (isZeroOf false b) (isZeroOf false a) (isZeroOf true b) refl refl refl refl h
   where
-    go : (p q r s : Bool) → isZero true a ≡ p → isZero false b ≡ q → isZero false a ≡ r → isZero true b ≡ s
+    go : (p q r s : Bool) → isZeroOf true a ≡ p → isZeroOf false b ≡ q → isZeroOf false a ≡ r → isZeroOf true b ≡ s
         → ((p && q) || (r && s)) ≡ true → Zero a × Zero b
     go true true r s e f g i k = (inl e, inr f)
     go true false true true e f g i k = (inl e, inl i)

@@ -20,12 +20,12 @@ use Rattle.numbers.specs.Root.{root}
 use Rattle.numbers.proofs.RoundedOrder.{round-neg, round-unsigned, nonnegative-minus}
 use Rattle.numbers.proofs.RootGrid.{f32-whole}
 use Rattle.spatial_hash.proofs.Squares.{root-good}
-use Rattle.zeros.specs.Zeros.{isZero}
+use Rattle.zeros.specs.Zeros.{isZeroOf}
 use Rattle.numbers.specs.Bounds.{unsigned}
 
 -- not -0
 abbrev pub Clear : Float → Type 0
-Clear x = isZero true x ≡ false
+Clear x = isZeroOf true x ≡ false
 
 pub unsigned-clear : (x : Float) → T (unsigned x) → Clear x
 unsigned-clear nan u = absurd u

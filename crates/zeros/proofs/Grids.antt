@@ -16,7 +16,7 @@ use Rattle.settings.specs.declared.BallPivotingConfig.{BallPivotingConfig}
 use Rattle.grid.specs.Grid.{cellOf, before, precedes, byCell, inRange, rangeOf, keep, neighbors}
 use Rattle.grid.specs.declared.SpatialGrid.{SpatialGrid}
 use Rattle.grid.specs.declared.Cell.{Cell}
-use Rattle.radii.specs.Radii.{distancesTo, average, nearOf, nearest, densitiesFrom, stepOf, sampleCount, radiiAt}
+use Rattle.radii.specs.Radii.{distancesTo, average, nearOf, nearest, densitiesFrom, stepOf, sampleCount, radiiFrom}
 use Rattle.radii.specs.Radii.{adaptiveRadii}
 use Rattle.lists.specs.Lists.{upFrom}
 
@@ -69,5 +69,5 @@ module _ (g h : SpatialGrid) (size : g .«cell_size» ≡ h .«cell_size»)
     pub adaptive-same : adaptiveRadii c g pts n ≡ adaptiveRadii c h pts n
     unfolding adaptiveRadii
     adaptive-same =
-        ap (λ (ds : List Float). cond (c .«adaptive_radius») (radiiAt c ds) [])
+        ap (λ (ds : List Float). cond (c .«adaptive_radius») (radiiFrom c ds) [])
         (densities-same (stepOf n) 0 (sampleCount n))

@@ -16,7 +16,7 @@ use Rattle.quality.specs.Measures.{one, tiny, angle, least, largest, aspectRati
 use Rattle.quality.specs.Measures.{degenerate}
 use Rattle.quality.specs.declared.TriangleQuality.{TriangleQuality}
 use Rattle.triangle.specs.Quality.{area, circumradius, quality}
-use Rattle.zeros.specs.Zeros.{isZero, unlikeZeros, UpToZeros}
+use Rattle.zeros.specs.Zeros.{isZeroOf, unlikeZeros, UpToZeros}
 use Rattle.zeros.specs.Quality.{leastBy, largestBy, edgeRatioBy, scoreBy, measuresBy, qualityBy}
 use Rattle.zeros.proofs.Clear.{Clear, add-clear, sub-clear, square-clear, root-clear}
 use Rattle.zeros.proofs.Arc.{Held, acos-held}
@@ -34,7 +34,7 @@ maximum-either P a b p q = go (isNan a) (lt a b)
 -- ---- two numbers that are no unlike zeros
 unlike-clear : (a b : Float) → Clear a → Clear b → unlikeZeros a b ≡ false
 unfolding unlikeZeros
-unlike-clear a b h k = rw (h, k) (go (isZero false a))
+unlike-clear a b h k = rw (h, k) (go (isZeroOf false a))
   where
     go : (t : Bool) → (t && false) ≡ false
     go true = refl
@@ -42,7 +42,7 @@ unlike-clear a b h k = rw (h, k) (go (isZero false a))
 
 unlike-one : (a : Float) → unlikeZeros a one ≡ false
 unfolding unlikeZeros ofBits
-unlike-one a = go (isZero true a) (isZero false a)
+unlike-one a = go (isZeroOf true a) (isZeroOf false a)
   where
     go : (s t : Bool) → ((s && false) || (t && false)) ≡ false
     go true true = refl
