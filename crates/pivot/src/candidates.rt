@@ -8,7 +8,7 @@ use spatial_hash::Hash;
 ghost use mathlib.Core.Path.{_≡_};
 ghost use mathlib.Core.Bool.{not, _&&_, _||_};
 ghost use mathlib.Core.Option.{none};
-ghost use Prim.Native.Nat.{_*_, _<_, _≤_, _+_};
+ghost use Prim.Native.Nat.{_<_, _≤_};
 ghost use lib.ListN.{length};
 ghost use lib.Ieee.{lt};
 ghost use Rattle.numbers.specs.Rounded.{f32};
@@ -23,6 +23,7 @@ ghost use Rattle.decisions.specs.Found.{scoreFound, atLeast};
 ghost use Rattle.scores.specs.Over.{sideOf, Thinned};
 ghost use Rattle.nearby.specs.Ready.{Held, Listed, Kept, usedIn, listed};
 ghost use Rattle.nearby.specs.Narrow.{cellAt};
+ghost use Rattle.regions.specs.Regions.{neighborsAt};
 ghost use Rattle.pivot.specs.Found.{pivotFound, pointOf, Met};
 ghost use Rattle.pivot.specs.Best.{isBefore, ahead, leader, scoreIn};
 
@@ -60,7 +61,7 @@ fn score_of(
 
 // Whether point k comes before the best one so far, if there is one.
 fn is_before(s: Scene, w: &[u32], k: usize, best: Pivot) -> bool
-    requires { ⌜ Met s best × (k < s .n) × (s .n ≤ 4096) × (4 * s .n ≤ length (now w)) ⌝ }
+    requires { ⌜ Met s best × (k < s .n) × (s .n ≤ 4096) × (neighborsAt (s .n) ≤ length (now w)) ⌝ }
     ensures { λ r. ⌜ r ≡ isBefore (earlier (s .indexed) (cellIn (now (w .entry)) (s .n))) k (pointOf best) ⌝ }
 {
     if let Pivot::To(j) = best {
@@ -71,7 +72,7 @@ fn is_before(s: Scene, w: &[u32], k: usize, best: Pivot) -> bool
 
 // Whether point k, a neighbour if its cell is near enough, becomes the best with a score that is not below `top`.
 fn is_ahead(s: Scene, w: &[u32], f: Filter, k: usize, score: f32, top: f32, best: Pivot) -> bool
-    requires { ⌜ Met s best × (k < s .n) × (s .n ≤ 4096) × (4 * s .n ≤ length (now w)) ⌝ }
+    requires { ⌜ Met s best × (k < s .n) × (s .n ≤ 4096) × (neighborsAt (s .n) ≤ length (now w)) ⌝ }
     ensures { λ r. ⌜ r ≡ ((not (s .indexed) || inRange (f .range) (f .cell) (cellIn (now (w .entry)) (s .n) k))
         && (lt top score || isBefore (earlier (s .indexed) (cellIn (now (w .entry)) (s .n))) k (pointOf best))) ⌝ }
 {

@@ -1,5 +1,5 @@
-// The points near a place: a spatial hash over the cloud, in the words of the work slice from 9n on. How its cells are
-// sized is a guess that decides nothing;
+// The points near a place: a spatial hash over the cloud, in its regions of the u32 work slice. How its cells are sized
+// is a guess that decides nothing;
 // what is promised is that no point within the distance asked for is left out, but those that were removed.
 // The points of a row of buckets, those with the same remainders on the first two axes, lie one after another, so that
 // a walk goes from row to row and passes no empty bucket.
