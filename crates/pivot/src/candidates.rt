@@ -27,36 +27,35 @@ ghost use Rattle.regions.specs.Regions.{neighborsAt};
 ghost use Rattle.pivot.specs.Found.{pivotFound, pointOf, Met};
 ghost use Rattle.pivot.specs.Best.{isBefore, ahead, leader, scoreIn};
 
-// The score of point k over the edge a, b, if it may be met and the score is not below `top`.
-fn score_of(
-    s: Scene,
-    points: &[f32],
-    w: &[u32],
-    radius: f32,
-    a: usize,
-    b: usize,
-    k: usize,
-    side: Side,
-    top: f32,
-    thin: f32,
-) -> Score
+// What points are held to over an edge a, b: the edge and its measures, the radius, and which are neighbours.
+pub struct Over {
+    pub a: usize,
+    pub b: usize,
+    pub side: Side,
+    pub radius: f32,
+    pub filter: Filter,
+}
+
+// The score of point k over an edge, if it may be met and the score is not below `top`.
+fn score_of(s: Scene, points: &[f32], w: &[u32], o: Over, k: usize, top: f32, thin: f32) -> Score
     requires { ⌜ Held s (now points) (now w) × (k < s .n)
-        × (side ≡ sideOf (pointAt (now points) a) (pointAt (now points) b)) × Thinned top thin ⌝ }
+        × (o .side ≡ sideOf (pointAt (now points) (o .a)) (pointAt (now points) (o .b))) × Thinned top thin ⌝ }
     ensures { λ r. ⌜ r
         ≡ scoreFound
-        (atLeast top (scoreOf (floatsOf s (now (points .entry))) radius (usedIn s (now (w .entry))) (edge a b) k)) ⌝ }
+        (atLeast top (scoreOf (floatsOf s (now (points .entry))) (o .radius) (usedIn s (now (w .entry)))
+        (edge (o .a) (o .b)) k)) ⌝ }
 {
-    if k == a {
+    if k == o.a {
         return Score::None;
     }
-    if k == b {
+    if k == o.b {
         return Score::None;
     }
     if !nearby::is_unused(s, w, k) {
         return Score::None;
     }
     let t = points::point_at(points, k);
-    scores::score_over(s, radius, side, t, top, thin)
+    scores::score_over(s, o.radius, o.side, t, top, thin)
 }
 
 // Whether point k comes before the best one so far, if there is one.
@@ -90,24 +89,22 @@ fn score_ahead(
     s: Scene,
     points: &[f32],
     w: &[u32],
-    radius: f32,
-    f: Filter,
-    a: usize,
-    b: usize,
+    o: Over,
     k: usize,
-    side: Side,
     top: f32,
     thin: f32,
     best: Pivot,
 ) -> Score
     requires { ⌜ Held s (now points) (now w) × Cells (s .grid) (now points) (s .n) (now w) × (k < s .n)
-        × (side ≡ sideOf (pointAt (now points) a) (pointAt (now points) b)) × Thinned top thin × Met s best ⌝ }
+        × (o .side ≡ sideOf (pointAt (now points) (o .a)) (pointAt (now points) (o .b))) × Thinned top thin
+        × Met s best ⌝ }
     ensures { λ r. ⌜ r
         ≡ scoreFound (ahead (earlier (s .indexed) (cellAt (s .grid) (now (points .entry)))) top (pointOf best) k
-        (scoreIn s (now (points .entry)) radius (usedIn s (now (w .entry))) f (edge a b) k)) ⌝ }
+        (scoreIn s (now (points .entry)) (o .radius) (usedIn s (now (w .entry))) (o .filter) (edge (o .a) (o .b))
+        k)) ⌝ }
 {
-    if let Score::Of(x) = score_of(s, points, w, radius, a, b, k, side, top, thin) {
-        if is_ahead(s, w, f, k, x, top, best) {
+    if let Score::Of(x) = score_of(s, points, w, o, k, top, thin) {
+        if is_ahead(s, w, o.filter, k, x, top, best) {
             return Score::Of(x);
         }
     }
@@ -135,6 +132,13 @@ fn best_of(
 {
     let p = points::point_at(points, a);
     let side = scores::side_of(p, points::point_at(points, b));
+    let over = Over {
+        a: a,
+        b: b,
+        side: side,
+        radius: radius,
+        filter: f,
+    };
     let mut top = 0.0;
     let mut thin = scores::thin_at(0.0);
     let mut best = Pivot::Nowhere;
@@ -142,7 +146,7 @@ fn best_of(
     while m < count {
         let k = nearby::listed_point(s, w, count, m);
         m += 1;
-        if let Score::Of(x) = score_ahead(s, points, w, radius, f, a, b, k, side, top, thin, best) {
+        if let Score::Of(x) = score_ahead(s, points, w, over, k, top, thin, best) {
             top = x;
             thin = scores::thin_at(x);
             best = Pivot::To(k);

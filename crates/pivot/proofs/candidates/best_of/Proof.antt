@@ -10,10 +10,10 @@ use Rattle.pivot.proofs.candidates.best_of.Statement.{statement}
 use Rattle.pivot.proofs.candidates.best_of.Tie as tie
 
 abbrev Inv-loop : tie.InvT-loop
-Inv-loop s points w count radius f a b side top₀ thin₀ best₀ m₀ top thin best m = Best s points radius f w count a b top best m × Thinned top thin
+Inv-loop s points w count radius a b over top₀ thin₀ best₀ m₀ top thin best m = Best s points radius (over .filter) w count a b top best m × Thinned top thin
 
 abbrev μ-loop : tie.MeasureT-loop
-μ-loop s points w count radius f a b side top₀ thin₀ best₀ m₀ top thin best m = count - m
+μ-loop s points w count radius a b over top₀ thin₀ best₀ m₀ top thin best m = count - m
 
 between : {side : Side} {p q x y : Point3f} → side ≡ sideOf p q → p ≡ x → q ≡ y → side ≡ sideOf x y
 between e f g = rw (← f, ← g) e
