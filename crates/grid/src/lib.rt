@@ -1,5 +1,5 @@
 // The spatial index. What it keeps stands in the u32 work slice, in the region of the cells; see specs/Index.antt.
-mod cells;
+pub mod cells;
 pub mod order;
 pub mod search;
 

@@ -19,6 +19,7 @@ use Rattle.numbers.proofs.RootNearest.{root-nearest}
 use Rattle.numbers.proofs.ProductOrder.{mul-monotone-finite, mul-monotone, mul-number, factor-above, mul-commutative, square-unsigned}
 use Rattle.numbers.proofs.QuotientOrder.{div-number, div-monotone}
 use Rattle.numbers.proofs.Bounded.{mul-unsigned, mul-finite, root-finite}
+use Rattle.bounds.proofs.Above.{positive-is}
 use Rattle.vector.specs.Vector.{difference, magnitudeSquared, magnitude, cross, squared, distance}
 use Rattle.quality.specs.Measures.{half, tiny, radiusOf}
 use Rattle.triangle.specs.Quality.{area, circumradius}
@@ -32,13 +33,6 @@ use Rattle.plain.proofs.RootBounds.{root-least, root-most}
 use Rattle.plain.proofs.QuotientBounds.{quotient-most, quotient-least, quotient-antitone}
 
 -- ---- numbers above 0
-
-pub positive-is : (x : Float) → T (lt (f32 0) x) → T (finite x) → T (positive x)
-positive-is nan h f = absurd f
-positive-is (inf s) h f = absurd f
-positive-is (fin true m e) h f = absurd (positive-unsigned (fin true m e) h)
-positive-is (fin false zero e) h f = absurd (nothing-below e h)
-positive-is (fin false (suc m) e) h f = lt→ltb 0 (suc m) (zero-lt-suc m)
 
 finite-under : (u v : Float) → T (unsigned u) → T (le u v) → T (finite v) → T (finite u)
 finite-under nan v u h f = absurd u

@@ -1,7 +1,7 @@
 -- The least squares among the points that were found are those of all neighbours, if ten are not above the limit,
 -- and their roots are the least distances of the definition. Assumes nothing.
 use mathlib.Core.Path.{_≡_, refl, sym, ap, _∙_, subst}
-use mathlib.Core.Bool.{Bool, true, false, cond, not, _&&_}
+use mathlib.Core.Bool.{Bool, true, false, cond, not, _&&_, _||_}
 use mathlib.Core.List.{List, [], _∷_, map}
 use Prim.Native.Nat.{ℕ, zero, suc, _+_, _*_, _≤_, _<_, min}
 use native.Mathlib.Omega.{arith}
@@ -22,21 +22,24 @@ use Rattle.sorting.specs.Sorted.{sorted, All}
 use Rattle.sorting.proofs.Rising.{all-take}
 use Rattle.settings.specs.declared.BallPivotingConfig.{BallPivotingConfig}
 use Rattle.grid.specs.declared.SpatialGrid.{SpatialGrid}
-use Rattle.grid.specs.Grid.{precedes, byCell, orderOf}
-use Rattle.grid.specs.Index.{Indexed, keepIn}
+use Rattle.grid.specs.Grid.{precedes, byCell, orderOf, cellOf, inRange}
+use Rattle.grid.specs.Index.{Indexed, keepIn, cellIn}
 use Rattle.lists.specs.Members.{Below}
-use Rattle.grid.proofs.Near.{near-is}
+use Rattle.grid.proofs.Near.{near-is, indexed-kept}
+use Rattle.bounds.specs.declared.Bounds.{Bounds}
+use Rattle.cell_bounds.specs.CellBounds.{Holding, Reaching}
+use Rattle.lists.proofs.Members.{below-first, below-rest}
 use Rattle.lists.proofs.Bools.{not-true, and-both}
 use Rattle.lists.proofs.Counts.{count-mono, count-zero, count-all}
 use Rattle.sorting.proofs.Counting.{insert-count}
 use Rattle.spatial_hash.specs.declared.Hash.{Hash}
-use Rattle.spatial_hash.specs.Near.{noneOut, Surrounds, Near}
+use Rattle.spatial_hash.specs.Near.{noneOut, Surrounds, Near, Gathered}
 use Rattle.spatial_hash.proofs.Kept.{hashed-all-behind}
 use Rattle.spatial_hash.proofs.Squares.{Good, squared-good, distance-back}
-use Rattle.spatial_hash.proofs.Nearby.{count-same, near-all, surrounds-count, up-whole}
+use Rattle.spatial_hash.proofs.Nearby.{count-same, near-all, listed-count, surrounds-count, up-whole}
 use Rattle.radii.specs.declared.Around.{Around}
 use Rattle.radii.specs.Radii.{distancesTo, nearOf, nearest}
-use Rattle.radii.specs.Squares.{aroundOf, isNear, within, squaresTo, leastSquares, Whole, Prepared, Kept, Looked}
+use Rattle.radii.specs.Squares.{aroundOf, isNear, within, squaresTo, leastSquares, Whole, Prepared, Kept, Looked, Found}
 use Rattle.radii.proofs.Rising.{atMost, sorted-count, sorted-good, roots-good, least-same, least-roots}
 
 -- ---- squares of some points
@@ -194,6 +197,57 @@ looked a pts n i limit w u f g h p found r x size hp found-near squares few fron
 
     js : List ℕ
     js = take found (drop (4 * n) u)
+
+-- ---- a look within bounds that hold every neighbour
+agree-below : (n : ℕ) (p q : ℕ → Bool) → ((j : ℕ) → j < n → p j ≡ q j) → (js : List ℕ) → Below n js → count p js ≡ count q js
+agree-below n p q h [] b = refl
+agree-below n p q h (j ∷ js) b = rw (h j (below-first n j js b)) (ap (λ (m : ℕ). bit (q j) + m) (agree-below n p q h js (below-rest n j js b)))
+
+module _ (near : ℕ → Bool) (pts : List Float) (n i : ℕ) (js all : List ℕ) (limit : Float) (inside : i < n) (numbers : (j : ℕ) → j < n → Finite (pointAt pts j))
+    (below : Below n js) (once : (j : ℕ) → count (eqb j) js ≤ 1) (whole : Whole n all) (held : (j : ℕ) → j < n → near j ≡ true → (1 ≤ count (eqb j) js) × T (le (key pts i j) limit)) where
+  same-test : (j : ℕ) → j < n → within limit near pts i j ≡ near j
+  same-test j h = go (near j) refl
+    where
+      go : (b : Bool) → near j ≡ b → (b && le (key pts i j) limit) ≡ b
+      go true e = is-true (le (key pts i j) limit) (held j h e .1)
+      go false e = refl
+
+  same-close : (v : Float) (j : ℕ) → j < n → close (within limit near pts i) pts i v j ≡ close near pts i v j
+  same-close v j h = ap (λ (b : Bool). (not (eqb j i) && b) && le (key pts i j) v) (same-test j h)
+
+  close-near : (v : Float) (j : ℕ) → close near pts i v j ≡ true → near j ≡ true
+  close-near v j e = and-both {p = not (eqb j i)} {q = near j} (close-le near pts i v j e .0) .1
+
+  pub decided-whole : leastSquares (within limit near pts i) pts i js ≡ leastSquares near pts i all
+  unfolding leastSquares
+  decided-whole =
+      least-same 10 (squaresTo (within limit near pts i) pts i js) (squaresTo near pts i all) (squares-good (within limit near pts i) pts i n inside numbers js below) (squares-good near pts i n inside numbers all (whole-below n all whole))
+      (λ (v : Float). ap (min 10)
+      (squares-count (within limit near pts i) pts i v js
+      ∙ agree-below n (close (within limit near pts i) pts i v) (close near pts i v) (same-close v) js below
+      ∙ listed-count js all below once whole (close near pts i v) (λ j h e. held j h (close-near v j e) .0)
+      ∙ sym (squares-count near pts i v all)))
+
+pub found-in-range : (a : Around) (g : SpatialGrid) (pts : List Float) (n i : ℕ) (b : Bounds) (limit : Float) (w u : List ℕ) (f e : List Float) (h : Hash) (p : Point3f) (found r : ℕ)
+    → Prepared h pts n i w f → Indexed g pts n w → a .indexed ≡ true → length u ≡ length w → p ≡ pointAt pts i → Holding g (a .cell) (a .range) b → Reaching b p limit → Gathered pts n b w u found
+    → take r (drop n e) ≡ leastSquares (within limit (isNear a u n) pts i) pts i (take found (drop (4 * n) u)) → r ≤ 10 → take n e ≡ take n f → Found a pts n i w u f e r
+unfolding isNear
+found-in-range a g pts n i b limit w u f e h p found r x indexed on size hp holding reaching gathered squares few front = record {
+  few = few;
+  decided = squares ∙ decided-whole (isNear a u n) pts n i (take found (drop (4 * n) u)) (upFrom 0 n) limit (x .inside) numbers (gathered .gathers .below) (gathered .gathers .once) (up-whole n) held;
+  kept = record { front = front; before = gathered .before; after = gathered .after };
+}
+  where
+    numbers : (j : ℕ) → j < n → Finite (pointAt pts j)
+    numbers = x .hashed .linked .ready .numbers
+
+    in-range : (j : ℕ) → j < n → isNear a u n j ≡ true → inRange (a .range) (a .cell) (cellOf g (pointAt pts j)) ≡ true
+    in-range j k t = ap (inRange (a .range) (a .cell)) (sym (indexed-kept u indexed size (gathered .before) .cells j k)) ∙ sym (ap (λ (c : Bool). not c || inRange (a .range) (a .cell) (cellIn u n j)) on) ∙ t
+
+    held : (j : ℕ) → j < n → isNear a u n j ≡ true → (1 ≤ count (eqb j) (take found (drop (4 * n) u))) × T (le (key pts i j) limit)
+    held j k t =
+        let inside = holding (pointAt pts j) (numbers j k) (in-range j k t) in
+        (gathered .gathers .complete j k (x .hashed .all-in j k) inside, subst (λ (q : Point3f). T (le (squared (pointAt pts j) q) limit)) hp (reaching (pointAt pts j) (numbers j k) inside))
 
 -- ---- one look after another
 pub kept-start : (n : ℕ) (w : List ℕ) (f : List Float) → Kept n w w f f

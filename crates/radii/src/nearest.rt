@@ -8,7 +8,7 @@ use settings::BallPivotingConfig;
 use spatial_hash::Hash;
 use vector::Point3f;
 ghost use mathlib.Core.Path.{_≡_};
-ghost use mathlib.Core.Bool.{not, _&&_};
+ghost use mathlib.Core.Bool.{true, false, not, _&&_};
 ghost use mathlib.Core.List.{map};
 ghost use Prim.Native.Nat.{ℕ, _+_, _*_, _≤_, _<_};
 ghost use lib.Dec.{eqb};
@@ -24,6 +24,15 @@ ghost use Rattle.regions.specs.Regions.{neighborsAt, usedAt, leastAt, radiiAt};
 ghost use Rattle.radii.specs.Radii.{nearest};
 ghost use Rattle.radii.specs.Squares.{isNear, within, aroundOf, tenthOf, withSquare, leastSquares, Decided};
 ghost use Rattle.radii.specs.Squares.{Prepared, Looked, Found};
+
+// Below so many points a look at each is quicker than one near by.
+const FEW: usize = 200;
+
+// Guesses at how far from a sample its tenth neighbour is, and the last one.
+pub struct Guess {
+    pub tenth: f32,
+    pub last: f32,
+}
 
 // The neighbours of a place at 3 × radius.
 fn around_of(config: BallPivotingConfig, grid: SpatialGrid, place: Point3f) -> Around
@@ -185,11 +194,79 @@ fn look_everywhere(
     kept
 }
 
-// How many of the four looks near by are left out: all where there are so few points that a look at each is quicker.
-fn first_try(n: usize) -> u32
-    ensures { λ r. ⌜ r ≤ 4 ⌝ }
+// The least squared distances from point i to its other neighbours, of the points within bounds that hold their cells.
+fn look_in_range(
+    points: &[f32],
+    n: usize,
+    hash: Hash,
+    grid: SpatialGrid,
+    around: Around,
+    i: usize,
+    reach: f32,
+    w: &mut [u32],
+    f: &mut [f32],
+) -> usize
+    requires { ⌜ Prepared hash (now points) n i (now w) (now f) × Indexed grid (now points) n (now w)
+        × (around .indexed ≡ true) ⌝ }
+    ensures { λ r. ⌜ Found around (now (points .entry)) n i (now (w .entry)) (now (w .exit)) (now (f .entry))
+        (now (f .exit)) r ⌝ }
 {
-    if n < 200 { 4 } else { 0 }
+    let place = points::point_at(points, i);
+    let cell = around.cell;
+    let bounds = cell_bounds::bounds_of(grid, cell, around.range, place, reach);
+    let limit = cell_bounds::limit_of(bounds, place);
+    let found = spatial_hash::gather(points, w, n, hash, bounds);
+    least_squares(points, n, around, i, limit, w, found, f)
+}
+
+// Whether a look at each point is as quick as one within the bounds of the neighbours' cells.
+fn is_wide(n: usize, hash: Hash, around: Around, reach: f32) -> bool
+    ensures { λ r. ⌜ (r ≡ false → around .indexed ≡ true) ⌝ }
+{
+    if n < FEW {
+        return true;
+    }
+    if !around.indexed {
+        return true;
+    }
+    hash.side <= cutting::cut(reach * hash.scale * 2.0) as usize
+}
+
+// The least squared distances from point i to its other neighbours, however many they are.
+fn look_further(
+    points: &[f32],
+    n: usize,
+    hash: Hash,
+    grid: SpatialGrid,
+    around: Around,
+    i: usize,
+    reach: f32,
+    w: &mut [u32],
+    f: &mut [f32],
+) -> usize
+    requires { ⌜ Prepared hash (now points) n i (now w) (now f) × Indexed grid (now points) n (now w) ⌝ }
+    ensures { λ r. ⌜ Found around (now (points .entry)) n i (now (w .entry)) (now (w .exit)) (now (f .entry))
+        (now (f .exit)) r ⌝ }
+{
+    if is_wide(n, hash, around, reach) {
+        return look_everywhere(points, n, around, i, w, f);
+    }
+    look_in_range(points, n, hash, grid, around, i, reach, w, f)
+}
+
+// How many of the four looks near by are behind: all where there are so few points that a look at each is quicker, and
+// where the next one would go as far as the neighbours' cells.
+fn tries_after(n: usize, tries: u32, limit: f32, reach: f32) -> u32
+    requires { ⌜ tries ≤ 4 ⌝ }
+    ensures { λ r. ⌜ (tries ≤ r) × (r ≤ 4) ⌝ }
+{
+    if n < FEW {
+        return 4;
+    }
+    if limit < reach * reach {
+        return tries;
+    }
+    4
 }
 
 // The least squared distances from point i to its other neighbours.
@@ -197,27 +274,29 @@ fn find_squares(
     points: &[f32],
     n: usize,
     hash: Hash,
+    grid: SpatialGrid,
     around: Around,
     i: usize,
-    guess: f32,
+    guess: Guess,
     w: &mut [u32],
     f: &mut [f32],
 ) -> usize
-    requires { ⌜ Prepared hash (now points) n i (now w) (now f) ⌝ }
+    requires { ⌜ Prepared hash (now points) n i (now w) (now f) × Indexed grid (now points) n (now w) ⌝ }
     ensures { λ r. ⌜ Found around (now (points .entry)) n i (now (w .entry)) (now (w .exit)) (now (f .entry))
         (now (f .exit)) r ⌝ }
 {
-    let mut limit = guess * guess;
-    let mut tries = first_try(n);
+    let reach = guess.last;
+    let mut limit = guess.tenth * guess.tenth;
+    let mut tries = tries_after(n, 0, limit, reach);
     while tries < 4 {
         let kept = look_within(points, n, hash, around, i, limit, w, f);
         if kept == 10 {
             return kept;
         }
         limit = wider(kept, limit);
-        tries += 1;
+        tries = tries_after(n, tries + 1, limit, reach);
     }
-    look_everywhere(points, n, around, i, w, f)
+    look_further(points, n, hash, grid, around, i, reach, w, f)
 }
 
 // Takes the root of each of the count numbers that start at `at`.
@@ -231,6 +310,17 @@ fn take_roots(f: &mut [f32], at: usize, count: usize)
         f[at + k] = numbers::sqrt(f[at + k]);
         k += 1;
     }
+}
+
+// A guess at how far the cells of a place's neighbours reach.
+fn reach_of(grid: SpatialGrid, around: Around) -> f32 {
+    if around.indexed {
+        let range = around.range;
+        if range < 4096 {
+            return (range as f32 + 1.0) * grid.cell_size * 1.001;
+        }
+    }
+    1.0 / 0.0
 }
 
 // The least distances from point i to its other neighbours.
@@ -254,7 +344,11 @@ pub fn find_nearest(
         × (drop (usedAt n) (now (w .exit)) ≡ drop (usedAt n) (now (w .entry))) ⌝ }
 {
     let around = around_of(config, grid, points::point_at(points, i));
-    let kept = find_squares(points, n, hash, around, i, guess, w, f);
+    let far = Guess {
+        tenth: guess,
+        last: reach_of(grid, around),
+    };
+    let kept = find_squares(points, n, hash, grid, around, i, far, w, f);
     take_roots(f, n, kept);
     kept
 }

@@ -16,6 +16,7 @@ use Rattle.vector.specs.declared.Point3f.{Point3f}
 use Rattle.vector.specs.Vector.{squared, Finite}
 use Rattle.points.specs.Points.{pointAt}
 use Rattle.lists.specs.Lists.{upFrom, count, bit}
+use Rattle.lists.specs.Members.{Below}
 use Rattle.lists.proofs.Bools.{either, not-true, true-not-false}
 use Rattle.bounds.specs.declared.Bounds.{Bounds}
 use Rattle.bounds.specs.Within.{within, Covers}
@@ -154,19 +155,23 @@ up-whole n j = go (ltb j n) refl
         let o = up-once j 0 n in omega arith
     go false e = let l = ltb-false j n e in no-count (λ h. let k = up-in j 0 n h in omega arith)
 
--- a test that only points pass whose squared distance is not above the limit is passed as often by those found as by all
-pub surrounds-count : {pts : List Float} {n : ℕ} {p : Point3f} {t : Float} (js all : List ℕ) → Surrounds pts n noneOut p t js → ((j : ℕ) → count (eqb j) all ≡ bit (ltb j n))
-    → (test : ℕ → Bool) → ((j : ℕ) → j < n → test j ≡ true → T (le (squared (pointAt pts j) p) t)) → count test js ≡ count test all
-surrounds-count {n = n} js all g whole test near = count-same test js all (λ (j : ℕ) (h : test j ≡ true). go j h (ltb j n) refl)
+-- a test is passed as often by some points as by all, if each that passes is among them
+pub listed-count : {n : ℕ} (js all : List ℕ) → Below n js → ((j : ℕ) → count (eqb j) js ≤ 1) → ((j : ℕ) → count (eqb j) all ≡ bit (ltb j n))
+    → (test : ℕ → Bool) → ((j : ℕ) → j < n → test j ≡ true → 1 ≤ count (eqb j) js) → count test js ≡ count test all
+listed-count {n = n} js all below once whole test has = count-same test js all (λ (j : ℕ) (h : test j ≡ true). go j h (ltb j n) refl)
   where
     go : (j : ℕ) → test j ≡ true → (x : Bool) → ltb j n ≡ x → count (eqb j) js ≡ count (eqb j) all
     go j h true e =
-        let l = ltb-true j n e in
-        let m = surrounds-near g j l (near j l h) in
+        let m = has j (ltb-true j n e) h in
         let z : bit (ltb j n) ≡ 1 = ap bit e in
-        omega (arith, g .once j, whole j)
+        omega (arith, once j, whole j)
     go j h false e =
         let l = ltb-false j n e in
         let z : bit (ltb j n) ≡ 0 = ap bit e in
-        let none : count (eqb j) js ≡ 0 = no-count (λ k. let m = g .below j k in omega arith) in
+        let none : count (eqb j) js ≡ 0 = no-count (λ k. let m = below j k in omega arith) in
         omega (arith, whole j)
+
+-- a test that only points pass whose squared distance is not above the limit is passed as often by those found as by all
+pub surrounds-count : {pts : List Float} {n : ℕ} {p : Point3f} {t : Float} (js all : List ℕ) → Surrounds pts n noneOut p t js → ((j : ℕ) → count (eqb j) all ≡ bit (ltb j n))
+    → (test : ℕ → Bool) → ((j : ℕ) → j < n → test j ≡ true → T (le (squared (pointAt pts j) p) t)) → count test js ≡ count test all
+surrounds-count js all g whole test near = listed-count js all (g .below) (g .once) whole test (λ j l h. surrounds-near g j l (near j l h))

@@ -49,7 +49,7 @@ pub fn build(points: &[f32], n: usize, size: f32, w: &mut [u32]) -> Hash
 
 // Writes the numbers of points into the region of the neighbours, those within the bounds that are not out among them,
 // and returns how many they are.
-fn gather(points: &[f32], w: &mut [u32], n: usize, hash: Hash, bounds: Bounds) -> usize
+pub fn gather(points: &[f32], w: &mut [u32], n: usize, hash: Hash, bounds: Bounds) -> usize
     requires { ⌜ Linked hash (now points) n (now w) ⌝ }
     ensures { λ r. ⌜ Gathered (now (points .entry)) n bounds (now (w .entry)) (now (w .exit)) r ⌝ }
 {
