@@ -67,7 +67,7 @@ pub fn is_refused(l: Limits, p: Point3f, q: Point3f, t: Point3f) -> bool
 }
 
 // Whether three numbers are at most x.
-fn are_at_most(a: f32, b: f32, c: f32, x: f32) -> bool
+pub fn are_at_most(a: f32, b: f32, c: f32, x: f32) -> bool
     ensures { λ r. ⌜ r ≡ (le a x && (le b x && le c x)) ⌝ }
 {
     a <= x && (b <= x && c <= x)

@@ -1,5 +1,5 @@
 // A triangle's quality, from the lengths of its edges and its area.
-mod measure;
+pub mod measure;
 
 ghost use mathlib.Core.Path.{_≡_};
 ghost use Rattle.quality.specs.Measures.{radiusOf, score};

@@ -7,13 +7,13 @@ ghost use Rattle.quality.specs.Measures.{degenerate};
 ghost use Rattle.quality.specs.Shape.{shape, flat};
 
 // The angle opposite to a.
-fn angle(a: f32, b: f32, c: f32) -> f32
+pub fn angle(a: f32, b: f32, c: f32) -> f32
     ensures { λ r. ⌜ r ≡ angle a b c ⌝ }
 {
     arc_cosine::acos(numbers::clamp((b * b + c * c - a * a) / (2.0 * b * c), -1.0, 1.0))
 }
 
-fn least(a: f32, b: f32, c: f32) -> f32
+pub fn least(a: f32, b: f32, c: f32) -> f32
     ensures { λ r. ⌜ r ≡ least a b c ⌝ }
 {
     numbers::min(numbers::min(a, b), c)

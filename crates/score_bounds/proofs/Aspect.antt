@@ -19,7 +19,7 @@ use Rattle.score_bounds.proofs.Bounds.{part, part-le, flat-le}
 
 -- ---- sums below +infinity
 
-abbrev Low : Float → Type 0
+abbrev pub Low : Float → Type 0
 Low x = T (lt x (inf false))
 
 low-number : (x y : Float) → Low x → Low y → T (not (isNan (x ⊕ y)))
@@ -75,7 +75,7 @@ doubled-number nan h = absurd (unfold isNan in h)
 doubled-number (inf s) h = unfold isNan mul ofBits in tt
 doubled-number (fin s m e) h = mul-number (fin s m e) (f32 0x40000000) tt (unfold ofBits in tt)
 
-doubled-le : (x y : Float) → T (le x y) → T (le (x ⊗ f32 0x40000000) (y ⊗ f32 0x40000000))
+pub doubled-le : (x y : Float) → T (le x y) → T (le (x ⊗ f32 0x40000000) (y ⊗ f32 0x40000000))
 doubled-le x y h =
     mul-monotone x y (f32 0x40000000) (unfold ofBits in tt) h (unfold le ofBits in tt) (doubled-number x (le-left x y h)) (doubled-number y (le-right x y h))
 
@@ -86,7 +86,7 @@ edge-full = refl
 edge-le : (x : Float) → T (le (minimum (f32 0x40400000 ⊘ x) (f32 0x3f800000)) (minimum (f32 0x40400000 ⊘ f32 0x3f800000) (f32 0x3f800000)))
 edge-le x = rw (← edge-full) (minimum-le (f32 0x40400000 ⊘ x) (f32 0x3f800000) (unfold isNan ofBits in tt))
 
-mean-under : (x y u v e o : Float) → T (le x y) → T (le u v) → T (le e o) → Low ((y ⊕ v ⊕ o) ⊘ f32 0x40400000) → T (le ((x ⊕ u ⊕ e) ⊘ f32 0x40400000) ((y ⊕ v ⊕ o) ⊘ f32 0x40400000))
+pub mean-under : (x y u v e o : Float) → T (le x y) → T (le u v) → T (le e o) → Low ((y ⊕ v ⊕ o) ⊘ f32 0x40400000) → T (le ((x ⊕ u ⊕ e) ⊘ f32 0x40400000) ((y ⊕ v ⊕ o) ⊘ f32 0x40400000))
 mean-under x y u v e o h k m l =
     let i = low-parts (y ⊕ v) o (low-third (y ⊕ v ⊕ o) l) in
     let j = low-parts y v (i .0) in
@@ -112,7 +112,7 @@ angle-under x aspect edge l =
 
 -- ---- limits
 
-below-low : (x y : Float) → T (lt x y) → Low x
+pub below-low : (x y : Float) → T (lt x y) → Low x
 below-low x y h = lt-le-trans x y (inf false) h (le-top y (le-right x y (lt-le x y h)))
 
 pub aspect-limit-is : (threshold t : Float) → T (lt (score (f32 0x40490fdb) t (f32 0x3f800000)) threshold) → AspectLimit threshold t

@@ -5,5 +5,6 @@ pub mod State
 pub mod Points
 pub mod Nothing
 pub mod Measured
+pub mod Low
 pub mod Threes
 pub mod WithArea

@@ -53,11 +53,21 @@ module _ (p q t : Point3f) {a b c x : Float} (ea : a ≡ distance q p) (eb : b �
     unfolding qualityAt
     at-backward = cc
 
-    pub measured-no-seed : RefusedBoth s r a b c x → NoSeed s pts r i j k
+    measured-no-seed : RefusedBoth s r a b c x → NoSeed s pts r i j k
     measured-no-seed h = record {
       forward = λ d. off s pts r i j k (ap (accepts s r) (sym (forward-is ∙ at-forward)) ∙ h .forward);
       backward = λ d. off s pts r i k j (ap (accepts s r) (sym (backward-is ∙ at-backward)) ∙ h .backward);
     }
+
+-- whichever of them comes first
+module _ (p q t : Point3f) {a b c x y z : Float} (ea : a ≡ distance q p) (eb : b ≡ distance t q) (ec : c ≡ distance p t) (ex : x ≡ area p q t) (ey : y ≡ area q p t) (ez : z ≡ area t p q)
+    (s : Scene) (pts : List Float) (r : Float) (i j k : ℕ) (ep : p ≡ pointAt pts i) (eq : q ≡ pointAt pts j) (et : t ≡ pointAt pts k) where
+  pub measured-seedless : RefusedBoth s r a b c x → RefusedBoth s r a c b y → RefusedBoth s r c a b z → Seedless s pts r i j k
+  measured-seedless f g h = record {
+    first = measured-no-seed p q t ea eb ec ex s pts r i j k ep eq et f;
+    second = measured-no-seed q p t (ea ∙ distance-turned q p) (ec ∙ distance-turned p t) (eb ∙ distance-turned t q) ey s pts r j i k eq ep et g;
+    third = measured-no-seed t p q ec ea eb ez s pts r k i j et ep eq h;
+  }
 
 -- ---- refused in each order
 

@@ -22,6 +22,9 @@ ghost use Rattle.seed.specs.Seedless.{isOther, isLeft, Left, AllLeftSeed
 // What it takes to measure three points, where it takes 1 to refuse them.
 const MEASURED: usize = 24;
 
+// What it takes to tell that their score is too low in every order.
+const BOUNDED: usize = 8;
+
 // Whether points i, j and k make no seed, whichever of them comes first: 0 if they may, else what it took to tell.
 // Limits are asked first, since they need no root.
 fn price_of(
@@ -49,6 +52,9 @@ fn price_of(
     let a = vector::distance(second, first);
     let b = vector::distance(third, second);
     let c = vector::distance(first, third);
+    if three::are_low(s, a, b, c, first, second, third) {
+        return BOUNDED;
+    }
     if !three::are_refused(s, radius, a, b, c, triangle::area_of(first, second, third)) {
         return 0;
     }

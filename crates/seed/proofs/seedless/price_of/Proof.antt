@@ -1,12 +1,10 @@
--- `price_of` meets its contract: limits refuse every order, or each of the three points is tried as the first one. Assumes nothing.
-use mathlib.Core.Path.{_≡_, sym, _∙_}
+-- `price_of` meets its contract: limits refuse every order, the score is too low in each, or each of the three points is tried as the first one. Assumes nothing.
+use mathlib.Core.Path.{refl}
 use native.Mathlib.Omega.{arith}
 use borrow.Author.Tests.{not-false}
-use Rattle.vector.specs.Vector.{distance}
-use Rattle.vector.proofs.Distances.{distance-turned}
 use Rattle.seed.proofs.Points.{throughout-points, each-points}
 use Rattle.seed.proofs.Threes.{refused-seedless}
-use Rattle.seed.proofs.Measured.{measured-no-seed, each-seedless}
+use Rattle.seed.proofs.Measured.{measured-seedless, each-seedless}
 use borrow.Author.Needs.{needs}
 use Rattle.seed.proofs.seedless.price_of.Statement.{statement}
 use Rattle.seed.proofs.seedless.price_of.Tie as tie
@@ -43,14 +41,27 @@ distance-requires-2 c κs = search needs
 distance-requires-3 : tie.Need-distance-requires-3
 distance-requires-3 c κs = search needs
 
+are-low-requires : tie.Need-are-low-requires
+are-low-requires c κs = search needs
+
+returns-3 : tie.Need-returns-3
+returns-3 c =
+    let a = c .before .before .before .before .before .before .before .before .before .before .before .before .before .args in
+    let p = c .before .before .before .before .before .before .before .before .before .before .before .point-at in
+    let q = c .before .before .before .before .before .before .before .before .before .before .point-at2 in
+    let t = c .before .before .before .before .before .before .before .before .before .point-at3 in
+    let x = c .before .are-low .ensures (c .if3 .taken) in λ _.
+    measured-seedless (p .result) (q .result) (t .result) (c .before .before .before .before .distance .ensures) (c .before .before .before .distance2 .ensures) (c .before .before .distance3 .ensures) refl refl refl
+    (a .s) (a .points .now) (a .radius) (a .i) (a .j) (a .k) (p .ensures) (q .ensures) (t .ensures) (x .first (a .radius)) (x .second (a .radius)) (x .third (a .radius))
+
 area-of-requires : tie.Need-area-of-requires
 area-of-requires c κs = search needs
 
 are-refused-requires : tie.Need-are-refused-requires
 are-refused-requires c κs = search needs
 
-returns-3 : tie.Need-returns-3
-returns-3 c = λ h. absurd (omega arith)
+returns-4 : tie.Need-returns-4
+returns-4 c = λ h. absurd (omega arith)
 
 area-of-requires-2 : tie.Need-area-of-requires-2
 area-of-requires-2 c κs = search needs
@@ -58,8 +69,8 @@ area-of-requires-2 c κs = search needs
 are-refused-requires-2 : tie.Need-are-refused-requires-2
 are-refused-requires-2 c κs = search needs
 
-returns-4 : tie.Need-returns-4
-returns-4 c = λ h. absurd (omega arith)
+returns-5 : tie.Need-returns-5
+returns-5 c = λ h. absurd (omega arith)
 
 area-of-requires-3 : tie.Need-area-of-requires-3
 area-of-requires-3 c κs = search needs
@@ -67,25 +78,22 @@ area-of-requires-3 c κs = search needs
 are-refused-requires-3 : tie.Need-are-refused-requires-3
 are-refused-requires-3 c κs = search needs
 
-returns-5 : tie.Need-returns-5
-returns-5 c = λ h. absurd (omega arith)
-
 returns-6 : tie.Need-returns-6
-returns-6 c =
-    let a = c .before .before .before .before .before .before .before .before .before .before .before .before .before .before .before .before .before .before .before .before .args in
-    let p = c .before .before .before .before .before .before .before .before .before .before .before .before .before .before .before .before .before .before .point-at in
-    let q = c .before .before .before .before .before .before .before .before .before .before .before .before .before .before .before .before .before .point-at2 in
-    let t = c .before .before .before .before .before .before .before .before .before .before .before .before .before .before .before .before .point-at3 in
+returns-6 c = λ h. absurd (omega arith)
+
+returns-7 : tie.Need-returns-7
+returns-7 c =
+    let a = c .before .before .before .before .before .before .before .before .before .before .before .before .before .before .before .before .before .before .before .before .before .before .args in
+    let p = c .before .before .before .before .before .before .before .before .before .before .before .before .before .before .before .before .before .before .before .before .point-at in
+    let q = c .before .before .before .before .before .before .before .before .before .before .before .before .before .before .before .before .before .before .before .point-at2 in
+    let t = c .before .before .before .before .before .before .before .before .before .before .before .before .before .before .before .before .before .before .point-at3 in
     let x = c .before .before .before .before .before .before .before .are-refused in
     let y = c .before .before .before .before .are-refused2 in
-    let z = c .before .are-refused3 in
-    let qp = c .before .before .before .before .before .before .before .before .before .before .before .distance .ensures in
-    let tq = c .before .before .before .before .before .before .before .before .before .before .distance2 .ensures in
-    let pt = c .before .before .before .before .before .before .before .before .before .distance3 .ensures in λ _. record {
-      first = measured-no-seed (p .result) (q .result) (t .result) qp tq pt (c .before .before .before .before .before .before .before .before .area-of .ensures) (a .s) (a .points .now) (a .radius) (a .i) (a .j) (a .k) (p .ensures) (q .ensures) (t .ensures) (x .ensures (not-false (x .result) (c .before .before .before .before .before .before .if3 .left)));
-      second = measured-no-seed (q .result) (p .result) (t .result) (qp ∙ distance-turned (q .result) (p .result)) (pt ∙ distance-turned (p .result) (t .result)) (tq ∙ distance-turned (t .result) (q .result)) (c .before .before .before .before .before .area-of2 .ensures) (a .s) (a .points .now) (a .radius) (a .j) (a .i) (a .k) (q .ensures) (p .ensures) (t .ensures) (y .ensures (not-false (y .result) (c .before .before .before .if4 .left)));
-      third = measured-no-seed (t .result) (p .result) (q .result) pt qp tq (c .before .before .area-of3 .ensures) (a .s) (a .points .now) (a .radius) (a .k) (a .i) (a .j) (t .ensures) (p .ensures) (q .ensures) (z .ensures (not-false (z .result) (c .if5 .left)));
-    }
+    let z = c .before .are-refused3 in λ _.
+    measured-seedless (p .result) (q .result) (t .result) (c .before .before .before .before .before .before .before .before .before .before .before .before .before .distance .ensures) (c .before .before .before .before .before .before .before .before .before .before .before .before .distance2 .ensures) (c .before .before .before .before .before .before .before .before .before .before .before .distance3 .ensures)
+    (c .before .before .before .before .before .before .before .before .area-of .ensures) (c .before .before .before .before .before .area-of2 .ensures) (c .before .before .area-of3 .ensures)
+    (a .s) (a .points .now) (a .radius) (a .i) (a .j) (a .k) (p .ensures) (q .ensures) (t .ensures)
+    (x .ensures (not-false (x .result) (c .before .before .before .before .before .before .if4 .left))) (y .ensures (not-false (y .result) (c .before .before .before .if5 .left))) (z .ensures (not-false (z .result) (c .if6 .left)))
 
 pub price-of-spec : {M : Type 1} → statement M
-price-of-spec = tie.close (tie.spec point-at-requires point-at-requires-2 point-at-requires-3 is-refused-throughout-requires returns is-long-throughout-requires returns-2 distance-requires distance-requires-2 distance-requires-3 area-of-requires are-refused-requires returns-3 area-of-requires-2 are-refused-requires-2 returns-4 area-of-requires-3 are-refused-requires-3 returns-5 returns-6)
+price-of-spec = tie.close (tie.spec point-at-requires point-at-requires-2 point-at-requires-3 is-refused-throughout-requires returns is-long-throughout-requires returns-2 distance-requires distance-requires-2 distance-requires-3 are-low-requires returns-3 area-of-requires are-refused-requires returns-4 area-of-requires-2 are-refused-requires-2 returns-5 area-of-requires-3 are-refused-requires-3 returns-6 returns-7)
