@@ -31,8 +31,8 @@ use Rattle.points.specs.Points.{pointAt}
 use Rattle.bounds.specs.Within.{Limit}
 use Rattle.nearest.proofs.AnyOrder.{any-order}
 use Rattle.index_search.specs.Indexed.{Indexed, Width}
-use Rattle.index_search.proofs.Counted.{split-count, split-length}
-use Rattle.index_search.proofs.Holding.{Number}
+use Rattle.kd_tree.proofs.Counted.{split-count, split-length}
+use Rattle.kd_tree.proofs.Farthest.{Number}
 use Rattle.index_search.proofs.Parts.{Stands, Good, boxed-to}
 
 -- ---- equal lists

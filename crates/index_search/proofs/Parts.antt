@@ -23,10 +23,11 @@ use Rattle.kd_tree.specs.Boxes.{boxOf, corners, least, greatest}
 use Rattle.kd_tree.specs.Tree.{leafSize, along, boxCountTo}
 use Rattle.nearest.specs.Boxes.{wordAt, boxesBelow, secondAt, Between, Inside, Six, Known, Held, Boxed, leaf, node}
 use Rattle.index_search.specs.Indexed.{Width}
-use Rattle.index_search.proofs.Counted.{along-count, along-length, split-count, split-length}
+use Rattle.kd_tree.proofs.Counted.{along-count, along-length, split-count, split-length}
 use Rattle.index_search.proofs.Widths.{few-boxes, many-boxes, Halves, halves}
 use Rattle.nearest.proofs.Scanning.{in-first, in-second}
-use Rattle.index_search.proofs.Holding.{Number, low-number, high-number, between}
+use Rattle.kd_tree.proofs.Farthest.{Number, low-number, high-number}
+use Rattle.index_search.proofs.Holding.{between}
 
 abbrev bits : List Float → List ℕ
 bits xs = map (toBits binary32) xs

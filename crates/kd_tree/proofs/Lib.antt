@@ -1,4 +1,5 @@
 pub mod Cases
-pub mod Scanning
+pub mod Writing
 pub mod Tree
-pub mod Splitting
+pub mod Counted
+pub mod Farthest

@@ -4,30 +4,55 @@ use mathlib.Core.Bool.{Bool}
 use mathlib.Core.List.{List, _++_, map}
 use Prim.Native.Nat.{ℕ, _+_, _-_, _*_, _/_, _≤_, _<_}
 use native.Mathlib.Omega.{arith}
-use lib.Ieee.{Float, binary32, toBits}
-use lib.ListN.{length, take, drop, replicate, length-append, length-map, length-replicate}
+use lib.Dec.{T, eqb}
+use lib.Ieee.{Float, nan, binary32, fits, toBits}
+use lib.ListN.{length, take, drop, getD, replicate, length-append, length-map, length-replicate}
 use lib.Seq.{length-take-le, take-at}
-use Rattle.lists.specs.Lists.{upFrom}
-use Rattle.axis_sort.specs.Small.{Small}
+use Rattle.lists.specs.Lists.{upFrom, count}
+use Rattle.lists.specs.Members.{Below}
+use Rattle.lists.proofs.Members.{up-below}
+use Rattle.axis_sort.specs.Axis.{precedes}
+use Rattle.axis_sort.specs.Sorted.{sorted}
 use Rattle.kd_tree.specs.Tree.{split, boxesOf, boxCount, indexSize, padded, built, same, belongs}
 use Rattle.kd_tree.specs.Written.{Splits}
+use Rattle.tree_build.specs.Orders.{Ready}
+use Rattle.point_index.specs.Ordering.{Ordering, OrderedAll}
 use Rattle.kd_tree.proofs.Tree.{split-length, boxes-length, index-room, work-room}
 use Rattle.point_index.specs.Put.{Put}
 use Rattle.point_index.specs.Index.{Fits}
-use Rattle.point_index.proofs.Filling.{put-both, put-size, up-length, up-small}
+use Rattle.point_index.proofs.Filling.{put-both, put-size, up-length, up-once}
 
 -- ---- all points in number order, split
-pub split-room : (o : List ℕ) (n lf : ℕ) → 0 < n → n ≤ 4096 → 4 * n + 64 ≤ lf → o ≡ upFrom 0 n → (0 < length o) × (0 + 6 * boxCount (length o) + length o ≤ lf) × Small o
-split-room o n lf some few h e =
-    let l : length o ≡ n = ap length e ∙ up-length 0 n in
-    (omega arith, subst⁻¹ (λ (k : ℕ). 0 + 6 * boxCount k + k ≤ lf) l (omega (arith, work-room n)), subst⁻¹ Small e (up-small 0 n (omega arith)))
+pub start-ready : {points : List Float} {n work floats : ℕ} (o : List ℕ) → Ordering points n work floats → ((k : ℕ) → T (fits binary32 (getD points k nan))) → (x y z : List ℕ) {m lf : ℕ} → o ≡ upFrom 0 n
+    → x ≡ sorted (precedes points 0) (upFrom 0 n) → y ≡ sorted (precedes points 1) (upFrom 0 n) → z ≡ sorted (precedes points 2) (upFrom 0 n) → m ≡ work → lf ≡ floats → Ready points o x y z m lf 0
+start-ready {points} {n} {work} {floats} o a fit x y z {m} {lf} eo ex ey ez em ef =
+    let l : length o ≡ n = ap length eo ∙ up-length 0 n in
+    record {
+      numbers = record { cloud = a .cloud; fit = fit };
+      some = omega (arith, a .cloud .some, a .count);
+      work-enough = omega (arith, a .work-enough);
+      boxes-enough = subst⁻¹ (λ (k : ℕ). 0 + 6 * boxCount k ≤ lf) l (omega (arith, work-room n, a .floats-enough));
+      orders = record {
+        below = subst⁻¹ (Below (length points / 3)) eo (up-below (length points / 3) 0 n (omega (arith, a .count)));
+        once = λ v. subst⁻¹ (λ (k : List ℕ). count (eqb v) k ≤ 1) eo (up-once v 0 n);
+        along-0 = ex ∙ ap (sorted (precedes points 0)) (sym eo);
+        along-1 = ey ∙ ap (sorted (precedes points 1)) (sym eo);
+        along-2 = ez ∙ ap (sorted (precedes points 2)) (sym eo);
+      };
+    }
 
-pub order-is : (points : List Float) (o o' : List ℕ) (f f' : List Float) (n r : ℕ) → o ≡ upFrom 0 n → Splits points o o' f f' 0 r → Splits points (upFrom 0 n) o' f f' 0 r
-order-is points o o' f f' n r e s = subst (λ (z : List ℕ). Splits points z o' f f' 0 r) e s
+pub ordered-all : {points : List Float} {n work floats : ℕ} (o o' : List ℕ) (f f' : List Float) (r : ℕ) → Ordering points n work floats → o ≡ upFrom 0 n → Splits points o o' f f' 0 r → OrderedAll points o' f' r
+ordered-all {points} {n} o o' f f' r a e s =
+    let d : o ≡ upFrom 0 (length points / 3) = e ∙ ap (upFrom 0) (a .count) in
+    record {
+      ordered = s .ordered ∙ ap (split points) d;
+      ends = let z : 0 + length (boxesOf points o) ≡ length (boxesOf points o) = omega arith in s .ends ∙ z ∙ ap (λ (l : List ℕ). length (boxesOf points l)) d;
+      boxed = ap (λ (k : ℕ). take k f') (s .ends) ∙ s .boxed ∙ ap (boxesOf points) d;
+    }
 
 -- ---- building
 module _ (points : List Float) (index o : List ℕ) (f f' : List Float) (end : ℕ) (fits : Fits points (length index) (length f))
-    (s : Splits points (upFrom 0 (length (take (length points / 3) index))) o f f' 0 end) (ko : length o ≡ length (take (length points / 3) index)) (kf : length f' ≡ length f) where
+    (s : OrderedAll points o f' end) (ko : length o ≡ length (take (length points / 3) index)) (kf : length f' ≡ length f) where
   pub front-size : length (take (length points / 3) index) ≡ length points / 3
   front-size = length-take-le (length points / 3) index (omega (arith, fits .index-enough))
 
@@ -35,13 +60,13 @@ module _ (points : List Float) (index o : List ℕ) (f f' : List Float) (end : �
   boxes = boxesOf points (upFrom 0 (length points / 3))
 
   order-all : o ≡ split points (upFrom 0 (length points / 3))
-  order-all = s .ordered ∙ ap (λ (n : ℕ). split points (upFrom 0 n)) front-size
+  order-all = s .ordered
 
   boxes-size : length boxes ≡ 6 * boxCount (length points / 3)
   boxes-size = boxes-length points (upFrom 0 (length points / 3)) ∙ ap (λ (n : ℕ). 6 * boxCount n) (up-length 0 (length points / 3))
 
   pub end-is : end ≡ 6 * boxCount (length points / 3)
-  end-is = s .ends ∙ ap (λ (n : ℕ). 0 + length (boxesOf points (upFrom 0 n))) front-size ∙ omega (arith, boxes-size)
+  end-is = s .ends ∙ boxes-size
 
   pub end-fits : end ≤ length f'
   end-fits = omega (arith, end-is, work-room (length points / 3), fits .floats-enough, kf)
@@ -50,9 +75,7 @@ module _ (points : List Float) (index o : List ℕ) (f f' : List Float) (end : �
   index-fits = omega (arith, end-is, index-room (length points / 3))
 
   boxes-are : take end f' ≡ boxes
-  boxes-are =
-      let e : end ≡ 0 + length (boxesOf points (upFrom 0 (length (take (length points / 3) index)))) = s .ends in
-      ap (λ (n : ℕ). take n f') e ∙ s .boxed ∙ ap (λ (n : ℕ). boxesOf points (upFrom 0 n)) front-size
+  boxes-are = s .boxed
 
   pub boxes-count : length (take end f') ≡ end
   boxes-count = length-take-le end f' end-fits

@@ -4,12 +4,12 @@ use mathlib.Core.Bool.{Bool, true, false, _&&_}
 use mathlib.Core.List.{List, [], _∷_, _++_, append-assoc, append-nil, map}
 use Prim.Native.Nat.{ℕ, zero, suc, _+_, _-_, _≤_, _<_}
 use native.Mathlib.Omega.{arith}
-use borrow.Author.Tests.{eq-eqb, ne-eqb}
+use borrow.Author.Tests.{eq-eqb, ne-eqb, eqb-true}
 use lib.Dec.{eqb}
 use lib.Ieee.{Float, nan, binary32, toBits}
 use lib.ListN.{length, take, drop, set, getD, replicate, length-append, length-drop, length-map, length-replicate, replicate-append-replicate, take-append-drop, drop-of-length-le}
 use lib.Seq.{length-take-le, take-all, take-at, drop-at, set-split, drop-drop, take-suc, drop-cons, getD-take}
-use Rattle.lists.specs.Lists.{upFrom}
+use Rattle.lists.specs.Lists.{upFrom, bit, count}
 use Rattle.axis_sort.specs.Small.{Small}
 use Rattle.axis_sort.proofs.Floats.{map-append}
 use Rattle.kd_tree.specs.Tree.{same}
@@ -68,6 +68,21 @@ pub up-small : (i m : ℕ) → i + m ≤ 4096 → Small (upFrom i m)
 unfolding upFrom
 up-small i zero h = tt
 up-small i (suc m) h = (omega arith, up-small (i + 1) m (omega arith))
+
+up-above : (v i m : ℕ) → v < i → count (eqb v) (upFrom i m) ≡ 0
+unfolding upFrom
+up-above v i zero h = refl
+up-above v i (suc m) h = let e : eqb v i ≡ false = ne-eqb v i (λ q. omega arith) in rw e (omega (arith, up-above v (i + 1) m (omega arith)))
+
+-- each of them once
+pub up-once : (v i m : ℕ) → count (eqb v) (upFrom i m) ≤ 1
+unfolding upFrom
+up-once v i zero = omega arith
+up-once v i (suc m) = go (eqb v i) refl (up-once v (i + 1) m)
+  where
+    go : (b : Bool) → eqb v i ≡ b → count (eqb v) (upFrom (i + 1) m) ≤ 1 → bit (eqb v i) + count (eqb v) (upFrom (i + 1) m) ≤ 1
+    go true e h = let s : v ≡ i = eqb-true v i e in let z = up-above v (i + 1) m (omega arith) in rw e (omega arith)
+    go false e h = rw e (omega arith)
 
 pub record Numbered (o₀ o : List ℕ) (i : ℕ) : Type 0 where
   pub most : i ≤ length o₀

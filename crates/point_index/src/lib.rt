@@ -8,8 +8,10 @@ ghost use mathlib.Core.List.{_++_};
 ghost use Prim.Native.Nat.{_+_, _*_, _/_, _≤_, _<_};
 ghost use lib.ListN.{length, drop};
 ghost use Rattle.lists.specs.Lists.{upFrom};
+ghost use Rattle.axis_sort.specs.Axis.{precedes};
+ghost use Rattle.axis_sort.specs.Sorted.{sorted};
 ghost use Rattle.kd_tree.specs.Tree.{indexSize, built, belongs};
-ghost use Rattle.kd_tree.specs.Written.{Splits};
+ghost use Rattle.point_index.specs.Ordering.{Ordering, OrderedAll};
 ghost use Rattle.point_index.specs.Index.{indexRefusal, Fits, Builds, Tells};
 
 // The answer's number and its detail.
@@ -52,16 +54,76 @@ pub fn refusal_of_index(points: &[f32], index: usize, words: usize, floats: usiz
     }
 }
 
-// The numbers of all points as the splits leave them, and the boxes at the front of the floats; answers where these
-// end.
-fn order_points(points: &[f32], order: &mut [u32], floats: &mut [f32]) -> usize
-    requires { ⌜ (0 < length (now order)) × (length (now order) ≤ 4096)
-        × (4 * length (now order) + 64 ≤ length (now floats)) ⌝ }
-    ensures { λ r. ⌜ Splits (now (points .entry)) (upFrom 0 (length (now (order .entry)))) (now (order .exit))
-        (now (floats .entry)) (now (floats .exit)) 0 r ⌝ }
+// All numbers in order along an axis.
+fn order_along(points: &[f32], axis: usize, list: &mut [u32], floats: &mut [f32])
+    requires { ⌜ (axis < 3) × (length (now list) ≤ 4096) × (length (now list) ≤ length (now floats)) ⌝ }
+    ensures { λ _. ⌜ now (list .exit)
+        ≡ sorted (precedes (now (points .entry)) axis) (upFrom 0 (length (now (list .entry)))) ⌝ }
 {
+    fill::number_order(list);
+    axis_sort::sort(points, axis, list, floats);
+}
+
+// The numbers of all points as the splits leave them, and the boxes at the front of the floats; answers where these
+// end. The slices x, y and z are for the three orders.
+fn order_all(
+    points: &[f32],
+    order: &mut [u32],
+    x: &mut [u32],
+    y: &mut [u32],
+    z: &mut [u32],
+    work: &mut [u32],
+    floats: &mut [f32],
+) -> usize
+    requires { ⌜ Ordering (now points) (length (now order)) (length (now work)) (length (now floats))
+        × (length (now x) ≡ length (now order)) × (length (now y) ≡ length (now order))
+        × (length (now z) ≡ length (now order)) ⌝ }
+    ensures { λ r. ⌜ OrderedAll (now (points .entry)) (now (order .exit)) (now (floats .exit)) r ⌝ }
+{
+    order_along(points, 0, x, floats);
+    order_along(points, 1, y, floats);
+    order_along(points, 2, z, floats);
     fill::number_order(order);
-    kd_tree::split(points, order, floats, 0)
+    tree_build::split(points, order, x, y, z, work, floats, 0)
+}
+
+// The same with slices that may be longer.
+fn order_in(
+    points: &[f32],
+    order: &mut [u32],
+    x: &mut [u32],
+    y: &mut [u32],
+    z: &mut [u32],
+    work: &mut [u32],
+    floats: &mut [f32],
+) -> usize
+    requires { ⌜ Ordering (now points) (length (now order)) (length (now work)) (length (now floats))
+        × (length (now order) ≤ length (now x)) × (length (now order) ≤ length (now y))
+        × (length (now order) ≤ length (now z)) ⌝ }
+    ensures { λ r. ⌜ OrderedAll (now (points .entry)) (now (order .exit)) (now (floats .exit)) r ⌝ }
+{
+    let n = order.len();
+    order_all(
+        points,
+        order,
+        &mut x[..n],
+        &mut y[..n],
+        &mut z[..n],
+        work,
+        floats,
+    )
+}
+
+// The same with slices of its own for the orders, as two parts of one slice can't be lent at a time.
+fn order_points(points: &[f32], order: &mut [u32], floats: &mut [f32]) -> usize
+    requires { ⌜ Ordering (now points) (length (now order)) (length (now order)) (length (now floats)) ⌝ }
+    ensures { λ r. ⌜ OrderedAll (now (points .entry)) (now (order .exit)) (now (floats .exit)) r ⌝ }
+{
+    let mut x = [0u32; 4096];
+    let mut y = [0u32; 4096];
+    let mut z = [0u32; 4096];
+    let mut work = [0u32; 4096];
+    order_in(points, order, &mut x, &mut y, &mut z, &mut work, floats)
 }
 
 // The index of an accepted cloud.

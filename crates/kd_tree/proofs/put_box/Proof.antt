@@ -1,4 +1,4 @@
-use Rattle.kd_tree.proofs.Scanning.{room-1, room-2, room-3, room-4, room-5, box-written}
+use Rattle.kd_tree.proofs.Writing.{room-1, room-2, room-3, room-4, room-5, box-written}
 use borrow.Author.Needs.{needs}
 use Rattle.kd_tree.proofs.put_box.Statement.{statement}
 use Rattle.kd_tree.proofs.put_box.Tie as tie

@@ -1,14 +1,22 @@
-use Rattle.point_index.proofs.Building.{split-room, order-is}
-use lib.ListN.{length}
+use native.Mathlib.Omega.{arith}
 use borrow.Author.Needs.{needs}
 use Rattle.point_index.proofs.order_points.Statement.{statement}
 use Rattle.point_index.proofs.order_points.Tie as tie
 
-number-order-requires : tie.Need-number-order-requires
-number-order-requires c κs = search needs
+slice-aggregate-order-in : tie.Need-slice-aggregate-order-in
+slice-aggregate-order-in c = search needs
 
-split-requires : tie.Need-split-requires
-split-requires c κs = split-room (c .before .before .before .before .number-order .last .0) (length (c .before .before .before .before .before .before .before .before .before .args .order .now)) _ (c .before .before .before .before .before .before .before .before .before .pre .0) (c .before .before .before .before .before .before .before .before .before .pre .1) (c .before .before .before .before .before .before .before .before .before .pre .2) (c .before .before .before .before .number-order .ensures)
+slice-aggregate-order-in-2 : tie.Need-slice-aggregate-order-in-2
+slice-aggregate-order-in-2 c = search needs
+
+slice-aggregate-order-in-3 : tie.Need-slice-aggregate-order-in-3
+slice-aggregate-order-in-3 c = search needs
+
+slice-aggregate-order-in-4 : tie.Need-slice-aggregate-order-in-4
+slice-aggregate-order-in-4 c = search needs
+
+order-in-requires : tie.Need-order-in-requires
+order-in-requires c κs = let h = c .before .before .before .before .before .before .before .before .before .pre in (record { cloud = h .cloud; count = h .count; work-enough = omega (arith, h .count, h .cloud .few); floats-enough = h .floats-enough }, omega (arith, h .count, h .cloud .few), omega (arith, h .count, h .cloud .few), omega (arith, h .count, h .cloud .few))
 
 same-length : tie.Need-same-length
 same-length c = search needs
@@ -17,8 +25,17 @@ same-length-2 : tie.Need-same-length-2
 same-length-2 c = search needs
 
 returns : tie.Need-returns
-returns c = order-is _ (c .before .before .before .before .before .before .before .before .before .number-order .last .0) (c .before .before .before .before .split .last .1 .0) (c .before .before .before .before .before .before .before .before .before .before .before .before .before .before .args .floats .now) (c .before .before .before .before .split .last .1 .1 .0) (length (c .before .before .before .before .before .before .before .before .before .before .before .before .before .before .args .order .now)) _ (c .before .before .before .before .before .before .before .before .before .number-order .ensures) (c .before .before .before .before .split .ensures)
+returns c = search needs
 
 pub order-points-spec : {M : Type 1} → statement M
 order-points-spec =
-    tie.close (tie.spec number-order-requires split-requires same-length same-length-2 returns)
+    tie.close
+    (tie.spec
+    slice-aggregate-order-in
+    slice-aggregate-order-in-2
+    slice-aggregate-order-in-3
+    slice-aggregate-order-in-4
+    order-in-requires
+    same-length
+    same-length-2
+    returns)

@@ -1,0 +1,4 @@
+pub mod Sifting
+pub mod Ends
+pub mod Halves
+pub mod Splitting
