@@ -16,6 +16,8 @@ use Rattle.axis_sort.specs.Sorted.{sorted}
 use Rattle.kd_tree.specs.Tree.{split, boxesOf, boxCount, indexSize, padded, built, same, belongs}
 use Rattle.kd_tree.specs.Written.{Splits}
 use Rattle.tree_build.specs.Orders.{Ready}
+use Rattle.axis_guess.specs.Rising.{Rises}
+use Rattle.axis_guess.proofs.Rising.{rising-sorted}
 use Rattle.point_index.specs.Ordering.{Ordering, OrderedAll}
 use Rattle.kd_tree.proofs.Tree.{split-length, boxes-length, index-room, work-room}
 use Rattle.point_index.specs.Put.{Put}
@@ -23,9 +25,9 @@ use Rattle.point_index.specs.Index.{Fits}
 use Rattle.point_index.proofs.Filling.{put-both, put-size, up-length, up-once}
 
 -- ---- all points in number order, split
-pub start-ready : {points : List Float} {n work floats : ℕ} (o : List ℕ) → Ordering points n work floats → ((k : ℕ) → T (fits binary32 (getD points k nan))) → (x y z : List ℕ) {m lf : ℕ} → o ≡ upFrom 0 n
+pub start-ready : {points : List Float} {n work counts floats : ℕ} (o : List ℕ) → Ordering points n work counts floats → ((k : ℕ) → T (fits binary32 (getD points k nan))) → (x y z : List ℕ) {m lf : ℕ} → o ≡ upFrom 0 n
     → x ≡ sorted (precedes points 0) (upFrom 0 n) → y ≡ sorted (precedes points 1) (upFrom 0 n) → z ≡ sorted (precedes points 2) (upFrom 0 n) → m ≡ work → lf ≡ floats → Ready points o x y z m lf 0
-start-ready {points} {n} {work} {floats} o a fit x y z {m} {lf} eo ex ey ez em ef =
+start-ready {points} {n} {work} {floats = floats} o a fit x y z {m} {lf} eo ex ey ez em ef =
     let l : length o ≡ n = ap length eo ∙ up-length 0 n in
     record {
       numbers = record { cloud = a .cloud; fit = fit };
@@ -41,7 +43,17 @@ start-ready {points} {n} {work} {floats} o a fit x y z {m} {lf} eo ex ey ez em e
       };
     }
 
-pub ordered-all : {points : List Float} {n work floats : ℕ} (o o' : List ℕ) (f f' : List Float) (r : ℕ) → Ordering points n work floats → o ≡ upFrom 0 n → Splits points o o' f f' 0 r → OrderedAll points o' f' r
+-- slices of the same lengths serve as well
+pub as-long : {points : List Float} {n work counts floats m work' counts' floats' : ℕ} → Ordering points n work counts floats → m ≡ n → work' ≡ work → counts' ≡ counts → floats' ≡ floats → Ordering points m work' counts' floats'
+as-long a en ew ec ef = record { cloud = a .cloud; count = en ∙ a .count; work-enough = omega (arith, a .work-enough); counts-enough = omega (arith, a .counts-enough); floats-enough = omega (arith, a .floats-enough) }
+
+-- a guess that rises is the order
+pub guessed : {points : List Float} {n work counts floats : ℕ} → Ordering points n work counts floats → ((k : ℕ) → T (fits binary32 (getD points k nan))) → (axis : ℕ) → axis < 3 → (xs : List ℕ) → length xs ≡ n
+    → Rises points axis xs → xs ≡ sorted (precedes points axis) (upFrom 0 n)
+guessed {points} {n} a fit axis h xs l r =
+    rising-sorted (record { cloud = a .cloud; fit = fit }) axis h xs (upFrom 0 n) r (l ∙ a .count) (up-length 0 n ∙ a .count) (up-below (length points / 3) 0 n (omega (arith, a .count))) (λ v. up-once v 0 n)
+
+pub ordered-all : {points : List Float} {n work counts floats : ℕ} (o o' : List ℕ) (f f' : List Float) (r : ℕ) → Ordering points n work counts floats → o ≡ upFrom 0 n → Splits points o o' f f' 0 r → OrderedAll points o' f' r
 ordered-all {points} {n} o o' f f' r a e s =
     let d : o ≡ upFrom 0 (length points / 3) = e ∙ ap (upFrom 0) (a .count) in
     record {

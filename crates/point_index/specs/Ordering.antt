@@ -8,11 +8,12 @@ use Rattle.lists.specs.Lists.{upFrom}
 use Rattle.domain.specs.Accepted.{Cloud}
 use Rattle.kd_tree.specs.Tree.{split, boxesOf}
 
--- an accepted cloud of n points, with work for so many
-pub record Ordering (points : List Float) (n work floats : ℕ) : Type 0 where
+-- an accepted cloud of n points, with slices that are long enough
+pub record Ordering (points : List Float) (n work counts floats : ℕ) : Type 0 where
   pub cloud : Cloud (length points / 3) points
   pub count : n ≡ length points / 3
   pub work-enough : n ≤ work
+  pub counts-enough : 2048 ≤ counts
   pub floats-enough : 4 * n + 64 ≤ floats
 
 -- the order and the boxes, which end at r

@@ -54,18 +54,31 @@ pub fn refusal_of_index(points: &[f32], index: usize, words: usize, floats: usiz
     }
 }
 
-// All numbers in order along an axis.
-fn order_along(points: &[f32], axis: usize, list: &mut [u32], floats: &mut [f32])
-    requires { ⌜ (axis < 3) × (length (now list) ≤ 4096) × (length (now list) ≤ length (now floats)) ⌝ }
+// All numbers in order along an axis: guessed, tested, and sorted where the guess fails.
+fn order_along(
+    points: &[f32],
+    axis: usize,
+    list: &mut [u32],
+    work: &mut [u32],
+    keys: &mut [u32],
+    counts: &mut [u32],
+    floats: &mut [f32],
+)
+    requires { ⌜ (axis < 3) × Ordering (now points) (length (now list)) (length (now work)) (length (now counts))
+        (length (now floats)) × (length (now list) ≤ length (now keys)) ⌝ }
     ensures { λ _. ⌜ now (list .exit)
         ≡ sorted (precedes (now (points .entry)) axis) (upFrom 0 (length (now (list .entry)))) ⌝ }
 {
+    axis_guess::guess(points, axis, list, work, keys, counts);
+    if axis_guess::rises(points, axis, list) {
+        return;
+    }
     fill::number_order(list);
     axis_sort::sort(points, axis, list, floats);
 }
 
 // The numbers of all points as the splits leave them, and the boxes at the front of the floats; answers where these
-// end. The slices x, y and z are for the three orders.
+// end. The slices x, y and z are for the three orders; until these are there `order` has the guesses' keys.
 fn order_all(
     points: &[f32],
     order: &mut [u32],
@@ -73,16 +86,18 @@ fn order_all(
     y: &mut [u32],
     z: &mut [u32],
     work: &mut [u32],
+    counts: &mut [u32],
     floats: &mut [f32],
 ) -> usize
-    requires { ⌜ Ordering (now points) (length (now order)) (length (now work)) (length (now floats))
+    requires { ⌜ Ordering (now points) (length (now order)) (length (now work)) (length (now counts))
+        (length (now floats))
         × (length (now x) ≡ length (now order)) × (length (now y) ≡ length (now order))
         × (length (now z) ≡ length (now order)) ⌝ }
     ensures { λ r. ⌜ OrderedAll (now (points .entry)) (now (order .exit)) (now (floats .exit)) r ⌝ }
 {
-    order_along(points, 0, x, floats);
-    order_along(points, 1, y, floats);
-    order_along(points, 2, z, floats);
+    order_along(points, 0, x, work, order, counts, floats);
+    order_along(points, 1, y, work, order, counts, floats);
+    order_along(points, 2, z, work, order, counts, floats);
     fill::number_order(order);
     tree_build::split(points, order, x, y, z, work, floats, 0)
 }
@@ -95,9 +110,11 @@ fn order_in(
     y: &mut [u32],
     z: &mut [u32],
     work: &mut [u32],
+    counts: &mut [u32],
     floats: &mut [f32],
 ) -> usize
-    requires { ⌜ Ordering (now points) (length (now order)) (length (now work)) (length (now floats))
+    requires { ⌜ Ordering (now points) (length (now order)) (length (now work)) (length (now counts))
+        (length (now floats))
         × (length (now order) ≤ length (now x)) × (length (now order) ≤ length (now y))
         × (length (now order) ≤ length (now z)) ⌝ }
     ensures { λ r. ⌜ OrderedAll (now (points .entry)) (now (order .exit)) (now (floats .exit)) r ⌝ }
@@ -110,20 +127,31 @@ fn order_in(
         &mut y[..n],
         &mut z[..n],
         work,
+        counts,
         floats,
     )
 }
 
 // The same with slices of its own for the orders, as two parts of one slice can't be lent at a time.
 fn order_points(points: &[f32], order: &mut [u32], floats: &mut [f32]) -> usize
-    requires { ⌜ Ordering (now points) (length (now order)) (length (now order)) (length (now floats)) ⌝ }
+    requires { ⌜ Ordering (now points) (length (now order)) (length (now order)) 2048 (length (now floats)) ⌝ }
     ensures { λ r. ⌜ OrderedAll (now (points .entry)) (now (order .exit)) (now (floats .exit)) r ⌝ }
 {
     let mut x = [0u32; 4096];
     let mut y = [0u32; 4096];
     let mut z = [0u32; 4096];
     let mut work = [0u32; 4096];
-    order_in(points, order, &mut x, &mut y, &mut z, &mut work, floats)
+    let mut counts = [0u32; 2048];
+    order_in(
+        points,
+        order,
+        &mut x,
+        &mut y,
+        &mut z,
+        &mut work,
+        &mut counts,
+        floats,
+    )
 }
 
 // The index of an accepted cloud.

@@ -74,7 +74,7 @@ module _ (before : ℕ → ℕ → Bool) where
 count-parts : (m v : ℕ) (xs : List ℕ) → count (eqb v) xs ≡ count (eqb v) (take m xs) + count (eqb v) (drop m xs)
 count-parts m v xs = ap (count (eqb v)) (sym (take-append-drop m xs)) ∙ count-append (eqb v) (take m xs) (drop m xs)
 
-absent : (v : ℕ) (xs : List ℕ) → (In v xs → ⊥) → count (eqb v) xs ≡ 0
+pub absent : (v : ℕ) (xs : List ℕ) → (In v xs → ⊥) → count (eqb v) xs ≡ 0
 absent v xs not-in = dite (decLt 0 (count (eqb v) xs)) (λ h. absurd (not-in h)) (λ h. omega arith)
 
 -- ---- the code's test is the order's
@@ -89,7 +89,7 @@ module _ {points : List Float} (numbers : Numbers points) (axis : ℕ) (axis-is 
   abbrev key : ℕ → Float
   key v = coordinateOf points axis v
 
-  test-is : (p v : ℕ) → p < length points / 3 → v < length points / 3 → isBefore points axis (key p) p v ≡ not (precedes points axis p v)
+  pub test-is : (p v : ℕ) → p < length points / 3 → v < length points / 3 → isBefore points axis (key p) p v ≡ not (precedes points axis p v)
   unfolding isBefore precedes coordinateOf le
   test-is p v hp hv = go (eq (key v) (key p)) (lt (key v) (key p)) (lt (key p) (key v)) refl refl refl
     where
@@ -111,7 +111,7 @@ module _ {points : List Float} (numbers : Numbers points) (axis : ℕ) (axis-is 
           absurd (subst T m (not-le-lt (key v) (key p) (numbered (numbers .cloud) axis axis-is v hv) (numbered (numbers .cloud) axis axis-is p hp) (not-T _ n)))
 
 -- the only list in order along an axis that has the numbers of another
-is-sorted : {points : List Float} (numbers : Numbers points) (axis : ℕ) → axis < 3 → (k g : List ℕ) → Below (length points / 3) g → Ordered (precedes points axis) k
+pub is-sorted : {points : List Float} (numbers : Numbers points) (axis : ℕ) → axis < 3 → (k g : List ℕ) → Below (length points / 3) g → Ordered (precedes points axis) k
     → ((v : ℕ) → count (eqb v) k ≡ count (eqb v) g) → k ≡ sorted (precedes points axis) g
 is-sorted {points} numbers axis h k g b o c =
     let kept : (v : ℕ) → count (eqb v) (sorted (precedes points axis) g) ≡ count (eqb v) g = λ v. sorted-count (eqb v) (precedes points axis) g in

@@ -1,3 +1,4 @@
+use lib.Dec.{lit≤}
 use native.Mathlib.Omega.{arith}
 use Rattle.point_index.proofs.Building.{end-fits, index-fits, boxes-count, ordered-size, built-end}
 use lib.Seq.{length-take-le}
@@ -15,7 +16,7 @@ slice-aggregate-order-points : tie.Need-slice-aggregate-order-points
 slice-aggregate-order-points c = sym (length-take-le (length (c .before .before .before .before .args .points .now) / 3) (c .before .before .before .before .args .index .now) (omega (arith, c .before .before .before .before .pre .index-enough)))
 
 order-points-requires : tie.Need-order-points-requires
-order-points-requires c κs = let n = length (c .before .before .before .before .before .args .points .now) / 3 in let l : length (take n (c .before .before .before .before .before .args .index .now)) ≡ n = length-take-le n (c .before .before .before .before .before .args .index .now) (omega (arith, c .before .before .before .before .before .pre .index-enough)) in record { cloud = c .before .before .before .before .before .pre .cloud; count = l; work-enough = omega arith; floats-enough = omega (arith, c .before .before .before .before .before .pre .floats-enough) }
+order-points-requires c κs = let n = length (c .before .before .before .before .before .args .points .now) / 3 in let l : length (take n (c .before .before .before .before .before .args .index .now)) ≡ n = length-take-le n (c .before .before .before .before .before .args .index .now) (omega (arith, c .before .before .before .before .before .pre .index-enough)) in record { cloud = c .before .before .before .before .before .pre .cloud; count = l; work-enough = omega arith; counts-enough = lit≤ tt; floats-enough = omega (arith, c .before .before .before .before .before .pre .floats-enough) }
 
 slice-reshare-prefix-put-bits : tie.Need-slice-reshare-prefix-put-bits
 slice-reshare-prefix-put-bits c = end-fits (c .before .before .before .before .before .before .before .before .before .before .args .points .now) (c .before .before .before .before .before .before .before .before .before .before .args .index .now) (c .before .before .before .before .order-points .last .1 .0) (c .before .before .before .before .before .before .before .before .before .before .args .floats .now) (c .before .before .before .before .order-points .last .1 .1 .0) (c .before .before .before .before .order-points .result) (c .before .before .before .before .before .before .before .before .before .before .pre) (c .before .before .before .before .order-points .ensures) (c .before .before .before .before .order-points .kept .1 .0) (c .before .before .before .before .order-points .kept .1 .1 .0)

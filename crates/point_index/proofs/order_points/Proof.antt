@@ -1,3 +1,4 @@
+use lib.Dec.{lit≤}
 use native.Mathlib.Omega.{arith}
 use borrow.Author.Needs.{needs}
 use Rattle.point_index.proofs.order_points.Statement.{statement}
@@ -15,8 +16,11 @@ slice-aggregate-order-in-3 c = search needs
 slice-aggregate-order-in-4 : tie.Need-slice-aggregate-order-in-4
 slice-aggregate-order-in-4 c = search needs
 
+slice-aggregate-order-in-5 : tie.Need-slice-aggregate-order-in-5
+slice-aggregate-order-in-5 c = search needs
+
 order-in-requires : tie.Need-order-in-requires
-order-in-requires c κs = let h = c .before .before .before .before .before .before .before .before .before .pre in (record { cloud = h .cloud; count = h .count; work-enough = omega (arith, h .count, h .cloud .few); floats-enough = h .floats-enough }, omega (arith, h .count, h .cloud .few), omega (arith, h .count, h .cloud .few), omega (arith, h .count, h .cloud .few))
+order-in-requires c κs = let h = c .before .before .before .before .before .before .before .before .before .before .pre in (record { cloud = h .cloud; count = h .count; work-enough = omega (arith, h .count, h .cloud .few); counts-enough = lit≤ tt; floats-enough = h .floats-enough }, omega (arith, h .count, h .cloud .few), omega (arith, h .count, h .cloud .few), omega (arith, h .count, h .cloud .few))
 
 same-length : tie.Need-same-length
 same-length c = search needs
@@ -35,6 +39,7 @@ order-points-spec =
     slice-aggregate-order-in-2
     slice-aggregate-order-in-3
     slice-aggregate-order-in-4
+    slice-aggregate-order-in-5
     order-in-requires
     same-length
     same-length-2

@@ -1,0 +1,2 @@
+-- What the test tells.
+pub mod Rising
