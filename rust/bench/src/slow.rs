@@ -7,7 +7,7 @@ use generate::Random;
 use std::time::Instant;
 
 /// A family, its points, and how many times faster than the Rust the port is to be.
-const ROWS: [(&str, usize, f64); 12] = [
+const ROWS: [(&str, usize, f64); 14] = [
     ("zero", 4_096, 5.0),
     ("late", 4_096, 1.0),
     ("second", 150, 3.0),
@@ -20,6 +20,8 @@ const ROWS: [(&str, usize, f64); 12] = [
     ("corners", 150, 2.0),
     ("edge", 150, 1.0),
     ("pivots", 1_024, 0.9),
+    ("needles", 100, 3.0),
+    ("sparse", 4_096, 0.5),
 ];
 
 fn times(cloud: &Slow) -> (u32, Times) {

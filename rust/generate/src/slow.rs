@@ -13,7 +13,7 @@ pub struct Slow {
 }
 
 /// What each family is slow by is said at its name.
-pub const FAMILIES: [&str; 12] = [
+pub const FAMILIES: [&str; 14] = [
     "zero",     // a radius of 0: twelve points at each place of a lattice
     "late",     // a seed that comes first in number, all other points nearly in a line
     "arc",      // slivers along a shallow arc, a high threshold
@@ -26,6 +26,8 @@ pub const FAMILIES: [&str; 12] = [
     "pivots",   // the slivers again, all of which a ball meets
     "edge",     // slivers, edges too long
     "second",   // as `late`, but the seed needs a later point
+    "needles",  // the two clusters so near that only the score of their needles refuses them
+    "sparse",   // a triangle after points that have no neighbour
 ];
 
 /// The corners of an equilateral triangle.
@@ -44,6 +46,12 @@ fn place(name: &str, random: &mut Random, i: usize, n: usize) -> [f64; 3] {
             let [x, y, z] = small(1e-4);
             [x + (i % 2) as f64 * 0.0999, y, z]
         }
+        "needles" => {
+            let [x, y, z] = small(1e-4);
+            [x + (i % 2) as f64 * 0.0199, y, z]
+        }
+        "sparse" if i + 3 < n => [100.0 * (i % 64) as f64, 100.0 * (i / 64) as f64, 0.0],
+        "sparse" => [9_000.0 + c, 9_000.0 + s, 0.0],
         "score" | "area" => small(1.0),
         "dust" => {
             let [x, y, z] = small(1e-6);
@@ -87,7 +95,11 @@ pub fn family(name: &'static str, random: &mut Random, n: usize) -> Slow {
             settings.quality_threshold = 0.36;
             settings.set_additional(&rising(10.0));
         }
-        "two" => settings = Settings::at_radius(0.1),
+        "two" | "needles" => settings = Settings::at_radius(0.1),
+        "sparse" => {
+            settings = Settings::at_radius(1.0);
+            settings.set_additional(&[]);
+        }
         "score" => settings.quality_threshold = 1.00001,
         "area" => settings.min_triangle_area = 0.87,
         "dust" => {
