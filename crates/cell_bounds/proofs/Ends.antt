@@ -1,25 +1,24 @@
 -- The ends: cells grow with the coordinates, so that beyond an end whose own cell is out of range none is in range.
 -- Assumes nothing.
 use mathlib.Core.Path.{_≡_, sym, subst}
-use mathlib.Core.Logic.{_⊎_, inl, inr}
+use mathlib.Core.Logic.{inl, inr}
 use mathlib.Core.Bool.{Bool, true, _&&_}
 use Prim.Native.Nat.{ℕ, _+_, _≤_, _<_}
 use native.Mathlib.Omega.{arith}
 use borrow.Author.Tests.{leb-true}
 use lib.Dec.{T, leb}
-use lib.Ieee.{Float, binary32, neg, div, lt, le, ofBits}
+use lib.Ieee.{Float, neg, div, lt, le, ofBits}
 use lib.Ieee.Bits.{is-true}
 use lib.Ieee.Scale.{finite}
 use lib.Ieee.Positive.{positive}
 use Rattle.numbers.specs.Rounded.{f32, _⊖_, _⊘_}
-use Rattle.numbers.specs.Cut.{cut}
 use Rattle.numbers.proofs.OrderLaws.{lt-le, le-or-lt, bottom-le, le-top, finite-number}
 use Rattle.numbers.proofs.SumOrder.{sub-monotone}
 use Rattle.numbers.proofs.QuotientOrder.{div-monotone}
 use Rattle.numbers.proofs.CutOrder.{cut-monotone}
 use Rattle.numbers.proofs.Bounded.{bounded-finite}
 use Rattle.lists.proofs.Bools.{and-both}
-use Rattle.bounds.proofs.Above.{positive-is}
+use Rattle.numbers.proofs.Above.{positive-is}
 use Rattle.bounds.proofs.Beyond.{high, low}
 use Rattle.bounds.specs.declared.Interval.{Interval}
 use Rattle.bounds.specs.Within as bounds-within

@@ -1,11 +1,11 @@
 -- How far from a place the coordinates between two ends are, and the points within bounds. Assumes nothing.
 use mathlib.Core.Path.{_≡_, sym, subst}
-use mathlib.Core.Logic.{_⊎_, inl, inr}
-use mathlib.Core.Bool.{Bool, true, not, _&&_}
+use mathlib.Core.Logic.{inl, inr}
+use mathlib.Core.Bool.{true, not, _&&_}
 use lib.Dec.{T}
-use lib.Ieee.{Float, binary32, div, le, isNan, ofBits}
+use lib.Ieee.{Float, div, le, isNan, ofBits}
 use lib.Ieee.Scale.{finite}
-use Rattle.numbers.specs.Rounded.{f32, _⊕_, _⊖_, _⊗_}
+use Rattle.numbers.specs.Rounded.{_⊕_, _⊖_}
 use Rattle.numbers.specs.Order.{maximum}
 use Rattle.numbers.specs.Bounds.{unsigned}
 use Rattle.numbers.proofs.OrderLaws.{le-trans, le-or-lt, lt-le, le-top, finite-number, unsigned-number}

@@ -3,18 +3,18 @@ use Prim.Native.Nat.{ℕ, _*_, _^_, _≤_, _<_}
 use native.Mathlib.Omega.{arith}
 use native.Mathlib.Bridge.{IsLe, le-by-compare}
 use mathlib.Core.Path.{_≡_, refl, sym, subst}
-use mathlib.Core.Bool.{Bool, true, false, not, cond, _&&_}
+use mathlib.Core.Bool.{Bool, true, false, not, cond}
 use lib.Dec.{T, not-T}
 use lib.Pow.{pow-lt}
-use lib.Ieee.{Float, binary32, nan, inf, fin, lt, le, fits, isNan, ofBits}
+use lib.Ieee.{Float, binary32, lt, le, fits, isNan, ofBits}
 use lib.Ieee.Bits.{is-true}
 use lib.Ieee.Fits.{and-l, and-r, mul-fits}
 use lib.Ieee.Scale.{finite}
-use lib.Ieee.Positive.{positive, positive-finite}
+use lib.Ieee.Positive.{positive-finite}
 use Rattle.numbers.specs.Rounded.{f32, _⊗_, _⊘_}
 use Rattle.numbers.specs.Root.{root}
-use Rattle.numbers.specs.Bounds.{unsigned}
 use Rattle.numbers.specs.Order.{minimum, maximum}
+use Rattle.numbers.proofs.Above.{positive-signless}
 use Rattle.numbers.proofs.OrderLaws.{finite-number, unsigned-le, le-trans, lt-le-trans, not-le-lt}
 use Rattle.numbers.proofs.Minimum.{minimum-either, minimum-first, minimum-le}
 use Rattle.numbers.proofs.Maximum.{maximum-left, maximum-right}
@@ -70,12 +70,6 @@ length-of x f h = let r = root-units 128 163 f (short-units x f h .1) tt in (r .
 
 positive-units : {x : Float} {n i j : ℕ} → Units x n i j → T (finite x)
 positive-units {x} u = positive-finite x (units-positive u)
-
-sign-of : (x : Float) → T (positive x) → T (unsigned x)
-sign-of nan p = absurd p
-sign-of (inf s) p = absurd p
-sign-of (fin true m e) p = absurd p
-sign-of (fin false m e) p = tt
 
 tiny-units : Units tiny (14411519 * 2 ^ 92) 115 116
 unfolding ofBits IsLe
@@ -140,7 +134,7 @@ module _ (x y z : Float) (ux : Length x) (uy : Length y) (uz : Length z) where
       rw (above-tiny m least-units)
       (mul-monotone-finite (l ⊘ s) (k ⊘ m) g (positive-units (one .is)) (positive-units (two .is)) fg
       (le-trans (l ⊘ s) (k ⊘ s) (k ⊘ m) (div-monotone l k s (units-positive (us .1)) (largest-above l ol))
-      (div-antitone k m s (positive-units uk) (sign-of k (units-positive uk)) (units-positive um) (units-positive (us .1)) (least-below s os)))
+      (div-antitone k m s (positive-units uk) (positive-signless k (units-positive uk)) (units-positive um) (units-positive (us .1)) (least-below s os)))
       zg)
 
 -- ---- the squares
@@ -189,4 +183,4 @@ module _ (ℓ limit a b c cross : Float) (fa : T (fits binary32 a)) (fb : T (fit
       let y : Float = root (root cross ⊗ half) in
       lt-le-trans ℓ ((root l ⊘ root s) ⊗ y) (edgeRatio (root a) (root c) (root b) ⊗ y) (t .above s l cross fs fl fx ps (h .beyond))
       (ratio-above (root a) (root c) (root b) (length-of a fa pa) (length-of c fc pc) (length-of b fb pb) (root s) (root l) y (length-of s fs ps) (length-of l fl pl)
-      (root-of (swapped (h .short-of))) (root-of (swapped (h .long-of))) (positive-units (g .is)) (unsigned-le y (sign-of y (units-positive (g .is)))))
+      (root-of (swapped (h .short-of))) (root-of (swapped (h .long-of))) (positive-units (g .is)) (unsigned-le y (positive-signless y (units-positive (g .is)))))

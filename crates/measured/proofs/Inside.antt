@@ -27,7 +27,7 @@ use Rattle.triangle.specs.Quality.{area}
 use Rattle.area_bounds.specs.AreaBound.{crossBound, areaBound}
 use Rattle.area_bounds.proofs.AreaBound.{Bounds, Unsigned, area-bounded}
 use Rattle.area_bounds.proofs.Tiny.{area-not-below}
-use Rattle.bounds.proofs.Above.{positive-is}
+use Rattle.numbers.proofs.Above.{positive-is}
 use Rattle.plain.proofs.Judged.{number-scaled}
 
 -- ---- constants: how far apart two coordinates are, the square of a distance, a distance

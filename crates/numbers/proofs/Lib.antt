@@ -1,5 +1,6 @@
 -- The laws that the proofs cite, leaves first.
 pub mod OrderLaws
+pub mod Above
 pub mod RootWhole
 pub mod RootPattern
 pub mod RootUnits

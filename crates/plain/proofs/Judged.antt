@@ -12,14 +12,14 @@ use lib.Ieee.Scale.{finite}
 use lib.Ieee.Positive.{positive, positive-finite, positive-of-value, between}
 use Rattle.numbers.specs.Rounded.{f32, _⊗_, _⊘_}
 use Rattle.numbers.specs.Root.{root}
-use Rattle.numbers.proofs.OrderLaws.{le-left, le-right, lt-le, le-or-lt, le-not-lt, le-top, top-le, le-trans, lt-le-trans, le-lt-trans, finite-number, unsigned-number, unsigned-le, positive-unsigned, nothing-below}
+use Rattle.numbers.proofs.OrderLaws.{le-left, le-right, lt-le, le-or-lt, le-not-lt, le-top, le-trans, lt-le-trans, le-lt-trans, finite-number, unsigned-number, unsigned-le, positive-unsigned}
 use Rattle.numbers.specs.Bounds.{unsigned}
 use Rattle.numbers.proofs.RootMonotone.{root-monotone}
 use Rattle.numbers.proofs.RootNearest.{root-nearest}
 use Rattle.numbers.proofs.ProductOrder.{mul-monotone-finite, mul-monotone, mul-number, factor-above, mul-commutative, square-unsigned}
 use Rattle.numbers.proofs.QuotientOrder.{div-number, div-monotone}
 use Rattle.numbers.proofs.Bounded.{mul-unsigned, mul-finite, root-finite}
-use Rattle.bounds.proofs.Above.{positive-is}
+use Rattle.numbers.proofs.Above.{positive-is, positive-signless, finite-under}
 use Rattle.vector.specs.Vector.{difference, magnitudeSquared, magnitude, cross, squared, distance}
 use Rattle.quality.specs.Measures.{half, tiny, radiusOf}
 use Rattle.triangle.specs.Quality.{area, circumradius}
@@ -33,12 +33,6 @@ use Rattle.plain.proofs.RootBounds.{root-least, root-most}
 use Rattle.plain.proofs.QuotientBounds.{quotient-most, quotient-least, quotient-antitone}
 
 -- ---- numbers above 0
-
-finite-under : (u v : Float) → T (unsigned u) → T (le u v) → T (finite v) → T (finite u)
-finite-under nan v u h f = absurd u
-finite-under (inf true) v u h f = absurd u
-finite-under (inf false) v u h f = absurd (subst (λ (w : Float). T (finite w)) (top-le v h) f)
-finite-under (fin s m e) v u h f = tt
 
 finite-below : (u v : Float) → T (unsigned u) → T (lt u v) → T (finite u)
 finite-below nan v u h = absurd u
@@ -78,19 +72,13 @@ number-scaled (fin s m e) c k p = mul-number (fin s m e) c tt (positive-finite c
 root-positive : (x : Float) → T (fits binary32 x) → T (positive x) → T (positive (root x))
 root-positive x f p = let a = root-nearest x f p in positive-of-value (root x) (a .R) (2 ^ 149) (a .result) (a .above-zero)
 
-plain : (x : Float) → T (positive x) → T (unsigned x)
-plain nan p = absurd p
-plain (inf s) p = absurd p
-plain (fin true m e) p = absurd p
-plain (fin false m e) p = tt
-
 root-unsigned : (x : Float) → T (fits binary32 x) → T (unsigned x) → T (unsigned (root x))
 root-unsigned nan f u = absurd u
 root-unsigned (inf true) f u = absurd u
 root-unsigned (inf false) f u = unfold root in tt
 root-unsigned (fin true m e) f u = absurd u
 root-unsigned (fin false zero e) f u = unfold root in tt
-root-unsigned (fin false (suc m) e) f u = plain (root (fin false (suc m) e)) (root-positive (fin false (suc m) e) f (lt→ltb 0 (suc m) (zero-lt-suc m)))
+root-unsigned (fin false (suc m) e) f u = positive-signless (root (fin false (suc m) e)) (root-positive (fin false (suc m) e) f (lt→ltb 0 (suc m) (zero-lt-suc m)))
 
 -- a sum of squares, where it is finite
 magnitude-plain : (v : Point3f) → T (finite (magnitudeSquared v)) → T (unsigned (magnitudeSquared v))
@@ -175,7 +163,7 @@ module _ (s : Float) (f : T (fits binary32 s)) (l : T (le least s)) (h : T (le s
   length-finite = positive-finite (root s) (root-positive s f long-positive)
 
   length-unsigned : T (unsigned (root s))
-  length-unsigned = plain (root s) (root-positive s f long-positive)
+  length-unsigned = positive-signless (root s) (root-positive s f long-positive)
 
   length-above : T (le (root least) (root s))
   length-above = root-monotone least s (unfold fits ofBits in tt) f (unfold le ofBits in tt) l
@@ -203,7 +191,7 @@ module _ (s : Float) (f : T (fits binary32 s)) (l : T (le least s)) (h : T (le s
 most : (x w d : Float) → T (fits binary32 x) → T (fits binary32 w) → T (positive x) → T (lt (f32 0) w) → T (positive d) → T (lt x (w ⊗ d)) → T (le (x ⊘ d) w)
 most x nan d f g p q r h = absurd (positive-unsigned nan q)
 most x (inf true) d f g p q r h = absurd (positive-unsigned (inf true) q)
-most x (inf false) d f g p q r h = le-top (x ⊘ d) (div-number x d r (unsigned-number x (plain x p)))
+most x (inf false) d f g p q r h = le-top (x ⊘ d) (div-number x d r (unsigned-number x (positive-signless x p)))
 most x (fin t m e) d f g p q r h = quotient-most x (fin t m e) d f g p (positive-is (fin t m e) q tt) r h
 
 -- the product of the edges
@@ -238,7 +226,7 @@ module _ (p1 p2 p3 : Point3f) (b z s : Float) (f : T (fits binary32 b)) (g : T (
       let az = fourfold-above z (n .area-above) in
       let pz = positive-is z az (square-finite z s az (n .short)) in
       let mz = root-least z s g k pz (long-positive s k l h) (n .short) in
-      let md = fourfold-monotone z (root s) (plain z pz) (length-finite s k l h) mz (length-halved s k l h) in
+      let md = fourfold-monotone z (root s) (positive-signless z pz) (length-finite s k l h) mz (length-halved s k l h) in
       let pD = fourfold-positive s k l h in
       let pd = positive-is d (n .area-above) (finite-under d D (positive-unsigned d (n .area-above)) md (positive-finite D pD)) in
       let aw = factor-above w d (positive-finite d pd) (zero-le d (n .area-above)) (lt-le-trans (f32 0) x (w ⊗ d) (n .x-above) (lt-le x (w ⊗ d) (n .within))) in

@@ -7,13 +7,14 @@ use lib.Ieee.Scale.{finite}
 use lib.Ieee.Positive.{positive, positive-finite}
 use Rattle.numbers.specs.Rounded.{f32, _⊕_, _⊗_, _⊘_}
 use Rattle.numbers.specs.Bounds.{unsigned}
+use Rattle.numbers.proofs.Above.{positive-signless, positive-is, finite-under}
 use Rattle.numbers.proofs.OrderLaws.{le-trans, lt-le-trans, positive-unsigned, unsigned-le, unsigned-number}
 use Rattle.numbers.proofs.SumOrder.{add-commutative, add-unsigned}
 use Rattle.numbers.proofs.ProductOrder.{mul-monotone, mul-commutative}
 use Rattle.numbers.proofs.QuotientOrder.{div-unsigned, div-monotone}
 use Rattle.quality.specs.Measures.{half, tiny, least, radiusOf, aspectRatio}
 use Rattle.six_orders.specs.SixOrders.{InOrder, abc, acb, bac, bca, cab, cba, AspectBound}
-use Rattle.six_orders.proofs.Positive.{above-zero, plain, number, positive-finite-is, finite-under, mul-unsigned, div-plain, div-falls, least-first, least-second, least-third}
+use Rattle.six_orders.proofs.Positive.{above-zero, number, mul-unsigned, div-plain, div-falls, least-first, least-second, least-third}
 
 -- of sums, or products, in each order
 three-least : (f : Float → Float → Float) → ((x y : Float) → f x y ≡ f y x) → {a b c : Float} → T (not (isNan (f (f a b) c))) → T (not (isNan (f (f a c) b))) → T (not (isNan (f (f b c) a)))
@@ -46,10 +47,10 @@ fourfold-tiny = tt
 
 module _ (a b c X : Float) (pa : T (positive a)) (pb : T (positive b)) (pc : T (positive c)) where
   sum-plain : (u v w : Float) → T (positive u) → T (positive v) → T (positive w) → T (unsigned (u ⊕ v ⊕ w))
-  sum-plain u v w p q r = add-unsigned (u ⊕ v) w (add-unsigned u v (plain u p) (plain v q)) (plain w r)
+  sum-plain u v w p q r = add-unsigned (u ⊕ v) w (add-unsigned u v (positive-signless u p) (positive-signless v q)) (positive-signless w r)
 
   product-plain : (u v w : Float) → T (positive u) → T (positive v) → T (positive w) → T (unsigned (u ⊗ v ⊗ w))
-  product-plain u v w p q r = mul-unsigned (u ⊗ v) w (mul-unsigned u v (plain u p) q) r
+  product-plain u v w p q r = mul-unsigned (u ⊗ v) w (mul-unsigned u v (positive-signless u p) q) r
 
   module _ {S P : Float} (es : S ≡ least (a ⊕ b ⊕ c) (a ⊕ c ⊕ b) (b ⊕ c ⊕ a)) (ep : P ≡ least (a ⊗ b ⊗ c) (a ⊗ c ⊗ b) (b ⊗ c ⊗ a))
       (first : T (positive (S ⊗ half)) × T (positive P) × T (positive (f32 0x40800000 ⊗ X))) (second : T (positive X) × T (positive (X ⊘ (S ⊗ half))) × T (positive (P ⊘ (f32 0x40800000 ⊗ X)))) where
@@ -79,24 +80,24 @@ module _ (a b c X : Float) (pa : T (positive a)) (pb : T (positive b)) (pc : T (
       r-finite = finite-under r X (positive-unsigned r r-above) high (positive-finite X (second .0))
 
       r-positive : T (positive r)
-      r-positive = positive-finite-is r r-above r-finite
+      r-positive = positive-is r r-above r-finite
 
       -- half the sum
       abbrev h : Float
       h = (u ⊕ v ⊕ w) ⊗ half
 
       h-above : T (le H h)
-      h-above = mul-monotone S (u ⊕ v ⊕ w) half (positive-finite half half-positive) s (unsigned-le half (plain half half-positive)) (number H (first .0)) (unsigned-number h (mul-unsigned (u ⊕ v ⊕ w) half plain-sum half-positive))
+      h-above = mul-monotone S (u ⊕ v ⊕ w) half (positive-finite half half-positive) s (unsigned-le half (positive-signless half half-positive)) (number H (first .0)) (unsigned-number h (mul-unsigned (u ⊕ v ⊕ w) half plain-sum half-positive))
 
       -- the inradius
       abbrev q : Float
       q = r ⊘ h
 
       q-most : T (le q Q)
-      q-most = le-trans q (r ⊘ H) Q (div-falls r H h r-finite (plain r r-positive) (first .0) h-above) (div-monotone r X H (first .0) high)
+      q-most = le-trans q (r ⊘ H) Q (div-falls r H h r-finite (positive-signless r r-positive) (first .0) h-above) (div-monotone r X H (first .0) high)
 
       q-plain : T (unsigned q)
-      q-plain = div-plain r h r-finite (plain r r-positive) (lt-le-trans (f32 0) H h (above-zero H (first .0)) h-above)
+      q-plain = div-plain r h r-finite (positive-signless r r-positive) (lt-le-trans (f32 0) H h (above-zero H (first .0)) h-above)
 
       -- four times the area
       abbrev f : Float
@@ -105,8 +106,8 @@ module _ (a b c X : Float) (pa : T (positive a)) (pb : T (positive b)) (pc : T (
       grows : (x y : Float) → T (positive x) → T (le x y) → T (positive y) → T (le (f32 0x40800000 ⊗ x) (f32 0x40800000 ⊗ y))
       grows x y i k j =
           rw (mul-commutative (f32 0x40800000) x, mul-commutative (f32 0x40800000) y)
-          (mul-monotone x y (f32 0x40800000) (positive-finite (f32 0x40800000) four-positive) k (unsigned-le (f32 0x40800000) (plain (f32 0x40800000) four-positive))
-          (unsigned-number _ (mul-unsigned x (f32 0x40800000) (plain x i) four-positive)) (unsigned-number _ (mul-unsigned y (f32 0x40800000) (plain y j) four-positive)))
+          (mul-monotone x y (f32 0x40800000) (positive-finite (f32 0x40800000) four-positive) k (unsigned-le (f32 0x40800000) (positive-signless (f32 0x40800000) four-positive))
+          (unsigned-number _ (mul-unsigned x (f32 0x40800000) (positive-signless x i) four-positive)) (unsigned-number _ (mul-unsigned y (f32 0x40800000) (positive-signless y j) four-positive)))
 
       f-above : T (lt (f32 0) f)
       f-above = lt-le-trans (f32 0) (f32 0x40800000 ⊗ tiny) f (rw (mul-commutative (f32 0x40800000) tiny) fourfold-tiny) (grows tiny r (unfold ofBits in tt) low r-positive)
@@ -115,14 +116,14 @@ module _ (a b c X : Float) (pa : T (positive a)) (pb : T (positive b)) (pc : T (
       f-most = grows r X r-positive high (second .0)
 
       f-positive : T (positive f)
-      f-positive = positive-finite-is f f-above (finite-under f F (positive-unsigned f f-above) f-most (positive-finite F (first .2)))
+      f-positive = positive-is f f-above (finite-under f F (positive-unsigned f f-above) f-most (positive-finite F (first .2)))
 
       -- the circumradius
       abbrev d : Float
       d = (u ⊗ v ⊗ w) ⊘ f
 
       d-least : T (le R d)
-      d-least = le-trans R (P ⊘ f) d (div-falls P f F (positive-finite P (first .1)) (plain P (first .1)) f-positive f-most) (div-monotone P (u ⊗ v ⊗ w) f f-positive p)
+      d-least = le-trans R (P ⊘ f) d (div-falls P f F (positive-finite P (first .1)) (positive-signless P (first .1)) f-positive f-most) (div-monotone P (u ⊗ v ⊗ w) f f-positive p)
 
       ratio-most : T (le (q ⊘ d) (Q ⊘ R))
       ratio-most = le-trans (q ⊘ d) (q ⊘ R) (Q ⊘ R) (div-falls q R d (finite-under q Q q-plain q-most (positive-finite Q (second .1))) q-plain (second .2) d-least) (div-monotone q Q R (second .2) q-most)
@@ -133,7 +134,7 @@ module _ (a b c X : Float) (pa : T (positive a)) (pb : T (positive b)) (pc : T (
         where
           go : (t : Bool) → T (le (cond t (q ⊘ d) (f32 0)) (Q ⊘ R))
           go true = ratio-most
-          go false = unsigned-le (Q ⊘ R) (div-unsigned Q R (positive-finite Q (second .1)) (plain Q (second .1)) (second .2))
+          go false = unsigned-le (Q ⊘ R) (div-unsigned Q R (positive-finite Q (second .1)) (positive-signless Q (second .1)) (second .2))
 
     plain-at : {u v w : Float} → InOrder a b c u v w → T (unsigned (u ⊕ v ⊕ w))
     plain-at abc = sum-plain a b c pa pb pc

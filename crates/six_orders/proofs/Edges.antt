@@ -5,12 +5,13 @@ use lib.Ieee.{Float, nan, inf, lt, le, isNan}
 use lib.Ieee.Positive.{positive, positive-finite}
 use Rattle.numbers.specs.Rounded.{_⊘_}
 use Rattle.numbers.specs.Order.{minimum, maximum}
+use Rattle.numbers.proofs.Above.{positive-signless}
 use Rattle.numbers.proofs.OrderLaws.{le-trans, le-top}
 use Rattle.numbers.proofs.QuotientOrder.{div-monotone}
 use Rattle.numbers.proofs.Minimum.{minimum-either}
 use Rattle.quality.specs.Measures.{tiny, least, largest, edgeRatio}
 use Rattle.six_orders.specs.SixOrders.{InOrder, abc, acb, bac, bca, cab, cba, EdgeBound}
-use Rattle.six_orders.proofs.Positive.{plain, number, div-falls, least-first, least-second, least-third, largest-first, largest-second, largest-third, maximum-either}
+use Rattle.six_orders.proofs.Positive.{number, div-falls, least-first, least-second, least-third, largest-first, largest-second, largest-third, maximum-either}
 
 pub no-edge-bound : (a b c : Float) → EdgeBound a b c nan
 no-edge-bound a b c = record { above = λ n. absurd (unfold isNan in n); least = λ u v w o n. absurd (unfold isNan in n) }
@@ -58,7 +59,7 @@ module _ (a b c : Float) (pa : T (positive a)) (pb : T (positive b)) (pc : T (po
         go : (t : Bool) → T (le e (cond t (largest u v w ⊘ least u v w) (inf false)))
         go true = le-trans e (largest u v w ⊘ a) (largest u v w ⊘ least u v w)
             (div-monotone (maximum b c) (largest u v w) a pa (maximum-either (λ (x : Float). T (le x (largest u v w))) b c (k .b-least) (k .c-least)))
-            (div-falls (largest u v w) (least u v w) a (positive-finite (largest u v w) g) (plain (largest u v w) g) l (k .shortest))
+            (div-falls (largest u v w) (least u v w) a (positive-finite (largest u v w) g) (positive-signless (largest u v w) g) l (k .shortest))
         go false = le-top e (number e pe)
 
     pub edges-bounded : EdgeBound a b c e

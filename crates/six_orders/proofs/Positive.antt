@@ -1,10 +1,10 @@
 -- Numbers above zero that are not infinite: products of them, quotients by them (`div-falls`), and the least and the largest of three. Assumes nothing.
 use Prim.Native.Nat.{zero, suc, _*_}
-use native.Mathlib.Nat.{zero-lt-suc, mul-pos}
+use native.Mathlib.Nat.{mul-pos}
 use native.Mathlib.Omega.{arith}
-use mathlib.Core.Path.{_≡_, subst}
+use mathlib.Core.Path.{_≡_}
 use mathlib.Core.Bool.{Bool, true, false, not, cond}
-use lib.Dec.{T, lt→ltb, ltb→lt, eqb·suc-zero}
+use lib.Dec.{T, ltb→lt, eqb·suc-zero}
 use lib.Ieee.{Float, nan, inf, fin, binary32, up, down, mul, div, lt, le, fits, isNan, ofBits}
 use lib.Ieee.Fits.{up-pos}
 use lib.Ieee.Scale.{finite}
@@ -12,7 +12,8 @@ use lib.Ieee.Positive.{positive, den-pos}
 use Rattle.numbers.specs.Rounded.{f32, _⊗_, _⊘_}
 use Rattle.numbers.specs.Order.{minimum, maximum}
 use Rattle.numbers.specs.Bounds.{unsigned}
-use Rattle.numbers.proofs.OrderLaws.{side→lt, le-left, le-right, lt-le, le-trans, lt-le-trans, top-le, positive-unsigned, nothing-below, unsigned-le, unsigned-number, le-antisymmetric}
+use Rattle.numbers.proofs.OrderLaws.{side→lt, le-left, le-right, lt-le, le-trans, lt-le-trans, positive-unsigned, unsigned-le, unsigned-number, le-antisymmetric}
+use Rattle.numbers.proofs.Above.{positive-is, positive-signless}
 use Rattle.numbers.proofs.RoundedOrder.{round-unsigned}
 use Rattle.numbers.proofs.QuotientOrder.{div-unsigned, div-antitone}
 use Rattle.numbers.proofs.Minimum.{minimum-first, minimum-le}
@@ -28,21 +29,8 @@ above-zero (inf s) p = absurd p
 above-zero (fin true m e) p = absurd p
 above-zero (fin false m e) p = let k = mul-pos (mul-pos (ltb→lt 0 m p) (up-pos e)) (den-pos (f32 0)) in side→lt (f32 0) (fin false m e) tt tt (omega (arith, k))
 
-pub plain : (x : Float) → T (positive x) → T (unsigned x)
-plain nan p = absurd p
-plain (inf s) p = absurd p
-plain (fin true m e) p = absurd p
-plain (fin false m e) p = tt
-
 pub number : (x : Float) → T (positive x) → T (not (isNan x))
-number x p = unsigned-number x (plain x p)
-
-pub positive-finite-is : (x : Float) → T (lt (f32 0) x) → T (finite x) → T (positive x)
-positive-finite-is nan h f = absurd f
-positive-finite-is (inf s) h f = absurd f
-positive-finite-is (fin true m e) h f = absurd (positive-unsigned (fin true m e) h)
-positive-finite-is (fin false zero e) h f = absurd (nothing-below e h)
-positive-finite-is (fin false (suc m) e) h f = lt→ltb 0 (suc m) (zero-lt-suc m)
+number x p = unsigned-number x (positive-signless x p)
 
 finite-below : (x : Float) → T (unsigned x) → T (lt x (inf false)) → T (finite x)
 unfolding lt
@@ -51,17 +39,11 @@ finite-below (inf true) u h = absurd u
 finite-below (inf false) u h = absurd h
 finite-below (fin s m e) u h = tt
 
-pub positive-is : (x : Float) → T (lt (f32 0) x) → T (lt x (inf false)) → T (positive x)
-positive-is x h k = positive-finite-is x h (finite-below x (positive-unsigned x h) k)
+pub positive-below : (x : Float) → T (lt (f32 0) x) → T (lt x (inf false)) → T (positive x)
+positive-below x h k = positive-is x h (finite-below x (positive-unsigned x h) k)
 
 pub same-is : (x y : Float) → T (fits binary32 x) → T (fits binary32 y) → T (lt (f32 0) x) → T (le x y) → T (le y x) → x ≡ y
 same-is x y f g h i j = le-antisymmetric binary32 x y f g (positive-unsigned x h) (positive-unsigned y (lt-le-trans (f32 0) x y h i)) i j
-
-pub finite-under : (u v : Float) → T (unsigned u) → T (le u v) → T (finite v) → T (finite u)
-finite-under nan v u h f = absurd u
-finite-under (inf true) v u h f = absurd u
-finite-under (inf false) v u h f = absurd (subst (λ (w : Float). T (finite w)) (top-le v h) f)
-finite-under (fin s m e) v u h f = tt
 
 -- ---- products and quotients
 
@@ -82,7 +64,7 @@ mul-unsigned (fin false m e) (fin false n d) u p = unfold mul in round-unsigned 
 -- by an infinity too
 pub div-plain : (x d : Float) → T (finite x) → T (unsigned x) → T (lt (f32 0) d) → T (unsigned (x ⊘ d))
 div-plain x nan f u h = absurd (unfold isNan in le-right (f32 0) nan (lt-le (f32 0) nan h))
-div-plain x (fin t n e) f u h = div-unsigned x (fin t n e) f u (positive-finite-is (fin t n e) h tt)
+div-plain x (fin t n e) f u h = div-unsigned x (fin t n e) f u (positive-is (fin t n e) h tt)
 div-plain x (inf true) f u h = absurd (unfold lt ofBits in h)
 div-plain nan (inf false) f u h = absurd f
 div-plain (inf s) (inf false) f u h = absurd f
@@ -94,7 +76,7 @@ div-falls x c d f u p h = go d x f u h (lt-le-trans (f32 0) c d (above-zero c p)
   where
     go : (d x : Float) → T (finite x) → T (unsigned x) → T (le c d) → T (lt (f32 0) d) → T (le (x ⊘ d) (x ⊘ c))
     go nan x f u h k = absurd (unfold isNan in le-right c nan h)
-    go (fin t n e) x f u h k = div-antitone x c (fin t n e) f u p (positive-finite-is (fin t n e) k tt) h
+    go (fin t n e) x f u h k = div-antitone x c (fin t n e) f u p (positive-is (fin t n e) k tt) h
     go (inf true) x f u h k = absurd (unfold lt ofBits in k)
     go (inf false) nan f u h k = absurd f
     go (inf false) (inf s) f u h k = absurd f

@@ -6,6 +6,7 @@ use lib.Ieee.{Float, nan, inf, fin, div, lt, le, isNan, ofBits}
 use lib.Ieee.Positive.{positive, positive-finite}
 use Rattle.numbers.specs.Rounded.{f32, _⊗_, _⊘_}
 use Rattle.numbers.specs.Order.{minimum}
+use Rattle.numbers.proofs.Above.{positive-signless}
 use Rattle.numbers.proofs.OrderLaws.{le-left, le-trans, le-lt-trans, not-lt-le}
 use Rattle.numbers.proofs.QuotientOrder.{div-monotone}
 use Rattle.numbers.proofs.Minimum.{minimum-either, minimum-first, minimum-le}
@@ -14,7 +15,7 @@ use Rattle.quality.specs.Shape.{qualityOf}
 use Rattle.score_bounds.proofs.Bounds.{part}
 use Rattle.score_bounds.proofs.Aspect.{doubled-le, mean-under, below-low}
 use Rattle.six_orders.specs.SixOrders.{InOrder, abc, acb, bac, bca, cab, cba, leastAngle, AngleBound, AspectBound, EdgeBound, AllBelow}
-use Rattle.six_orders.proofs.Positive.{plain, div-falls}
+use Rattle.six_orders.proofs.Positive.{div-falls}
 
 -- ---- the parts of a score
 
@@ -59,7 +60,7 @@ edges-under d nan h = rw (← no-edges) (minimum-le (f32 0x40400000 ⊘ d) (f32 
 edges-under d (inf s) h = absurd (h (unfold isNan in tt) .0)
 edges-under d (fin s n e) h =
     let k = h (unfold isNan in tt) in
-    minimum-monotone (f32 0x40400000 ⊘ d) (f32 0x40400000 ⊘ fin s n e) (f32 0x3f800000) (div-falls (f32 0x40400000) (fin s n e) d (positive-finite (f32 0x40400000) three-positive) (plain (f32 0x40400000) three-positive) (k .0) (k .1)) one-number
+    minimum-monotone (f32 0x40400000 ⊘ d) (f32 0x40400000 ⊘ fin s n e) (f32 0x3f800000) (div-falls (f32 0x40400000) (fin s n e) d (positive-finite (f32 0x40400000) three-positive) (positive-signless (f32 0x40400000) three-positive) (k .0) (k .1)) one-number
 
 -- ---- the score
 
