@@ -53,7 +53,7 @@ fn sift(
 }
 
 // Copies numbers into a list, from a place on.
-fn put_from(list: &mut [u32], from: usize, work: &[u32])
+pub fn put_from(list: &mut [u32], from: usize, work: &[u32])
     requires { ⌜ (from ≤ length (now list)) × (length (now list) ≤ from + length (now work)) ⌝ }
     ensures { λ _. ⌜ now (list .exit)
         ≡ take from (now (list .entry)) ++ take (length (now (list .entry)) - from) (now (work .entry)) ⌝ }
