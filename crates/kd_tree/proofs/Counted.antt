@@ -1,5 +1,5 @@
 -- Ordering and splitting keep every count. Assumes nothing.
-use mathlib.Core.Path.{_≡_, refl, sym, ap, _∙_}
+use mathlib.Core.Path.{_≡_, refl, sym, _∙_}
 use mathlib.Core.Bool.{Bool, true, false, cond}
 use mathlib.Core.List.{List, [], _∷_, _++_}
 use Prim.Native.Nat.{ℕ, zero, suc, _+_, _/_}
@@ -7,7 +7,7 @@ use native.Mathlib.Omega.{arith}
 use lib.Dec.{leb}
 use lib.Ieee.{Float}
 use lib.ListN.{length, take, drop, take-append-drop}
-use Rattle.lists.specs.Lists.{bit, count}
+use Rattle.lists.specs.Lists.{count}
 use Rattle.lists.proofs.Counts.{count-append, count-all}
 use Rattle.axis_sort.specs.Axis.{precedes}
 use Rattle.axis_sort.specs.Halving.{halving}

@@ -7,7 +7,6 @@ use native.Mathlib.Omega.{arith}
 use lib.Dec.{T, eqb, lit≤}
 use lib.Ieee.{Float}
 use lib.ListN.{length, getD}
-use Rattle.lists.specs.Lists.{count}
 use Rattle.lists.specs.Members.{In, Below}
 use Rattle.lists.proofs.Members.{in-head, in-at, in-cases}
 use Rattle.vector.specs.Vector.{point}

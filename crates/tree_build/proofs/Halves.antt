@@ -6,19 +6,18 @@ use mathlib.Core.List.{List, [], _∷_, _++_}
 use Prim.Native.Nat.{ℕ, zero, suc, _+_, _-_, _*_, _/_, _≤_, _<_}
 use native.Mathlib.Decide.{decLt}
 use native.Mathlib.Omega.{arith}
-use borrow.Author.Tests.{eqb-true, le-leb, lt-leb, leb-true, leb-false, lt-ltb, le-ltb}
+use borrow.Author.Tests.{eqb-true, leb-true, leb-false, lt-ltb, le-ltb}
 use lib.Dec.{T, eqb, leb, ltb, lit≤}
 use lib.Ieee.{Float, lt, le, eq}
 use lib.Ieee.Scale.{finite}
 use lib.ListN.{length, take, drop, getD, take-append-drop}
 use lib.Seq.{length-take-le, take-at, drop-at}
-use Rattle.lists.specs.Lists.{bit, count}
+use Rattle.lists.specs.Lists.{count}
 use Rattle.lists.specs.Members.{In, Below, only}
 use Rattle.lists.proofs.Bools.{not-true, true-not-false}
 use Rattle.lists.proofs.Counts.{count-append}
-use Rattle.lists.proofs.Members.{in-at, in-cases, only-count, only-none, only-below}
+use Rattle.lists.proofs.Members.{in-at, in-cases, only-count, only-none}
 use Rattle.numbers.proofs.OrderLaws.{le-not-lt, not-le-lt, lt-le}
-use Rattle.domain.specs.Accepted.{Cloud}
 use Rattle.domain.proofs.Accepted.{cloud-finite}
 use Rattle.axis_sort.specs.Axis.{coordinateOf, precedes}
 use Rattle.axis_sort.specs.Sorted.{sorted}
@@ -26,10 +25,10 @@ use Rattle.axis_sort.proofs.Halving.{sorted-length}
 use Rattle.kd_tree.proofs.Counted.{sorted-count}
 use Rattle.kd_tree.proofs.Farthest.{eq-turned, eq-le}
 use Rattle.tree_order.specs.InOrder.{All, Ordered}
-use Rattle.tree_order.proofs.Ordered.{all-in, all-take, all-drop, either, true-T, not-T, T-true, in-order, only-order, before-both, before-self, numbered}
+use Rattle.tree_order.proofs.Ordered.{all-in, all-take, either, true-T, not-T, T-true, in-order, only-order, before-both, before-self, numbered}
 use Rattle.tree_build.specs.Parted.{isBefore, others, partedBut, orderAlong}
 use Rattle.tree_build.specs.Orders.{Numbers, Orders, Dividing, Divided}
-use Rattle.tree_build.proofs.Ends.{all-below, ordered-first, order-sizes}
+use Rattle.tree_build.proofs.Ends.{all-below, ordered-first}
 
 -- ---- parts of a list in order
 module _ (before : ℕ → ℕ → Bool) where

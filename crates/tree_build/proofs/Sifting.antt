@@ -16,7 +16,7 @@ take-next : (l : List ℕ) (k v : ℕ) → k < length l → take (k + 1) (set l 
 take-next l k v h = let e : k + 1 ≡ suc k = omega arith in ap (λ (n : ℕ). take n (set l k v)) e ∙ take-suc-set l k v h
 
 -- what was stored is the next of those that pass, or none of them
-module _ (test : ℕ → Bool) (whole front rest l : List ℕ) (k v : ℕ) (leads : whole ≡ take k l ++ only test (v ∷ rest)) where
+module _ (test : ℕ → Bool) (whole rest l : List ℕ) (k v : ℕ) (leads : whole ≡ take k l ++ only test (v ∷ rest)) where
   stays : test v ≡ true → k < length l → whole ≡ take (k + 1) (set l k v) ++ only test rest
   stays t h =
       leads ∙ ap (λ (z : List ℕ). take k l ++ z) (only-take test v rest t) ∙ sym (append-assoc (take k l) (v ∷ []) (only test rest))
@@ -62,10 +62,10 @@ module _ {test : ℕ → Bool} {list₀ work₀ : List ℕ} where
       abbrev work' : List ℕ
       work' = set work (i - kept) here
 
-      pub list-room : kept < length list
+      list-room : kept < length list
       list-room = omega (arith, s .most)
 
-      pub work-room : i - kept < length (work)
+      work-room : i - kept < length work
       work-room = omega (arith, s .work-size, s .size, s .most)
 
       here-same : drop i list₀ ≡ here ∷ drop (i + 1) list₀
@@ -101,14 +101,14 @@ module _ {test : ℕ → Bool} {list₀ work₀ : List ℕ} where
       pub sift-keep : {b : Bool} → b ≡ test here → b ≡ true → Sifting test list₀ list' work₀ work' (kept + 1) (i + 1)
       sift-keep e t =
           let n : i - kept ≡ i + 1 - (kept + 1) = omega arith in
-          on (omega (arith, s .most)) (stays test _ [] _ list kept here leads-front (sym e ∙ t) list-room)
-          (goes (λ (x : ℕ). not (test x)) _ [] _ work (i - kept) here leads-aside (ap not (sym e ∙ t)) ∙ ap (λ (k : ℕ). take k work' ++ others test (drop (i + 1) list₀)) n)
+          on (omega (arith, s .most)) (stays test _ _ list kept here leads-front (sym e ∙ t) list-room)
+          (goes (λ (x : ℕ). not (test x)) _ _ work (i - kept) here leads-aside (ap not (sym e ∙ t)) ∙ ap (λ (k : ℕ). take k work' ++ others test (drop (i + 1) list₀)) n)
 
       pub sift-leave : {b : Bool} → b ≡ test here → b ≡ false → Sifting test list₀ list' work₀ work' kept (i + 1)
       sift-leave e t =
           let n : i - kept + 1 ≡ i + 1 - kept = omega (arith, s .most) in
-          on (omega (arith, s .most)) (goes test _ [] _ list kept here leads-front (sym e ∙ t))
-          (stays (λ (x : ℕ). not (test x)) _ [] _ work (i - kept) here leads-aside (ap not (sym e ∙ t)) work-room ∙ ap (λ (k : ℕ). take k work' ++ others test (drop (i + 1) list₀)) n)
+          on (omega (arith, s .most)) (goes test _ _ list kept here leads-front (sym e ∙ t))
+          (stays (λ (x : ℕ). not (test x)) _ _ work (i - kept) here leads-aside (ap not (sym e ∙ t)) work-room ∙ ap (λ (k : ℕ). take k work' ++ others test (drop (i + 1) list₀)) n)
 
 -- ---- copying from a place on
 pub record Putting (list₀ : List ℕ) (from : ℕ) (work list : List ℕ) (i : ℕ) : Type 0 where

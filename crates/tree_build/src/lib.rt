@@ -4,7 +4,7 @@ use bounds::Bounds;
 ghost use mathlib.Core.Path.{_≡_};
 ghost use mathlib.Core.List.{_++_};
 ghost use Prim.Native.Nat.{_+_, _-_, _≤_, _<_};
-ghost use lib.ListN.{length, take, getD};
+ghost use lib.ListN.{length, take};
 ghost use Rattle.kd_tree.specs.Boxes.{plusZero};
 ghost use Rattle.kd_tree.specs.Written.{Splits};
 ghost use Rattle.axis_sort.specs.Axis.{coordinateOf};

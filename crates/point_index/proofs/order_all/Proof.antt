@@ -6,7 +6,6 @@ use Prim.Native.Nat.{ℕ}
 use mathlib.Core.Path.{refl, ap, _∙_}
 use lib.Dec.{lit≤}
 use native.Mathlib.Omega.{arith}
-use borrow.Author.Needs.{needs}
 use Rattle.point_index.proofs.order_all.Statement.{statement}
 use Rattle.point_index.proofs.order_all.Tie as tie
 

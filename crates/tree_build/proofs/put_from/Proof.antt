@@ -1,7 +1,6 @@
 use Prim.Native.Nat.{_-_}
 use lib.ListN.{length}
 use Rattle.tree_build.proofs.Sifting.{Putting, put-start, put-step, put-end}
-use native.Mathlib.Omega.{arith}
 use borrow.Author.Needs.{needs}
 use Rattle.tree_build.proofs.put_from.Statement.{statement}
 use Rattle.tree_build.proofs.put_from.Tie as tie

@@ -1,8 +1,7 @@
 use Prim.Native.Nat.{_-_}
 use lib.ListN.{length}
 use Rattle.tree_build.specs.Parted.{isBefore}
-use Rattle.tree_build.proofs.Sifting.{Sifting, sift-start, sift-keep, sift-leave, sift-end, list-room, work-room}
-use native.Mathlib.Omega.{arith}
+use Rattle.tree_build.proofs.Sifting.{Sifting, sift-start, sift-keep, sift-leave, sift-end}
 use borrow.Author.Needs.{needs}
 use Rattle.tree_build.proofs.sift.Statement.{statement}
 use Rattle.tree_build.proofs.sift.Tie as tie
@@ -14,7 +13,7 @@ abbrev μ-loop : tie.MeasureT-loop
 μ-loop points axis at pivot list₀ work₀ kept₀ i₀ list work kept i = length list₀ - i
 
 loop-holds : tie.Need-loop-holds Inv-loop μ-loop
-loop-holds c = search needs
+loop-holds c = sift-start
 
 mul-number : tie.Need-mul-number Inv-loop μ-loop
 mul-number c = search needs
