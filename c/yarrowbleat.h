@@ -535,6 +535,8 @@ YbFigures yb_tally_figures(const YbTally *tally);
  *
  * Answers 0, 1, 2 (first half), 3, 4 (coordinates) or 7 (also for a short index). At 0 both work slices end as zeros;
  * at a refusal all three slices are as they were.
+ *
+ * This call and the three that follow, which look at an index by building it anew, take some 80 KB of stack.
  */
 YbIndexed yb_build_index(const float *points, size_t points_len, uint32_t *index, size_t index_len, uint32_t *words,
                          size_t words_len, float *floats, size_t floats_len);
