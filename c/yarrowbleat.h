@@ -392,8 +392,9 @@ YbEstimate yb_estimate_optimal_radius(const float *points, size_t points_len, fl
  *
  * Time: a bell wall of 4,096 points takes some 3 ms. Where no three points make a seed, and neither edges nor area
  * tell so, it grows with the cube of the number of points near each other. Of the clouds searched for, slivers along a
- * shallow arc at radius 10 with nine radii and threshold 0.36 take longest: 0.12 s at 100 points, which comes to some
- * 15 s at 512, 2 minutes at 1,024 and over two hours at 4,096 (worked out, not measured).
+ * shallow arc at radius 10 with nine radii and threshold 0.36 take longest: 5.4 s at 512 points and 48 s at 1,024, which
+ * comes to some 50 minutes at 4,096 (that one is worked out, not measured). Under the default settings it is two tiny
+ * clusters next to each other: 4.3 s at 512 points.
  */
 YbPatch yb_reconstruct_with_normals(const float *points, size_t points_len, const float *normals, size_t normals_len,
                                     YbBallPivotingConfig settings, uint32_t *faces, size_t faces_len,

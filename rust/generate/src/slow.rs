@@ -51,7 +51,7 @@ fn place(name: &str, random: &mut Random, i: usize, n: usize) -> [f64; 3] {
             [x + (i % 2) as f64 * 0.0199, y, z]
         }
         "sparse" if i + 3 < n => [100.0 * (i % 64) as f64, 100.0 * (i / 64) as f64, 0.0],
-        "sparse" => [9_000.0 + c, 9_000.0 + s, 0.0],
+        "sparse" => [9_000.0 + 0.5 * (i % 3 / 2) as f64, 9_000.0 + 0.5 * (i % 3 % 2) as f64, 0.0],
         "score" | "area" => small(1.0),
         "dust" => {
             let [x, y, z] = small(1e-6);
