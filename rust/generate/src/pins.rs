@@ -61,10 +61,19 @@ fn pivot_over_two_radii() -> Case {
     plain("pivot over two radii", points, by_number(1.0))
 }
 
-/// Points on a line: each triangle has no area and a score of 0, and none is a pivot.
-fn pivot_without_a_score() -> Case {
-    let points = vec![0.0, 0.0, 0.0, 1.0, 0.0, 0.0, 0.5, 0.0, 0.0, 0.25, 0.0, 0.0];
-    plain("pivot without a score", points, by_number(1.0))
+/// A seed, and a point so near the first end of its first edge that the angle left over rounds to less than 0: the three
+/// parts of the score there add up to 0, and it is no pivot.
+fn pivot_with_a_score_of_0() -> Case {
+    let points = vec![0.0, 0.0, 0.0, 515.426_33, 0.0, 0.0, 250.0, 250.0, 0.0, 0.000_389_444_18, -0.000_145_692_17, 0.0];
+    let settings = Settings { max_edge_factor: 1_000_000.0, ..by_number(1_000.0) };
+    plain("pivot with a score of 0", points, settings)
+}
+
+/// A percentile of the f32 after 1.
+fn percentile_above_1() -> Case {
+    let mut settings = one_radius(1.0);
+    settings.set_percentiles(&[1.000_000_1]);
+    plain("percentile above 1", vec![0.0, 0.0, 0.0, 1.0, 0.0, 0.0, 0.0, 1.0, 0.0], settings)
 }
 
 /// A seed, and two points over its first edge, one the other's mirror image.
@@ -168,7 +177,8 @@ pub fn cases() -> Vec<Case> {
         radii_apart(4.998e-7),
         pivot_at_the_radius(),
         pivot_over_two_radii(),
-        pivot_without_a_score(),
+        pivot_with_a_score_of_0(),
+        percentile_above_1(),
         pivots_of_equal_score(),
         seed_over_two_radii([0, 1, 2]),
         seed_over_two_radii([0, 2, 1]),
