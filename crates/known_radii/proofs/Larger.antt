@@ -17,13 +17,13 @@ use Rattle.triangle.specs.Quality.{isZero, sourceAcceptable, acceptable}
 use Rattle.patch.specs.Search.{searching}
 use Rattle.decisions.specs.declared.Scene.{Scene}
 use Rattle.decisions.specs.Decisions.{isClose, accepts, qualityAt, completes, floatsOf}
-use Rattle.seed.specs.Judged.{NoSeed}
+use Rattle.three_points.specs.Judged.{NoSeed, Seedless}
 use Rattle.flatness.specs.Flat.{Flat}
-use Rattle.seed.specs.Seedless.{Seedless, SeedlessBetween}
+use Rattle.seedless.specs.Seedless.{SeedlessBetween}
 use Rattle.known_radii.specs.Known.{Growing, NothingTo, Silent, Known, flat-cloud, up-to}
 use Rattle.decisions.proofs.Growth.{not-below, close-more}
-use Rattle.seed.proofs.Nothing.{first-nothing, flat-nothing}
-use Rattle.seed.proofs.Threes.{seedless-nothing}
+use Rattle.seedless.proofs.Nothing.{first-nothing, flat-nothing}
+use Rattle.seedless.proofs.Threes.{seedless-nothing}
 use Rattle.lists.proofs.Bools.{not-true, true-not-false, and-both}
 
 -- ---- from a radius r to one that is not smaller

@@ -84,7 +84,7 @@ fn ask_at(
         return in_vain(radius);
     }
     let limits = filters::limits_of(s, largest);
-    if seed::seedless::is_exhausted(s, points, w, largest, hash, limits, purse) {
+    if seedless::is_exhausted(s, points, w, largest, hash, limits, purse) {
         return largest;
     }
     in_vain(radius)

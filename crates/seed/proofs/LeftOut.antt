@@ -7,9 +7,6 @@ use mathlib.Core.List.{List, [], _∷_}
 use mathlib.Core.Option.{Option, none}
 use lib.Dec.{eqb}
 use lib.Ieee.{Float, lt}
-use Rattle.vector.specs.Vector.{distance}
-use Rattle.vector.proofs.Distances.{distance-turned}
-use Rattle.points.specs.Points.{pointAt}
 use Rattle.lists.specs.Members.{Below, only}
 use Rattle.lists.proofs.Members.{below-first, below-rest}
 use Rattle.patch.specs.Search.{Floats, isSecond, isThird, thirdOf, secondOf}
@@ -17,8 +14,10 @@ use Rattle.lists.specs.Lists.{unused}
 use Rattle.lists.proofs.Bools.{either, and-false}
 use Rattle.decisions.specs.declared.Scene.{Scene}
 use Rattle.decisions.specs.Decisions.{reach, apart, isClose, accepts, qualityAt, floatsOf}
-use Rattle.seed.specs.Found.{withSecond}
-use Rattle.seed.proofs.Laws.{orElse, else-miss, third-hit, third-miss, second-not, second-step, second-end}
+use Rattle.three_points.proofs.Refused.{close-far}
+use Rattle.seedless.specs.Parts.{withSecond}
+use Rattle.seedless.proofs.Laws.{orElse, third-hit, third-miss, second-step, second-end}
+use Rattle.seed.proofs.Laws.{else-miss, second-not}
 
 -- ---- whatever fails the test can't be chosen
 module _ {R : Type 0} (floats : Floats R) (r : R) (used : List ℕ) (test : ℕ → Bool) where
@@ -68,16 +67,9 @@ and-nothing true true false c z h = refl
 and-nothing true true true c z h = rw h
 
 module _ (s : Scene) (pts : List Float) (r : Float) (used : List ℕ) where
-  -- a seed's other points are within twice the radius of the first
-  pub close-far : (i k : ℕ) → lt (reach r) (apart pts k i) ≡ true → isClose pts r i k ≡ false
-  unfolding isClose apart
-  close-far i k h =
-      let e : distance (pointAt pts i) (pointAt pts k) ≡ distance (pointAt pts k) (pointAt pts i) = distance-turned (pointAt pts i) (pointAt pts k) in
-      ap (λ (d : Float). not (lt (reach r) d)) e ∙ ap not h
-
   module _ (i k : ℕ) where
     not-close : (unused used k ≡ false) ⊎ (lt (reach r) (apart pts k i) ≡ true) → (unused used k && isClose pts r i k) ≡ false
-    not-close = ⊎-elim (λ (u : unused used k ≡ false). rw u) (λ (f : lt (reach r) (apart pts k i) ≡ true). rw (close-far i k f) (and-false (unused used k)))
+    not-close = ⊎-elim (λ (u : unused used k ≡ false). rw u) (λ (f : lt (reach r) (apart pts k i) ≡ true). rw (close-far pts r i k f) (and-false (unused used k)))
 
     pub second-out : (unused used k ≡ false) ⊎ (lt (reach r) (apart pts k i) ≡ true) → isSecond (floatsOf s pts) r used i k ≡ false
     unfolding isSecond floatsOf

@@ -2,9 +2,5 @@ pub mod Laws
 pub mod LeftOut
 pub mod Steps
 pub mod State
-pub mod Points
-pub mod Nothing
-pub mod Measured
-pub mod Low
-pub mod Threes
+pub mod Known
 pub mod WithArea

@@ -27,8 +27,10 @@ use Rattle.nearby.proofs.Keeping.{kept-self, kept-on, held-kept, hashed-search}
 use Rattle.nearby.proofs.Narrowing.{out-of-reach}
 use Rattle.seed.specs.declared.Seed.{Seed}
 use Rattle.seed.specs.declared.Seed.the-variants.{Triangle, Nothing}
-use Rattle.seed.specs.Found.{seedFound, withFirst}
-use Rattle.seed.proofs.Laws.{orElse, up-step, up-end, else-hit, else-miss, first-tried, first-used, first-spent, first-end}
+use Rattle.seed.specs.Found.{seedFound}
+use Rattle.seedless.specs.Parts.{withFirst}
+use Rattle.seedless.proofs.Laws.{orElse, up-step, up-end, first-tried, first-used, first-spent, first-end}
+use Rattle.seed.proofs.Laws.{else-hit, else-miss}
 use Rattle.seed.proofs.LeftOut.{second-only, second-thirds, second-out, third-out}
 
 -- ---- what is listed

@@ -13,8 +13,10 @@ use Rattle.nearby.specs.Ready.{Held, Listed, usedIn, listed, nth}
 use Rattle.nearby.proofs.Rest.{Rest, rest-start, rest-is, rest-step, rest-hit, rest-end}
 use Rattle.seed.specs.declared.Seed.{Seed}
 use Rattle.seed.specs.declared.Seed.the-variants.{Triangle, Nothing}
-use Rattle.seed.specs.Found.{seedFound, withSecond}
-use Rattle.seed.proofs.Laws.{else-hit, else-miss, third-hit, third-miss, third-end, second-step, second-end}
+use Rattle.seed.specs.Found.{seedFound}
+use Rattle.seedless.specs.Parts.{withSecond}
+use Rattle.seedless.proofs.Laws.{third-hit, third-miss, third-end, second-step, second-end}
+use Rattle.seed.proofs.Laws.{else-hit, else-miss}
 
 -- ---- the third point
 

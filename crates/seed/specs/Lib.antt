@@ -1,4 +1,2 @@
--- What the crate's contracts cite, leaves first.
+-- What the crate's contracts cite.
 pub mod Found
-pub mod Judged
-pub mod Seedless

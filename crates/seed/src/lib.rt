@@ -1,6 +1,4 @@
 // The search for a seed triangle.
-pub mod seedless;
-mod three;
 mod triples;
 
 use decisions::Scene;

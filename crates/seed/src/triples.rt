@@ -15,9 +15,9 @@ ghost use Rattle.lists.specs.Lists.{upFrom};
 ghost use Rattle.decisions.specs.Decisions.{isClose, floatsOf};
 ghost use Rattle.filters.specs.Refused.{Limiting};
 ghost use Rattle.nearby.specs.Ready.{Held, Listed, usedIn, listed, Kept};
-ghost use Rattle.seed.specs.Found.{seedFound, withSecond, withFirst};
-ghost use Rattle.seed.specs.Judged.{Judged};
-ghost use Rattle.seed.specs.Seedless.{KnownFrom};
+ghost use Rattle.seedless.specs.Parts.{withSecond, withFirst};
+ghost use Rattle.seed.specs.Found.{seedFound, KnownFrom};
+ghost use Rattle.three_points.specs.Judged.{Judged};
 
 // Whether j may be the second point after i.
 fn is_second(s: Scene, points: &[f32], w: &[u32], radius: f32, i: usize, j: usize) -> bool
@@ -231,7 +231,7 @@ pub fn find_from(
             i += 1;
             continue;
         }
-        let check = crate::seedless::check_first(s, points, w, radius, lo, i, hash, limits, purse);
+        let check = seedless::check_first(s, points, w, radius, lo, i, hash, limits, purse);
         let found = try_unless_seedless(s, points, w, radius, i, hash, limits, check.seedless);
         if let Seed::Triangle(a, b, c) = found {
             return Search {

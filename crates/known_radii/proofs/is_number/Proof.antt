@@ -3,7 +3,6 @@ use mathlib.Core.Path.{sym, subst}
 use lib.Dec.{T}
 use lib.Ieee.{ofBits}
 use Rattle.known_radii.proofs.Larger.{finite-below}
-use borrow.Author.Needs.{needs}
 use Rattle.known_radii.proofs.is_number.Statement.{statement}
 use Rattle.known_radii.proofs.is_number.Tie as tie
 

@@ -4,7 +4,7 @@ use Rattle.patch.specs.Search.{searching}
 use Rattle.nearby.specs.Ready.{usedIn}
 use Rattle.nearby.proofs.Keeping.{kept-self}
 use Rattle.seed.specs.Found.{seedFound}
-use Rattle.seed.proofs.Nothing.{refuses-all-nothing}
+use Rattle.seedless.proofs.Nothing.{refuses-all-nothing}
 use Rattle.seed.proofs.WithArea.{seed-area}
 use borrow.Author.Needs.{needs}
 use Rattle.seed.proofs.find_seed_triangle.Statement.{statement}

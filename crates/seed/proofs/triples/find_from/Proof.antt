@@ -1,14 +1,15 @@
 -- `find_from` meets its contract. The loop's invariant: the points below i have been tried, `left` more unused ones may be, and no three of which one is from lo on and below i make a seed. Assumes nothing.
 use Prim.Native.Nat.{_-_, _≤_}
-use mathlib.Core.Path.{_≡_, sym, ap, _∙_}
+use mathlib.Core.Path.{sym, ap, _∙_}
 use native.Mathlib.Omega.{arith}
 use borrow.Author.Tests.{not-true, not-false}
 use Rattle.nearby.specs.Ready.{usedIn}
 use Rattle.nearby.proofs.Keeping.{kept-on}
 use Rattle.seed.specs.Found.{seedFound}
 use Rattle.seed.proofs.State.{Seeking, seek-start, seek-end, seek-spent, seek-used, seek-kept, seek-hit, seek-miss}
-use Rattle.seed.specs.Seedless.{SeedlessBetween}
-use Rattle.seed.proofs.Threes.{seedless-used, seedless-next, seedless-on, unused-kept, unused-back, seek-seedless}
+use Rattle.seedless.specs.Seedless.{SeedlessBetween}
+use Rattle.seedless.proofs.Threes.{seedless-used, seedless-next, unused-kept}
+use Rattle.seed.proofs.Known.{seedless-on, unused-back, seek-seedless}
 use borrow.Author.Needs.{needs}
 use Rattle.seed.proofs.triples.find_from.Statement.{statement}
 use Rattle.seed.proofs.triples.find_from.Tie as tie

@@ -5,8 +5,8 @@ use borrow.Author.Tests.{not-true, not-false, eq-eqb, ne-eqb}
 use Rattle.patch.specs.Search.{isThird}
 use Rattle.decisions.specs.Decisions.{floatsOf, completes}
 use Rattle.nearby.specs.Ready.{usedIn}
-use Rattle.seed.proofs.Nothing.{limits-third}
-use Rattle.seed.proofs.Points.{refused-points}
+use Rattle.seedless.proofs.Nothing.{limits-third}
+use Rattle.three_points.proofs.Points.{refused-points}
 use Rattle.seed.proofs.triples.is_third.Statement.{statement}
 use Rattle.seed.proofs.triples.is_third.Tie as tie
 

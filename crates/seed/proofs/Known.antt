@@ -1,0 +1,36 @@
+-- What the passes tell the loop of `find_from`. Assumes nothing.
+use Prim.Native.Nat.{ℕ, _+_, _≤_, _<_}
+use mathlib.Core.Path.{_≡_, sym, ap, _∙_, subst}
+use mathlib.Core.Logic.{⊎-elim}
+use mathlib.Core.Bool.{Bool, true, false}
+use mathlib.Core.List.{List}
+use mathlib.Core.Option.{none}
+use native.Mathlib.Omega.{arith}
+use lib.ListN.{take}
+use lib.Ieee.{Float}
+use Rattle.lists.specs.Lists.{unused}
+use Rattle.lists.proofs.Bools.{either}
+use Rattle.spatial_hash.specs.declared.Hash.{Hash}
+use Rattle.decisions.specs.declared.Scene.{Scene}
+use Rattle.decisions.specs.Decisions.{floatsOf}
+use Rattle.nearby.specs.Ready.{Kept, usedIn}
+use Rattle.seedless.specs.Parts.{withFirst}
+use Rattle.seedless.specs.Seedless.{SeedlessFrom, SeedlessBetween}
+use Rattle.seedless.proofs.Threes.{seedless-next, seedless-nothing}
+use Rattle.seed.specs.Found.{KnownFrom}
+use Rattle.seed.proofs.State.{Seeking}
+
+-- what is known after a point, either way
+pub seedless-on : {s : Scene} {pts : List Float} {r : Float} {lo i : ℕ} {w₀ w : List ℕ} {seedless : Bool} {m : ℕ} → SeedlessBetween s pts r (usedIn s w₀) lo i → Kept s w₀ w → (seedless ≡ true → SeedlessFrom s pts r (usedIn s w) lo i) → KnownFrom lo i seedless m → SeedlessBetween s pts r (usedIn s w₀) m (i + 1)
+seedless-on {s} {pts} {r} {i = i} {w₀ = w₀} {seedless = seedless} {m = m} b k f n = ⊎-elim
+    (λ (t : seedless ≡ true). subst (λ (x : ℕ). SeedlessBetween s pts r (usedIn s w₀) x (i + 1)) (sym (n .same t)) (seedless-next {w₀ = w₀} b k (f t)))
+    (λ (t : seedless ≡ false). λ a ha la. absurd (omega (arith, n .next t)))
+    (either seedless)
+
+pub unused-back : {s : Scene} {w v : List ℕ} {t : Bool} (i : ℕ) → Kept s w v → unused (usedIn s v) i ≡ t → unused (usedIn s w) i ≡ t
+unused-back {s} i k h = ap (λ (l : List ℕ). unused (take (s .n) l) i) (sym (k .after)) ∙ h
+
+pub seek-seedless : {s : Scene} {pts : List Float} {r : Float} {hash : Hash} {w₀ v : List ℕ} {left lo i : ℕ} → Seeking s pts r hash w₀ v left i → i < s .n → lo ≤ i → unused (usedIn s v) i ≡ true → SeedlessBetween s pts r (usedIn s w₀) lo (i + 1)
+    → withFirst (floatsOf s pts) r (usedIn s v) i ≡ none
+seek-seedless {s} {pts} {r} {w₀ = w₀} {i = i} k hi hl u b =
+    ap (λ (l : List ℕ). withFirst (floatsOf s pts) r (take (s .n) l) i) (k .kept .after) ∙ seedless-nothing (usedIn s w₀) (unused-back {s = s} i (k .kept) u) hi hl b

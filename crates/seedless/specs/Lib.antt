@@ -1,0 +1,3 @@
+-- What the crate's contracts cite, leaves first.
+pub mod Parts
+pub mod Seedless

@@ -1,0 +1,329 @@
+// Points no three of which make a seed, whichever of them comes first: each three are looked at once. What that may
+// take is paid from a purse, to which each first point adds what a search in the definition's order takes there; so it
+// never takes much more than that, whatever the cloud. A purse decides nothing but which of two searches with the same
+// answer is made.
+use decisions::Scene;
+use filters::Limits;
+use spatial_hash::Hash;
+ghost use mathlib.Core.Path.{_≡_};
+ghost use mathlib.Core.Bool.{true};
+ghost use Prim.Native.Nat.{_*_, _≤_, _<_};
+ghost use lib.ListN.{length};
+ghost use Rattle.lists.specs.Lists.{unused};
+ghost use Rattle.regions.specs.Regions.{wordsLength};
+ghost use Rattle.spatial_hash.specs.Near.{Hashed};
+ghost use Rattle.filters.specs.Refused.{Limiting};
+ghost use Rattle.nearby.specs.Ready.{Held, Listed, Kept, usedIn};
+ghost use Rattle.three_points.specs.Judged.{Judged};
+ghost use Rattle.seedless.specs.Seedless.{SeedlessAfter, AllSeedless, SeedlessFrom, SeedlessBetween};
+ghost use Rattle.seedless.specs.Seedless.{isOther, isLeft, Left, AllLeftSeedless};
+
+// What is left of a purse once it is told that points i and j make no seed with any of the listed points from a place
+// on; 0 if that was not told.
+fn pay_beside(
+    s: Scene,
+    points: &[f32],
+    w: &[u32],
+    count: usize,
+    radius: f32,
+    limits: Limits,
+    i: usize,
+    j: usize,
+    from: usize,
+    purse: usize,
+) -> usize
+    requires { ⌜ Held s (now points) (now w) × Listed s (now w) count × (i < s .n) × (j < s .n)
+        × Judged s (now points) radius limits ⌝ }
+    ensures { λ r. ⌜ (0 < r
+        → SeedlessAfter s (now (points .entry)) radius (now (w .entry)) count i j from) ⌝ }
+{
+    let mut left = purse;
+    let mut m = from;
+    while m < count {
+        let k = nearby::listed_point(s, w, count, m);
+        let price = three_points::price_of(s, points, radius, limits, i, j, k);
+        if price == 0 {
+            return 0;
+        }
+        if left <= price {
+            return 0;
+        }
+        left -= price;
+        m += 1;
+    }
+    left
+}
+
+// The same once it is told that no two of the listed points make a seed with point i.
+fn pay_all(
+    s: Scene,
+    points: &[f32],
+    w: &[u32],
+    count: usize,
+    radius: f32,
+    limits: Limits,
+    i: usize,
+    purse: usize,
+) -> usize
+    requires { ⌜ Held s (now points) (now w) × Listed s (now w) count × (i < s .n)
+        × Judged s (now points) radius limits ⌝ }
+    ensures { λ r. ⌜ (0 < r
+        → AllSeedless s (now (points .entry)) radius (now (w .entry)) count i) ⌝ }
+{
+    let mut left = purse;
+    let mut m: usize = 0;
+    while m < count {
+        let j = nearby::listed_point(s, w, count, m);
+        m += 1;
+        left = pay_beside(s, points, w, count, radius, limits, i, j, m, left);
+        if left == 0 {
+            return 0;
+        }
+    }
+    left
+}
+
+// Whether point k comes after point i or before point lo.
+fn is_other(lo: usize, i: usize, k: usize) -> bool
+    ensures { λ r. ⌜ r ≡ isOther lo i k ⌝ }
+{
+    if i < k {
+        return true;
+    }
+    k < lo
+}
+
+// Whether it is unused besides.
+fn is_left(s: Scene, w: &[u32], lo: usize, i: usize, k: usize) -> bool
+    requires { ⌜ (s .n ≤ 4096) × (wordsLength (s .n) ≤ length (now w)) × (k < s .n) ⌝ }
+    ensures { λ r. ⌜ r ≡ isLeft s lo i (now (w .entry)) k ⌝ }
+{
+    if !is_other(lo, i, k) {
+        return false;
+    }
+    nearby::is_unused(s, w, k)
+}
+
+// Leaves those of the listed points that are unused and come after point i or before point lo, in no order, and returns
+// how many they are.
+fn keep_left(s: Scene, w: &mut [u32], found: usize, lo: usize, i: usize) -> usize
+    requires { ⌜ (s .n ≤ 4096) × (wordsLength (s .n) ≤ length (now w)) × Listed s (now w) found ⌝ }
+    ensures { λ r. ⌜ Left s lo i (now (w .entry)) (now (w .exit)) found r ⌝ }
+{
+    let at = regions::NEIGHBORS * s.n;
+    let mut kept: usize = 0;
+    let mut m: usize = 0;
+    while m < found {
+        let k = w[at + m];
+        m += 1;
+        if is_left(s, w, lo, i, k as usize) {
+            w[at + kept] = k;
+            kept += 1;
+        }
+    }
+    kept
+}
+
+// Of the listed points, each taken with the one half the list on, how many are near each other.
+fn count_near(s: Scene, points: &[f32], w: &[u32], count: usize, far: f32) -> usize
+    requires { ⌜ Held s (now points) (now w) × Listed s (now w) count ⌝ }
+    ensures { λ r. ⌜ r ≤ count ⌝ }
+{
+    let half = count / 2;
+    let mut near: usize = 0;
+    let mut m: usize = 0;
+    while m < half {
+        let p = points::point_at(points, nearby::listed_point(s, w, count, m));
+        let q = points::point_at(points, nearby::listed_point(s, w, count, half + m));
+        m += 1;
+        if vector::distance_squared(p, q) <= far {
+            near += 1;
+        }
+    }
+    near
+}
+
+// What a purse holds once an amount is added, as far as that can be told.
+fn added(purse: usize, amount: usize) -> usize {
+    if purse > 0x1000_0000_0000 {
+        return purse;
+    }
+    if amount > 0x1000_0000_0000 {
+        return purse;
+    }
+    purse + amount
+}
+
+// What a search in the definition's order takes at a first point with so many neighbours, where so many of half as many
+// pairs are near each other.
+fn work_of(count: usize, near: usize) -> usize
+    requires { ⌜ (count ≤ 4096) × (near ≤ 4096) ⌝ }
+{
+    count * (count + 16 * near)
+}
+
+// What a purse has to hold before a point with so many neighbours is looked at: more for the first, since each that
+// follows costs less.
+fn least_purse(count: usize, begun: bool) -> usize
+    requires { ⌜ count ≤ 4096 ⌝ }
+{
+    if begun {
+        return count * (13 * count);
+    }
+    count * (count * (13 + count / 3))
+}
+
+// What is told of a first point, and what is left to pay with.
+pub struct Checked {
+    pub seedless: bool,
+    pub purse: usize,
+}
+
+// What is left of a purse once it is told that no two of the `found` points that are unused and come after point i or
+// before point lo make a seed with it; 0 if that was not told.
+fn pay_found(
+    s: Scene,
+    points: &[f32],
+    w: &mut [u32],
+    found: usize,
+    radius: f32,
+    lo: usize,
+    i: usize,
+    limits: Limits,
+    purse: usize,
+) -> usize
+    requires { ⌜ Held s (now points) (now w) × Listed s (now w) found × (i < s .n)
+        × Judged s (now points) radius limits ⌝ }
+    ensures { λ r. ⌜ (0 < r → AllLeftSeedless s (now (points .entry)) radius lo i (now (w .entry)) found)
+        × Kept s (now (w .entry)) (now (w .exit)) ⌝ }
+{
+    let count = keep_left(s, w, found, lo, i);
+    pay_all(s, points, w, count, radius, limits, i, purse)
+}
+
+// Whether no two unused points after point i or before point lo make a seed with it, if that is paid for.
+pub fn check_first(
+    s: Scene,
+    points: &[f32],
+    w: &mut [u32],
+    radius: f32,
+    lo: usize,
+    i: usize,
+    hash: Hash,
+    limits: Limits,
+    purse: usize,
+) -> Checked
+    requires { ⌜ Held s (now points) (now w) × Hashed hash (now points) (s .n) (now w) × (i < s .n)
+        × Limiting s radius limits ⌝ }
+    ensures { λ r. ⌜ (r .seedless ≡ true
+        → SeedlessFrom s (now (points .entry)) radius (usedIn s (now (w .entry))) lo i)
+        × Kept s (now (w .entry)) (now (w .exit)) ⌝ }
+{
+    let place = points::point_at(points, i);
+    let found = spatial_hash::gather_within(
+        points,
+        w,
+        s.n,
+        hash,
+        place,
+        radius * 2.002,
+        limits.far,
+    );
+    let near = count_near(s, points, w, found, limits.far);
+    let work = work_of(found, near);
+    let begun = lo < i;
+    if purse < least_purse(found, begun) {
+        return Checked {
+            seedless: false,
+            purse: added(purse, work),
+        };
+    }
+    let left = pay_found(s, points, w, found, radius, lo, i, limits, purse);
+    if left == 0 {
+        return Checked {
+            seedless: false,
+            purse: work,
+        };
+    }
+    Checked {
+        seedless: true,
+        purse: added(left, work),
+    }
+}
+
+// What is left of a purse once it is told that no two unused points after point i make a seed with it, if it is unused;
+// 0 if that was not told.
+fn pay_unused(
+    s: Scene,
+    points: &[f32],
+    w: &mut [u32],
+    radius: f32,
+    i: usize,
+    hash: Hash,
+    limits: Limits,
+    purse: usize,
+) -> usize
+    requires { ⌜ Held s (now points) (now w) × Hashed hash (now points) (s .n) (now w) × (i < s .n)
+        × Limiting s radius limits ⌝ }
+    ensures { λ r. ⌜ (0 < r → unused (usedIn s (now (w .entry))) i ≡ true
+        → SeedlessFrom s (now (points .entry)) radius (usedIn s (now (w .entry))) 0 i)
+        × Kept s (now (w .entry)) (now (w .exit)) ⌝ }
+{
+    if !nearby::is_unused(s, w, i) {
+        return purse;
+    }
+    let place = points::point_at(points, i);
+    let found = spatial_hash::gather_within(
+        points,
+        w,
+        s.n,
+        hash,
+        place,
+        radius * 2.002,
+        limits.far,
+    );
+    pay_found(s, points, w, found, radius, 0, i, limits, purse)
+}
+
+// Whether what is left after a point will do for so many more, each of which costs less than the one before; if nothing
+// is left it won't.
+fn is_enough(before: usize, left: usize, more: usize) -> bool
+    requires { ⌜ more ≤ 4096 ⌝ }
+    ensures { λ r. ⌜ (r ≡ true → 0 < left) ⌝ }
+{
+    if left == 0 {
+        return false;
+    }
+    if before <= left {
+        return true;
+    }
+    before - left <= left / (more / 4 + 1)
+}
+
+// Whether no three unused points make a seed at a radius, whichever of them comes first, if that is paid for.
+pub fn is_exhausted(
+    s: Scene,
+    points: &[f32],
+    w: &mut [u32],
+    radius: f32,
+    hash: Hash,
+    limits: Limits,
+    purse: usize,
+) -> bool
+    requires { ⌜ Held s (now points) (now w) × Hashed hash (now points) (s .n) (now w) × Limiting s radius limits ⌝ }
+    ensures { λ r. ⌜ (r ≡ true → SeedlessBetween s (now (points .entry)) radius (usedIn s (now (w .entry))) 0 (s .n))
+        × Kept s (now (w .entry)) (now (w .exit)) ⌝ }
+{
+    let n = s.n;
+    let mut left = purse;
+    let mut i: usize = 0;
+    while i < n {
+        let rest = pay_unused(s, points, w, radius, i, hash, limits, left);
+        if !is_enough(left, rest, n - i) {
+            return false;
+        }
+        left = rest;
+        i += 1;
+    }
+    true
+}

@@ -1,0 +1,4 @@
+pub mod Points
+pub mod Measured
+pub mod Low
+pub mod Refused
