@@ -60,7 +60,7 @@ low-third (inf true) h = tt
 low-third (inf false) h = h
 low-third (fin s m e) h = tt
 
-add-under : (x y c d : Float) → T (le x c) → T (le y d) → Low c → Low d → T (le (x ⊕ y) (c ⊕ d))
+pub add-under : (x y c d : Float) → T (le x c) → T (le y d) → Low c → Low d → T (le (x ⊕ y) (c ⊕ d))
 add-under x y c d h k i j =
     let p = le-lt-trans x c (inf false) h i in
     let q = le-lt-trans y d (inf false) k j in

@@ -1,4 +1,4 @@
--- A score is at most that of a larger least angle, a larger aspect ratio and a lesser edge ratio, so one score below a threshold puts those of all orders below it (`all-below`). Assumes nothing.
+-- A score is at most that of a larger least angle, a larger aspect ratio and a lesser edge ratio, so one score below a threshold puts another below it (`score-below`) and those of all orders (`all-below`). Assumes nothing.
 use mathlib.Core.Path.{_≡_, refl}
 use mathlib.Core.Bool.{Bool, true, false, not, cond}
 use lib.Dec.{T}
@@ -64,16 +64,17 @@ edges-under d (fin s n e) h =
 
 -- ---- the score
 
+-- one score below a threshold puts another below it
+pub score-below : (x q d m t e threshold : Float) → (T (not (isNan m)) → T (le x m)) → T (le q t) → (T (not (isNan e)) → T (positive e) × T (le e d)) → T (lt (score m t e) threshold) → T (lt (score x q d) threshold)
+unfolding score
+score-below x q d m t e threshold angle aspect edge low =
+    le-lt-trans (score x q d) (score m t e) threshold
+    (mean-under (part x) (part m) (q ⊗ f32 0x40000000) (t ⊗ f32 0x40000000) (edges d) (edges e) (part-under x m angle) (doubled-le q t aspect) (edges-under d e edge) (below-low (score m t e) threshold low)) low
+
 module _ (a b c m t e X threshold : Float) (above : T (lt (f32 0) threshold)) (angles : AngleBound a b c m) (aspects : AspectBound a b c X t) (number : T (not (isNan t))) (edge : EdgeBound a b c e) (low : T (lt (score m t e) threshold)) where
   score-low : (u v w r : Float) → InOrder a b c u v w → T (le tiny r) → T (le r X) → T (lt (score (leastAngle u v w) (aspectRatio u v w r (radiusOf u v w r)) (edgeRatio u v w)) threshold)
-  unfolding score
   score-low u v w r o h k =
-      let x = leastAngle u v w in
-      let q = aspectRatio u v w r (radiusOf u v w r) in
-      let d = edgeRatio u v w in
-      le-lt-trans (score x q d) (score m t e) threshold
-      (mean-under (part x) (part m) (q ⊗ f32 0x40000000) (t ⊗ f32 0x40000000) (edges d) (edges e) (part-under x m (angles .most u v w o)) (doubled-le q t (aspects .most u v w r o h k number))
-      (edges-under d e (λ n. (edge .above n, edge .least u v w o n))) (below-low (score m t e) threshold low)) low
+      score-below (leastAngle u v w) (aspectRatio u v w r (radiusOf u v w r)) (edgeRatio u v w) m t e threshold (angles .most u v w o) (aspects .most u v w r o h k number) (λ n. (edge .above n, edge .least u v w o n)) low
 
   pub all-below : AllBelow threshold X a b c
   unfolding qualityOf measures degenerate leastAngle
