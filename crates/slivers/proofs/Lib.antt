@@ -1,0 +1,5 @@
+-- Laws of the limits, leaves first.
+pub mod Chain
+pub mod Arc
+pub mod Angle
+pub mod Limits
