@@ -2,25 +2,26 @@
 use mathlib.Core.Path.{_≡_}
 use mathlib.Core.Bool.{not, _&&_}
 use lib.Dec.{T}
-use lib.Ieee.{Float, le, isNan}
+use lib.Ieee.{Float, le, isNan, ofBits}
 use lib.Ieee.Fits.{and-i, and-l, and-r}
 use lib.Ieee.Scale.{finite}
 use Rattle.numbers.specs.Order.{minimum, maximum}
-use Rattle.numbers.specs.Rounded.{_⊕_, _⊗_}
-use Rattle.numbers.proofs.OrderLaws.{finite-number, le-left, le-right, le-refl, le-trans}
+use Rattle.numbers.specs.Rounded.{f32, _⊕_, _⊖_, _⊗_}
+use Rattle.numbers.proofs.OrderLaws.{finite-number, le-left, le-right, le-refl, le-trans, unsigned-le}
 use Rattle.numbers.proofs.Maximum.{maximum-left}
 use Rattle.numbers.proofs.Minimum.{minimum-first}
 use Rattle.numbers.proofs.SumOrder.{add-unsigned}
-use Rattle.numbers.proofs.ProductOrder.{square-unsigned}
+use Rattle.numbers.proofs.ProductOrder.{square-unsigned, square-turned}
 use Rattle.numbers.proofs.Bounded.{add-finite}
 use Rattle.vector.specs.Vector.{Finite, point, difference, magnitudeSquared, cross}
 use Rattle.vector.specs.declared.Point3f.{Point3f}
+use Rattle.vector.proofs.Distances.{magnitude-unsigned}
 use Rattle.bounds.specs.declared.Bounds.{Bounds}
 use Rattle.bounds.specs.declared.Interval.{Interval}
 use Rattle.bounds.specs.Cover.{between}
 use Rattle.bounds.specs.Within.{within}
-use Rattle.intervals.specs.Enclosed.{Between, Squares, Parts, Grown, Differences, Magnitudes, Crosses, CrossSquares}
-use Rattle.intervals.proofs.Ends.{lesser-both, greater-both, difference-between, sum-monotone}
+use Rattle.intervals.specs.Enclosed.{Between, Moderate, Squares, Parts, Grown, Joined, differencesOf, ModerateBox, Magnitudes, Crosses, CrossSquares}
+use Rattle.intervals.proofs.Ends.{finite-between, lesser-both, greater-both, difference-between, sum-monotone}
 
 -- ---- a box by its axes
 
@@ -91,18 +92,36 @@ module _ (b : Bounds) (p : Point3f) {lx ly lz hx hy hz : Float} (ax : T (not (is
 
 -- ---- differences
 
-pub differences-held : (p q : Bounds) {lo hi : Point3f} → lo ≡ difference (p .lo) (q .hi) → hi ≡ difference (p .hi) (q .lo) → Differences p q (record { lo = lo; hi = hi })
-differences-held p q {lo} {hi} el eh = rw (el, eh) (record {
-  has = λ a b f g h k.
-      let i = inside p a h in
-      let j = inside q b k in
-      is-within (record { lo = difference (p .lo) (q .hi); hi = difference (p .hi) (q .lo) }) (difference a b)
-      (unfold difference in record {
-        x-in = difference-between _ _ _ _ (a .x) (b .x) (f .x-finite) (g .x-finite) (i .x-in) (j .x-in);
-        y-in = difference-between _ _ _ _ (a .y) (b .y) (f .y-finite) (g .y-finite) (i .y-in) (j .y-in);
-        z-in = difference-between _ _ _ _ (a .z) (b .z) (f .z-finite) (g .z-finite) (i .z-in) (j .z-in);
-      });
-})
+pub differences-has : (p q : Bounds) (a b : Point3f) → Finite a → Finite b → T (within p a) → T (within q b) → T (within (differencesOf p q) (difference a b))
+unfolding differencesOf difference
+differences-has p q a b f g h k =
+    let i = inside p a h in
+    let j = inside q b k in
+    is-within (differencesOf p q) (difference a b) (record {
+      x-in = difference-between _ _ _ _ (a .x) (b .x) (f .x-finite) (g .x-finite) (i .x-in) (j .x-in);
+      y-in = difference-between _ _ _ _ (a .y) (b .y) (f .y-finite) (g .y-finite) (i .y-in) (j .y-in);
+      z-in = difference-between _ _ _ _ (a .z) (b .z) (f .z-finite) (g .z-finite) (i .z-in) (j .z-in);
+    })
+
+-- one axis of them the other way
+turned : (a b c d : Float) → Moderate (a ⊖ d) (b ⊖ c) → Moderate (c ⊖ b) (d ⊖ a)
+turned a b c d m = record { lo-square = rw (square-turned c b) (m .hi-square); hi-square = rw (square-turned d a) (m .lo-square) }
+
+pub moderate-turned : (p q : Bounds) → ModerateBox (differencesOf p q) → ModerateBox (differencesOf q p)
+unfolding differencesOf difference
+moderate-turned p q m = record { x-moderate = turned _ _ _ _ (m .x-moderate); y-moderate = turned _ _ _ _ (m .y-moderate); z-moderate = turned _ _ _ _ (m .z-moderate) }
+
+-- ---- two intervals
+
+pub joined-held : (a b : Interval) {l g : Float} → (T (not (isNan (a .lo))) → l ≡ minimum (a .lo) (b .lo)) → (T (not (isNan (a .hi))) → g ≡ maximum (a .hi) (b .hi)) → Joined a b (record { lo = l; hi = g })
+joined-held a b {l} {g} el eg = record {
+  holds = λ x y h k.
+      let i = lesser-both (a .lo) (b .lo) (le-left (a .lo) x (h .least)) (le-left (b .lo) y (k .least)) el in
+      let j = greater-both (a .hi) (b .hi) (le-right x (a .hi) (h .most)) (le-right y (b .hi) (k .most)) eg in (
+        record { least = le-trans l (a .lo) x (i .0) (h .least); most = le-trans x (a .hi) g (h .most) (j .0) },
+        record { least = le-trans l (b .lo) y (i .1) (k .least); most = le-trans y (b .hi) g (k .most) (j .1) },
+      );
+}
 
 -- ---- lengths
 
@@ -134,6 +153,13 @@ magnitudes-held v {x} {y} {z} a b c = record {
       let k = add-finite (x .hi) (y .hi) (g .0) in
       record { x-moderate = a .moderate (k .0) (u .x) (i .x-in); y-moderate = b .moderate (k .1) (u .y) (i .y-in); z-moderate = c .moderate (g .1) (u .z) (i .z-in) };
 }
+
+-- if the longest square is at most the largest f32
+pub magnitudes-moderate : (v : Bounds) {r : Interval} → Magnitudes v r → T (le (r .hi) (f32 0x7f7fffff)) → (u : Point3f) → T (within v u) → ModerateBox v
+magnitudes-moderate v {r} m h u k =
+    let i = inside v u k in
+    let z = unsigned-le (magnitudeSquared u) (magnitude-unsigned u (le-right _ (u .x) (i .x-in .least)) (le-right _ (u .y) (i .y-in .least)) (le-right _ (u .z) (i .z-in .least))) in
+    m .moderate (finite-between (f32 0) (r .hi) (f32 0x7f7fffff) (unfold ofBits in tt) (unfold ofBits in tt) (le-trans (f32 0) (magnitudeSquared u) (r .hi) z (m .holds u k .most)) h) u k
 
 -- ---- cross products
 

@@ -40,7 +40,7 @@ above-finite (inf true) x f h = absurd (not-below x f h)
 above-finite (inf false) x f h = inl refl
 above-finite (fin s m e) x f h = inr tt
 
-finite-between : (a x b : Float) → T (finite a) → T (finite b) → T (le a x) → T (le x b) → T (finite x)
+pub finite-between : (a x b : Float) → T (finite a) → T (finite b) → T (le a x) → T (le x b) → T (finite x)
 finite-between a nan b f g h k = absurd (unfold isNan in le-left nan b k)
 finite-between a (inf true) b f g h k = absurd (not-below a f h)
 finite-between a (inf false) b f g h k = absurd (subst (λ (z : Float). T (finite z)) (top-le b k) g)

@@ -46,9 +46,13 @@ pub record Grown (b : Bounds) (p : Point3f) (r : Bounds) : Type 0 where
   pub keeps : (q : Point3f) → Finite p → T (within b q) → T (within r q)
   pub own : Finite p → T (within r p)
 
--- r has the differences of the points of two boxes
-pub record Differences (p q r : Bounds) : Type 0 where
-  pub has : (a b : Point3f) → Finite a → Finite b → T (within p a) → T (within q b) → T (within r (difference a b))
+-- r holds what either of two intervals does
+pub record Joined (a b r : Interval) : Type 0 where
+  pub holds : (x y : Float) → Holds a x → Holds b y → Holds r x × Holds r y
+
+-- the least and the greatest differences of the points of two boxes
+unfoldable pub differencesOf : Bounds → Bounds → Bounds
+differencesOf p q = record { lo = difference (p .lo) (q .hi); hi = difference (p .hi) (q .lo) }
 
 -- the ends of a box are moderate on each axis
 pub record ModerateBox (v : Bounds) : Type 0 where

@@ -5,10 +5,12 @@ mod axis;
 use bounds::Bounds;
 use bounds::Interval;
 use vector::Point3f;
+ghost use mathlib.Core.Path.{_≡_};
 ghost use lib.Dec.{T};
 ghost use Rattle.vector.specs.Vector.{Finite};
 ghost use Rattle.bounds.specs.Within.{within};
-ghost use Rattle.intervals.specs.Enclosed.{Grown, Differences, Magnitudes, Crosses, CrossSquares};
+ghost use Rattle.intervals.specs.Enclosed.{Grown, Joined, differencesOf, Magnitudes, Crosses};
+ghost use Rattle.intervals.specs.Enclosed.{CrossSquares};
 
 // The box of one point.
 pub fn point_box(p: Point3f) -> Bounds
@@ -34,9 +36,18 @@ pub fn with_point(b: Bounds, p: Point3f) -> Bounds
     Bounds { lo: lo, hi: hi }
 }
 
-// The vectors from points of q to points of p.
+// An interval that holds what either of two does.
+pub fn joined(a: Interval, b: Interval) -> Interval
+    ensures { λ r. ⌜ Joined a b r ⌝ }
+{
+    let lo = axis::lesser(a.lo, b.lo);
+    let hi = axis::greater(a.hi, b.hi);
+    Interval { lo: lo, hi: hi }
+}
+
+// The vectors from points of q to points of p: those between two ends.
 pub fn differences(p: Bounds, q: Bounds) -> Bounds
-    ensures { λ r. ⌜ Differences p q r ⌝ }
+    ensures { λ r. ⌜ r ≡ differencesOf p q ⌝ }
 {
     let lo = vector::difference(p.lo, q.hi);
     let hi = vector::difference(p.hi, q.lo);

@@ -1,5 +1,5 @@
 -- `differences` meets its contract. Assumes nothing.
-use Rattle.intervals.proofs.Boxes.{differences-held}
+use Rattle.intervals.specs.Enclosed.{differencesOf}
 use borrow.Author.Needs.{needs}
 use Rattle.intervals.proofs.differences.Statement.{statement}
 use Rattle.intervals.proofs.differences.Tie as tie
@@ -11,8 +11,8 @@ difference-requires-2 : tie.Need-difference-requires-2
 difference-requires-2 c κs = search needs
 
 returns : tie.Need-returns
-returns c =
-    differences-held _ _ (c .before .difference .ensures) (c .difference2 .ensures)
+unfolding differencesOf
+returns c = cc
 
 pub differences-spec : {M : Type 1} → statement M
 differences-spec = tie.close (tie.spec difference-requires difference-requires-2 returns)

@@ -1,0 +1,13 @@
+-- `refuses` meets its contract. Assumes nothing.
+use Rattle.box_filters.specs.RefusedWithin.{small-areas, large-areas}
+use Rattle.box_filters.proofs.refuses.Statement.{statement}
+use Rattle.box_filters.proofs.refuses.Tie as tie
+
+returns : tie.Need-returns
+returns c = λ h. small-areas (rw (c .if1 .taken) tt)
+
+returns-2 : tie.Need-returns-2
+returns-2 c = λ h. large-areas (rw h tt)
+
+pub refuses-spec : {M : Type 1} → statement M
+refuses-spec = tie.close (tie.spec returns returns-2)

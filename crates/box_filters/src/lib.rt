@@ -1,0 +1,77 @@
+// Tests that refuse every triangle of a point and of points in two boxes at once: what refuses a triangle by squares is
+// asked at the ends of intervals that hold the squares.
+use bounds::Bounds;
+use bounds::Interval;
+use filters::Limits;
+use vector::Point3f;
+ghost use mathlib.Core.Path.{_≡_};
+ghost use mathlib.Core.Bool.{true};
+ghost use Rattle.intervals.specs.Enclosed.{differencesOf, CrossSquares};
+ghost use Rattle.box_filters.specs.RefusedWithin.{EdgesOf, AreasOf, RefusedBy, RefusedWithin};
+
+// The squares of the lengths of three edges: of those between points of p and q, of p and t, and of q and t.
+pub struct Edges {
+    pub pq: Interval,
+    pub pt: Interval,
+    pub qt: Interval,
+}
+
+// Those of the triangles with a point in each of three boxes.
+pub fn edges_of(p: Bounds, q: Bounds, t: Bounds) -> Edges
+    ensures { λ e. ⌜ EdgesOf p q t e ⌝ }
+{
+    let pq = intervals::magnitudes(intervals::differences(q, p));
+    let pt = intervals::magnitudes(intervals::differences(t, p));
+    let qt = intervals::magnitudes(intervals::differences(t, q));
+    Edges {
+        pq: pq,
+        pt: pt,
+        qt: qt,
+    }
+}
+
+// The squares of twice the area of these triangles, whichever of their points comes first; x holds those with a point
+// of p first.
+pub fn areas_of(p: Bounds, q: Bounds, t: Bounds, x: Interval) -> Interval
+    requires { ⌜ CrossSquares (differencesOf q p) (differencesOf t p) x ⌝ }
+    ensures { λ a. ⌜ AreasOf p q t a ⌝ }
+{
+    let tq = intervals::differences(t, q);
+    let y = intervals::cross_squares(intervals::differences(p, q), tq);
+    let z = intervals::cross_squares(intervals::differences(p, t), intervals::differences(q, t));
+    intervals::joined(x, intervals::joined(y, z))
+}
+
+// Whether limits refuse all triangles with such edges and areas.
+fn refuses(l: Limits, e: Edges, area: Interval) -> bool
+    ensures { λ r. ⌜ (r ≡ true → RefusedBy l e area) ⌝ }
+{
+    if area.hi <= l.small {
+        return true;
+    }
+    area.lo >= l.large
+}
+
+// Whether the limits refuse every triangle of p, a point of q and a point of t, whichever of them comes first. The
+// areas with p first are the closest: what they don't refuse, all of them don't.
+pub fn is_refused_within(l: Limits, p: Point3f, q: Bounds, t: Bounds) -> bool
+    ensures { λ r. ⌜ (r ≡ true → RefusedWithin l p q t) ⌝ }
+{
+    let at = intervals::point_box(p);
+    let e = edges_of(at, q, t);
+    if e.qt.lo > l.far {
+        return true;
+    }
+    if !filters::are_at_most(e.pq.hi, e.pt.hi, e.qt.hi, 3.4028235e38) {
+        return false;
+    }
+    let own = intervals::cross_squares(
+        intervals::differences(q, at),
+        intervals::differences(t, at),
+    );
+    if !refuses(l, e, own) {
+        return false;
+    }
+    let area = areas_of(at, q, t, own);
+    refuses(l, e, area)
+}
