@@ -1,6 +1,6 @@
 // The pieces of the arc cosine.
 ghost use mathlib.Core.Path.{_≡_};
-ghost use Rattle.numbers.specs.Acos.{R, abs, cleared, acosMiddle, acosLow, acosHigh, acosInside};
+ghost use Rattle.numbers.specs.Acos.{R, abs, highPart, acosMiddle, acosLow, acosHigh, acosInside};
 
 // v without its sign.
 pub fn abs(v: f32) -> f32
@@ -19,7 +19,7 @@ fn ratio(z: f32) -> f32
 
 // s with its low 12 bits cleared.
 fn clear_low(s: f32) -> f32
-    ensures { λ r. ⌜ r ≡ cleared s ⌝ }
+    ensures { λ r. ⌜ r ≡ highPart s ⌝ }
 {
     if s != s {
         return s;

@@ -20,7 +20,7 @@ use Rattle.patch.specs.Lay.{Face, face}
 use Rattle.lists.proofs.Counts.{count-append}
 use Rattle.lists.proofs.Bools.{and-both, not-true}
 use Rattle.decisions.specs.Found.{areaAt}
-use Rattle.plain.specs.Plain.{candidates, sound, valid, facesOver, facesAt, facesOf, plainFaces}
+use Rattle.plain.specs.Plain.{candidates, sound, valid, facesOver, facesAt, plainFacesFrom, plainFaces}
 use Rattle.arealess.specs.Arealess.{areaZero}
 use Rattle.arealess.proofs.Floats.{zero-le}
 
@@ -71,16 +71,16 @@ module _ (pts : List Float) (radius : Float) where
   at-none i [] = refl
   at-none i (a ∷ bs) = let e = count-append (areaZero pts) (facesOver pts radius i a bs) (facesAt pts radius i bs) in let x = over-none i a bs in let y = at-none i bs in omega arith
 
-  of-none : (is : List ℕ) → count (areaZero pts) (facesOf pts radius is) ≡ 0
-  unfolding facesOf
+  of-none : (is : List ℕ) → count (areaZero pts) (plainFacesFrom pts radius is) ≡ 0
+  unfolding plainFacesFrom
   of-none [] = refl
   of-none (i ∷ is) =
       let now = candidates pts radius i (upFrom 0 i) in
-      let e = count-append (areaZero pts) (facesAt pts radius i now) (facesOf pts radius is) in let x = at-none i now in let y = of-none is in omega arith
+      let e = count-append (areaZero pts) (facesAt pts radius i now) (plainFacesFrom pts radius is) in let x = at-none i now in let y = of-none is in omega arith
 
   pub plain-none : count (areaZero pts) (plainFaces pts radius) ≡ 0
   unfolding plainFaces
-  plain-none = let x = of-none (upFrom 0 (length pts / 3)) in let y = take-few 10000 (facesOf pts radius (upFrom 0 (length pts / 3))) in omega arith
+  plain-none = let x = of-none (upFrom 0 (length pts / 3)) in let y = take-few 10000 (plainFacesFrom pts radius (upFrom 0 (length pts / 3))) in omega arith
     where
       take-few : (k : ℕ) (fs : List Face) → count (areaZero pts) (take k fs) ≤ count (areaZero pts) fs
       take-few zero fs = omega arith

@@ -17,7 +17,7 @@ use Rattle.patch.specs.Shape.{touches}
 use Rattle.patch.specs.View.{flat}
 use Rattle.lists.proofs.Counts.{true-any}
 use Rattle.laying.proofs.Claim.{laid-few}
-use Rattle.plain.specs.Plain.{candidate, candidates, valid, facesOver, facesAt, facesOf, plainFaces}
+use Rattle.plain.specs.Plain.{candidate, candidates, valid, facesOver, facesAt, plainFacesFrom, plainFaces}
 use Rattle.ball_pivoting.specs.Reconstruct.{pointCount, sceneOf, radiiOf, laidOf, laid, plainly, Found, foundAt, found}
 use Rattle.ball_pivoting.proofs.Found.{shape-of, touched-inside}
 
@@ -78,17 +78,17 @@ module _ (n : ℕ) where
     at-inside i [] h u = tt
     at-inside i (a ∷ bs) h u = inside-append (facesOver points radius i a bs) (facesAt points radius i bs) (over-inside i a bs h (below-first n a bs u) (below-rest n a bs u)) (at-inside i bs h (below-rest n a bs u))
 
-    of-inside : (is : List ℕ) → Below n is → Inside n (facesOf points radius is)
-    unfolding facesOf
+    of-inside : (is : List ℕ) → Below n is → Inside n (plainFacesFrom points radius is)
+    unfolding plainFacesFrom
     of-inside [] u = tt
     of-inside (i ∷ is) u =
-        inside-append (facesAt points radius i (candidates points radius i (upFrom 0 i))) (facesOf points radius is)
+        inside-append (facesAt points radius i (candidates points radius i (upFrom 0 i))) (plainFacesFrom points radius is)
         (at-inside i (candidates points radius i (upFrom 0 i)) (below-first n i is u) (candidates-below i (upFrom 0 i) (up-below n 0 i (let l = below-first n i is u in omega arith))))
         (of-inside is (below-rest n i is u))
 
 plain-inside : (points : List Float) (radius : Float) → Inside (length points / 3) (plainFaces points radius)
 unfolding plainFaces
-plain-inside points radius = let n : ℕ = length points / 3 in inside-take n 10000 (facesOf points radius (upFrom 0 n)) (of-inside n points radius (upFrom 0 n) (up-below n 0 n (omega arith)))
+plain-inside points radius = let n : ℕ = length points / 3 in inside-take n 10000 (plainFacesFrom points radius (upFrom 0 n)) (of-inside n points radius (upFrom 0 n) (up-below n 0 n (omega arith)))
 
 -- ---- on either
 module _ (c : BallPivotingConfig) (pts : List Float) where

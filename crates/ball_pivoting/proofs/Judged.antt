@@ -40,7 +40,7 @@ use Rattle.reaching.proofs.Growing.{floats-grow}
 use Rattle.reaching.proofs.Rising.{radii-rising}
 use Rattle.reaching.proofs.Positive.{cell-positive}
 use Rattle.judged.specs.Triples.{Fresh}
-use Rattle.ball_pivoting.specs.Reconstruct.{pointCount, indexOf, sceneOf, radiiOf, laidOf, laid, plainly, foundAt, found, reachedAt, judgedAt, reasonBy, reason}
+use Rattle.ball_pivoting.specs.Reconstruct.{pointCount, spatialIndexOf, sceneOf, radiiOf, laidOf, laid, plainly, foundAt, found, reachedAt, judgedAt, reasonBy, reason}
 
 -- ---- where no face is laid no point is used
 no-faces-count : (p : Face → Bool) (fs : List Face) → length fs ≡ 0 → count p fs ≡ 0
@@ -74,7 +74,7 @@ fresh-after {s} {pts = pts} rule rs h g z =
 -- ---- the last radius decides
 module _ (c : BallPivotingConfig) (pts : List Float) (settled : Settled c) where
   grow : (r t : Float) → T (le r t) → Grows (floatsOf (sceneOf c pts) pts) r t
-  unfolding sceneOf indexOf
+  unfolding sceneOf spatialIndexOf
   grow r t h = floats-grow (sceneOf c pts) pts (cell-positive c settled) r t h
 
   each-grows : (r : Float) (rs : List Float) → All (λ (y : Float). T (le r y)) rs → Each (Grows (floatsOf (sceneOf c pts) pts) r) rs
@@ -94,7 +94,7 @@ module _ (c : BallPivotingConfig) (pts : List Float) (settled : Settled c) where
     pub last-judged : (r : Float) (rs : List Float) → radiiOf c pts ≡ r ∷ rs → judgedAt c pts (radiiOf c pts) ≡ reachedAt c pts (lastFrom r rs)
     unfolding judgedAt radiiOf
     last-judged r rs e =
-        let o : Rising (radiiOf c pts) = radii-rising c (indexOf c pts) pts (pointCount pts) numbers some settled in
+        let o : Rising (radiiOf c pts) = radii-rising c (spatialIndexOf c pts) pts (pointCount pts) numbers some settled in
         ap (judgedAt c pts) e ∙ rising-decides r rs (subst Rising e o)
 
     -- the reason that is asked at the last of the listed radii

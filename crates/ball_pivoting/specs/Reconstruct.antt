@@ -30,21 +30,21 @@ abbrev pub pointCount : List Float → ℕ
 pointCount pts = length pts / 3
 
 -- the index over the points, with cells of radius × factor
-unfoldable pub indexOf : BallPivotingConfig → List Float → SpatialGrid
-indexOf c pts = gridOf (c .radius ⊗ c .«spatial_cell_factor») pts (pointCount pts)
+unfoldable pub spatialIndexOf : BallPivotingConfig → List Float → SpatialGrid
+spatialIndexOf c pts = gridOf (c .radius ⊗ c .«spatial_cell_factor») pts (pointCount pts)
 
 unfoldable pub sceneOf : BallPivotingConfig → List Float → Scene
 sceneOf c pts = record {
   n = pointCount pts;
   indexed = c .«use_spatial_index»;
-  grid = indexOf c pts;
+  grid = spatialIndexOf c pts;
   «min_triangle_area» = c .«min_triangle_area»;
   «quality_threshold» = c .«quality_threshold»;
   «max_edge_factor» = c .«max_edge_factor»;
 }
 
 unfoldable pub radiiOf : BallPivotingConfig → List Float → List Float
-radiiOf c pts = adaptiveRadii c (indexOf c pts) pts (pointCount pts)
+radiiOf c pts = adaptiveRadii c (spatialIndexOf c pts) pts (pointCount pts)
 
 -- the multi-radius path: the state when all radii are done; under rule 1 it is the source's, under rule 2 a queue
 -- takes the place of its heap

@@ -19,13 +19,13 @@ use Rattle.domain.specs.Refusals.{check, firstRefusal, sizeChecks, pointCheck, 
 use Rattle.domain.specs.declared.Refusal.{Refusal}
 use Rattle.domain.proofs.Accepted.{accepted-reconstruct}
 use Rattle.grid.specs.declared.SpatialGrid.{SpatialGrid}
-use Rattle.radii.specs.Radii.{stepOf, sampleCount, average, nearOf, nearest, densitiesFrom, candidates, radiiFrom, adaptiveRadii}
+use Rattle.radii.specs.Radii.{stepOf, sampleCount, average, nearOf, nearest, densitiesFrom, radiusCandidates, radiiFrom, adaptiveRadii}
 use Rattle.patch.specs.Lay.{Edge, same, face, State, Rules, Pop, withFace, cleared, seeded, popped, met, pivoted, judged, look, next, run, begun, layOne, layAll, blank, patch}
 use Rattle.patch.specs.Frontier.{popOf}
 use Rattle.patch.specs.Search.{searching}
 use Rattle.decisions.specs.Decisions.{floatsOf}
 use Rattle.ball_pivoting.specs.declared.Patch.{Patch}
-use Rattle.ball_pivoting.specs.Reconstruct.{pointCount, indexOf, sceneOf, radiiOf, laidOf, Found, laid, plainly, foundAt, found, reachedAt, judgedAt, reasonBy, reason, refused, accepted, delivered, reconstructed}
+use Rattle.ball_pivoting.specs.Reconstruct.{pointCount, spatialIndexOf, sceneOf, radiiOf, laidOf, Found, laid, plainly, foundAt, found, reachedAt, judgedAt, reasonBy, reason, refused, accepted, delivered, reconstructed}
 use Rattle.ball_pivoting.proofs.Found.{found-most}
 use Rattle.cases.specs.Rules.{ruled}
 
@@ -89,19 +89,19 @@ module _ (a b : ℕ) (c : BallPivotingConfig) (pts : List Float) where
       ap (λ (later : List Float). cond (eqb (length ds) 0) later (average ds ∷ later)) (densities-same g n step (i + step) m)
 
   radii-at : (ds : List Float) → radiiFrom (ruled b c) ds ≡ radiiFrom (ruled a c) ds
-  unfolding radiiFrom candidates
+  unfolding radiiFrom radiusCandidates
   radii-at [] = refl
   radii-at (d ∷ ds) = refl
 
   radii-same : radiiOf (ruled b c) pts ≡ radiiOf (ruled a c) pts
-  unfolding radiiOf adaptiveRadii indexOf
+  unfolding radiiOf adaptiveRadii spatialIndexOf
   radii-same =
       let n : ℕ = pointCount pts in
       ap (λ (rs : List Float). cond (c .«adaptive_radius») rs [])
-      (radii-at _ ∙ ap (radiiFrom (ruled a c)) (densities-same (indexOf c pts) n (stepOf n) 0 (sampleCount n)))
+      (radii-at _ ∙ ap (radiiFrom (ruled a c)) (densities-same (spatialIndexOf c pts) n (stepOf n) 0 (sampleCount n)))
 
   laid-none : length (laidOf (ruled a c) pts .faces) ≡ 0 → laidOf (ruled b c) pts ≡ laidOf (ruled a c) pts
-  unfolding laidOf sceneOf indexOf patch
+  unfolding laidOf sceneOf spatialIndexOf patch
   laid-none h =
       let n : ℕ = pointCount pts in
       let rules = searching (floatsOf (sceneOf (ruled a c) pts) pts) n in
@@ -118,7 +118,7 @@ module _ (a b : ℕ) (c : BallPivotingConfig) (pts : List Float) where
   found-none h = ap (foundAt (ruled b c) pts) radii-same ∙ found-at (radiiOf (ruled a c) pts) h
 
   judged-at : (rs : List Float) → judgedAt (ruled b c) pts rs ≡ judgedAt (ruled a c) pts rs
-  unfolding judgedAt reachedAt sceneOf indexOf
+  unfolding judgedAt reachedAt sceneOf spatialIndexOf
   judged-at [] = refl
   judged-at (r ∷ rs) = refl
 

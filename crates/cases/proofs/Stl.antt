@@ -12,7 +12,7 @@ use Rattle.ranges.specs.Range.{inside, leading, firstOutside}
 use Rattle.words.specs.Words.{word, wordAt}
 use Rattle.words.specs.Chunks.{chunks}
 use Rattle.facets.specs.Format.{divided, normal, vertex, facet, stl, vertexAt, cornersOf, isFile, corners}
-use Rattle.stl_file.specs.Answers.{allBelow, notWritten, judged, notRead, found}
+use Rattle.stl_file.specs.Answers.{allBelow, notWritten, stlOutcome, notRead, found}
 
 -- the points (0, 0, 0), (2, 0, 0), (0, 2, -0)
 abbrev three : List Float
@@ -53,23 +53,23 @@ unfolding found isFile wordAt foreign
 read-refused = (refl, (refl, (refl, refl)))
 
 -- ---- writing: room for one face, and a byte less
-written-room : (judged three turned 134 ≡ record { answer = 0; detail = 0; length = 134 }) × (judged three turned 133 ≡ notWritten 13 0)
-unfolding judged allBelow firstOutside leading inside neg lt le eq ofBits
+written-room : (stlOutcome three turned 134 ≡ record { answer = 0; detail = 0; length = 134 }) × (stlOutcome three turned 133 ≡ notWritten 13 0)
+unfolding stlOutcome allBelow firstOutside leading inside neg lt le eq ofBits
 written-room = (refl, refl)
 
 -- 2 for points and for faces; 14 for the number of the points, even with no points; no points and no faces are taken
-written-refused : (judged (f32 0 ∷ []) turned 200 ≡ notWritten 2 0) × ((judged three (0 ∷ []) 200 ≡ notWritten 2 0) × ((judged three (0 ∷ 3 ∷ 0 ∷ []) 200 ≡ notWritten 14 0)
-    × ((judged [] turned 200 ≡ notWritten 14 0) × (judged [] [] 84 ≡ record { answer = 0; detail = 0; length = 84 }))))
-unfolding judged allBelow firstOutside leading inside neg lt le eq ofBits
+written-refused : (stlOutcome (f32 0 ∷ []) turned 200 ≡ notWritten 2 0) × ((stlOutcome three (0 ∷ []) 200 ≡ notWritten 2 0) × ((stlOutcome three (0 ∷ 3 ∷ 0 ∷ []) 200 ≡ notWritten 14 0)
+    × ((stlOutcome [] turned 200 ≡ notWritten 14 0) × (stlOutcome [] [] 84 ≡ record { answer = 0; detail = 0; length = 84 }))))
+unfolding stlOutcome allBelow firstOutside leading inside neg lt le eq ofBits
 written-refused = (refl, (refl, (refl, (refl, refl))))
 
 -- 10,000 is inside and the next f32 not; a point that no face names is looked at, and the first one tells
-far-points : (judged (f32 0x461c4000 ∷ f32 0xc61c4000 ∷ f32 0 ∷ []) [] 84 ≡ record { answer = 0; detail = 0; length = 84 })
-    × (judged (three ++ (f32 0 ∷ f32 0x461c4001 ∷ f32 0 ∷ []) ++ (f32 0x7f800000 ∷ f32 0 ∷ f32 0 ∷ [])) turned 134 ≡ notWritten 4 3)
-unfolding judged allBelow firstOutside leading inside neg lt le eq ofBits
+far-points : (stlOutcome (f32 0x461c4000 ∷ f32 0xc61c4000 ∷ f32 0 ∷ []) [] 84 ≡ record { answer = 0; detail = 0; length = 84 })
+    × (stlOutcome (three ++ (f32 0 ∷ f32 0x461c4001 ∷ f32 0 ∷ []) ++ (f32 0x7f800000 ∷ f32 0 ∷ f32 0 ∷ [])) turned 134 ≡ notWritten 4 3)
+unfolding stlOutcome allBelow firstOutside leading inside neg lt le eq ofBits
 far-points = (refl, refl)
 
 -- in order: 2 before 4, 4 before 14, 14 before 13
-in-order : (judged (f32 0x7f800000 ∷ []) (9 ∷ 9 ∷ 9 ∷ []) 0 ≡ notWritten 2 0) × ((judged (f32 0x7f800000 ∷ f32 0 ∷ f32 0 ∷ []) (9 ∷ 9 ∷ 9 ∷ []) 0 ≡ notWritten 4 0) × (judged three (9 ∷ 9 ∷ 9 ∷ []) 0 ≡ notWritten 14 0))
-unfolding judged allBelow firstOutside leading inside neg lt le eq ofBits
+in-order : (stlOutcome (f32 0x7f800000 ∷ []) (9 ∷ 9 ∷ 9 ∷ []) 0 ≡ notWritten 2 0) × ((stlOutcome (f32 0x7f800000 ∷ f32 0 ∷ f32 0 ∷ []) (9 ∷ 9 ∷ 9 ∷ []) 0 ≡ notWritten 4 0) × (stlOutcome three (9 ∷ 9 ∷ 9 ∷ []) 0 ≡ notWritten 14 0))
+unfolding stlOutcome allBelow firstOutside leading inside neg lt le eq ofBits
 in-order = (refl, (refl, refl))

@@ -10,8 +10,8 @@ use lib.Dec.{T, eqb, leb}
 use lib.ListN.{length, take, drop}
 use lib.Ieee.{Float}
 use Rattle.decimals.specs.Decimal.{decimal}
-use Rattle.numerals.specs.Format.{Parsed, parsed, malformed, then, startsWith, isDigit, digits, few, whole, fraction, magnitude, number}
-use Rattle.cloud_lines.specs.Format.{field, triple, point}
+use Rattle.numerals.specs.Format.{Parsed, parsed, malformed, then, startsWith, isDigit, digits, few, digitsValue, fraction, unsignedNumber, number}
+use Rattle.cloud_lines.specs.Format.{field, triple, pointFields}
 use Rattle.cloud.specs.Format.{Lines, good, wrong, ahead, lines, body, File, cloud, malformedLine, under, file}
 use Rattle.cloud_lines.specs.declared.line.Point.{Point}
 use Rattle.numerals.proofs.Bytes.{both}
@@ -70,25 +70,25 @@ fraction-takes : (negative : Bool) (units : ℕ) (bs : List ℕ) → Takes (feed
 unfolding fraction
 fraction-takes negative units bs =
     let places = digits (drop 1 bs) in
-    let some = parsed (decimal negative units (whole 0 (take places (drop 1 bs))) places) (drop places (drop 1 bs)) in
+    let some = parsed (decimal negative units (digitsValue 0 (take places (drop 1 bs))) places) (drop places (drop 1 bs)) in
     takes-cond (feeds bs) 0 (startsWith 46 bs) (cond (few places 6) some malformed) (parsed (decimal negative units 0 0) bs)
     (λ dot. takes-cond (feeds bs) 0 (few places 6) some malformed
     (λ _. let a = starts-feeds 46 bs (λ (q : 46 ≡ 10). omega arith) dot in let b = digits-feeds places (drop 1 bs) (omega arith) in omega arith) (λ _. tt))
     (λ _. omega arith)
 
-magnitude-takes : (negative : Bool) (bs : List ℕ) → Takes (feeds bs) 0 (magnitude negative bs)
-unfolding magnitude
+magnitude-takes : (negative : Bool) (bs : List ℕ) → Takes (feeds bs) 0 (unsignedNumber negative bs)
+unfolding unsignedNumber
 magnitude-takes negative bs =
     let count = digits bs in
     let e : feeds bs ≡ feeds (drop count bs) = digits-feeds count bs (omega arith) in
-    takes-cond (feeds bs) 0 (few count 5) (fraction negative (whole 0 (take count bs)) (drop count bs)) malformed
-    (λ _. subst (λ (n : ℕ). Takes n 0 (fraction negative (whole 0 (take count bs)) (drop count bs))) (sym e) (fraction-takes negative (whole 0 (take count bs)) (drop count bs))) (λ _. tt)
+    takes-cond (feeds bs) 0 (few count 5) (fraction negative (digitsValue 0 (take count bs)) (drop count bs)) malformed
+    (λ _. subst (λ (n : ℕ). Takes n 0 (fraction negative (digitsValue 0 (take count bs)) (drop count bs))) (sym e) (fraction-takes negative (digitsValue 0 (take count bs)) (drop count bs))) (λ _. tt)
 
 number-takes : (bs : List ℕ) → Takes (feeds bs) 0 (number bs)
 unfolding number
 number-takes bs =
-    takes-cond (feeds bs) 0 (startsWith 45 bs) (magnitude true (drop 1 bs)) (magnitude false bs)
-    (λ minus. subst (λ (n : ℕ). Takes n 0 (magnitude true (drop 1 bs))) (sym (starts-feeds 45 bs (λ (q : 45 ≡ 10). omega arith) minus)) (magnitude-takes true (drop 1 bs)))
+    takes-cond (feeds bs) 0 (startsWith 45 bs) (unsignedNumber true (drop 1 bs)) (unsignedNumber false bs)
+    (λ minus. subst (λ (n : ℕ). Takes n 0 (unsignedNumber true (drop 1 bs))) (sym (starts-feeds 45 bs (λ (q : 45 ≡ 10). omega arith) minus)) (magnitude-takes true (drop 1 bs)))
     (λ _. magnitude-takes false bs)
 
 -- a comma takes none, a line feed one
@@ -108,8 +108,8 @@ triple-takes last k ends bs =
     takes-then (feeds bs) 0 (0 + (k + 0)) (field 44 bs) _ (comma-takes bs) (λ x r. takes-then (feeds r) 0 (k + 0) (field 44 r) _ (comma-takes r) (λ y r′.
     takes-then (feeds r′) k 0 (field last r′) _ (ends r′) (λ z rest. omega arith)))
 
-pub point-takes : (bs : List ℕ) → Takes (feeds bs) 1 (point bs)
-unfolding point
+pub point-takes : (bs : List ℕ) → Takes (feeds bs) 1 (pointFields bs)
+unfolding pointFields
 point-takes bs =
     takes-then (feeds bs) 0 1 (triple 44 bs) _ (triple-takes 44 0 comma-takes bs) (λ p r. takes-then (feeds r) 1 0 (triple 10 r) _ (triple-takes 10 1 end-takes r) (λ n rest. omega arith))
 
@@ -124,7 +124,7 @@ unfolding lines feeds Fed ahead
 lines-fed zero [] h = refl
 lines-fed zero (b ∷ bs) h = absurd (omega arith)
 lines-fed (suc fuel) [] h = refl
-lines-fed (suc fuel) (b ∷ bs) h = go (point (b ∷ bs)) (point-takes (b ∷ bs)) (point-below (b ∷ bs)) (λ rest k. lines-fed fuel rest k)
+lines-fed (suc fuel) (b ∷ bs) h = go (pointFields (b ∷ bs)) (point-takes (b ∷ bs)) (point-below (b ∷ bs)) (λ rest k. lines-fed fuel rest k)
   where
     step : (n : ℕ) (p : Point) (l : Lines) → Fed n l → Fed (suc n) (ahead p l)
     step n p (good ps) e = ap suc e

@@ -6,7 +6,7 @@ use native.Mathlib.Omega.{arith}
 use native.Mathlib.Nat.{zero-add, add-zero}
 use lib.ListN.{length, drop, length-drop}
 use Rattle.numerals.specs.Format.{Parsed, parsed, malformed}
-use Rattle.cloud_lines.specs.Format.{point}
+use Rattle.cloud_lines.specs.Format.{pointFields}
 use Rattle.cloud.specs.Format.{Lines, good, wrong, ahead, lines, body}
 use Rattle.cloud.specs.Answers.{counted}
 use Rattle.cloud_lines.specs.declared.line.Point.{Point}
@@ -19,13 +19,13 @@ unfolding lines
 lines-none zero = refl
 lines-none (suc fuel) = refl
 
-pub lines-some : (fuel b : ℕ) (bs : List ℕ) → lines (suc fuel) (b ∷ bs) ≡ elim (point (b ∷ bs)) [ parsed p rest ↦ ahead p (lines fuel rest) | malformed ↦ wrong 1 ]
+pub lines-some : (fuel b : ℕ) (bs : List ℕ) → lines (suc fuel) (b ∷ bs) ≡ elim (pointFields (b ∷ bs)) [ parsed p rest ↦ ahead p (lines fuel rest) | malformed ↦ wrong 1 ]
 unfolding lines
 lines-some fuel b bs = refl
 
 -- the points' lines as a run of lines
 abbrev pub points-run : Run Point Lines
-points-run = record { line = point; lines = lines; none = good []; failed = wrong 1; ahead = ahead; lines-none = lines-none; lines-some = lines-some; shorter = point-shorter }
+points-run = record { line = pointFields; lines = lines; none = good []; failed = wrong 1; ahead = ahead; lines-none = lines-none; lines-some = lines-some; shorter = point-shorter }
 
 pub body-start : (s : List ℕ) (at : ℕ) → From points-run s at (body (drop at s))
 unfolding body
@@ -67,10 +67,10 @@ module _ (s : List ℕ) (from k at : ℕ) (c : Counting s from k at) where
   pub counting-end : length s ≤ at → Counted.Lines k ≡ counted (body (drop from s))
   counting-end h = sym (c .same ∙ ap (onward k) (from-end points-run s at (c .left) (c .source) h) ∙ ap Counted.Lines (add-zero k))
 
-  pub counting-wrong : at < length s → point (drop at s) ≡ malformed → Counted.Malformed (k + 1) ≡ counted (body (drop from s))
+  pub counting-wrong : at < length s → pointFields (drop at s) ≡ malformed → Counted.Malformed (k + 1) ≡ counted (body (drop from s))
   counting-wrong h e = sym (c .same ∙ ap (onward k) (from-wrong points-run s at (c .left) (c .source) h e))
 
-  pub counting-next : at < length s → (p : Point) (next : ℕ) → point (drop at s) ≡ parsed p (drop next s) → Counting s from (k + 1) next
+  pub counting-next : at < length s → (p : Point) (next : ℕ) → pointFields (drop at s) ≡ parsed p (drop next s) → Counting s from (k + 1) next
   counting-next h p next e =
       let n = from-next points-run s at (c .left) (c .source) h p next e in
       let short = point-shorter s at next p e in
@@ -98,7 +98,7 @@ lines-within : (fuel : ℕ) (bs : List ℕ) (n : ℕ) → lines fuel bs ≡ wron
 unfolding lines
 lines-within zero bs n e = let z : _≡_ {A = ℕ} 0 1 = cc in absurd (omega arith)
 lines-within (suc fuel) [] n e = let z : _≡_ {A = ℕ} 0 1 = cc in absurd (omega arith)
-lines-within (suc fuel) (b ∷ bs) n e = go (point (b ∷ bs)) (λ rest k. lines-within fuel rest k) e
+lines-within (suc fuel) (b ∷ bs) n e = go (pointFields (b ∷ bs)) (λ rest k. lines-within fuel rest k) e
   where
     go : (q : Parsed Point) → ((rest : List ℕ) (k : ℕ) → lines fuel rest ≡ wrong k → k ≤ fuel) → elim q [ parsed p rest ↦ ahead p (lines fuel rest) | malformed ↦ wrong 1 ] ≡ wrong n → n ≤ suc fuel
     go (parsed p rest) h q = ahead-within fuel n p (lines fuel rest) (h rest) q

@@ -8,9 +8,9 @@ use lib.ListN.{length, take, drop, set, length-append}
 use lib.Seq.{sets-eq, take-at, drop-append-add, drop-drop}
 use lib.Ieee.{Float}
 use Rattle.numerals.specs.Format.{parsed, malformed}
-use Rattle.cloud_lines.specs.Format.{point}
+use Rattle.cloud_lines.specs.Format.{pointFields}
 use Rattle.cloud.specs.Format.{good, body}
-use Rattle.cloud.specs.Answers.{numbersOf, flat, over}
+use Rattle.cloud.specs.Answers.{numbersOf, coordinatesOf, over}
 use Rattle.cloud.specs.Ready.{Fitting, laid}
 use Rattle.cloud_lines.specs.declared.line.Triple.{Triple}
 use Rattle.cloud_lines.specs.declared.line.Point.{Point}
@@ -24,13 +24,13 @@ put-three d at x y z h =
     rw (two, add-one at) (sets-eq (x ∷ y ∷ z ∷ []) d at h)
 
 -- ---- triples in front of a slice
-flat-length : (ts : List Triple) → length (flat ts) ≡ 3 * length ts
-unfolding flat
+flat-length : (ts : List Triple) → length (coordinatesOf ts) ≡ 3 * length ts
+unfolding coordinatesOf
 flat-length [] = refl
 flat-length (t ∷ ts) = let h = flat-length ts in omega arith
 
-flat-snoc : (ts : List Triple) (t : Triple) → flat (ts ++ (t ∷ [])) ≡ flat ts ++ numbersOf t
-unfolding flat
+flat-snoc : (ts : List Triple) (t : Triple) → coordinatesOf (ts ++ (t ∷ [])) ≡ coordinatesOf ts ++ numbersOf t
+unfolding coordinatesOf
 flat-snoc [] t = refl
 flat-snoc (u ∷ ts) t = ap (λ (l : List Float). u .x ∷ u .y ∷ u .z ∷ l) (flat-snoc ts t)
 
@@ -43,11 +43,11 @@ map-length part [] = refl
 map-length part (p ∷ ps) = ap suc (map-length part ps)
 
 -- one triple more behind those in front
-over-next : (ts : List Triple) (t : Triple) (old : List Float) (i : ℕ) → length (flat ts) ≡ i
-    → take i (over (flat ts) old) ++ numbersOf t ++ drop (i + 3) (over (flat ts) old) ≡ over (flat (ts ++ (t ∷ []))) old
+over-next : (ts : List Triple) (t : Triple) (old : List Float) (i : ℕ) → length (coordinatesOf ts) ≡ i
+    → take i (over (coordinatesOf ts) old) ++ numbersOf t ++ drop (i + 3) (over (coordinatesOf ts) old) ≡ over (coordinatesOf (ts ++ (t ∷ []))) old
 unfolding over
 over-next ts t old i e =
-    let new = flat ts in
+    let new = coordinatesOf ts in
     let front : take i (new ++ drop (length new) old) ≡ new = take-at new (drop (length new) old) i e in
     let back : drop (i + 3) (new ++ drop (length new) old) ≡ drop (length new + 3) old =
     ap (λ (n : ℕ). drop (n + 3) (new ++ drop (length new) old)) (sym e) ∙ drop-append-add new (drop (length new) old) 3 ∙ drop-drop 3 (length new) old in
@@ -63,12 +63,12 @@ module _ (s : List ℕ) (from : ℕ) (points₀ normals₀ : List Float) where
     pub split : f .read ≡ done ++ left
     pub source : From points-run s at (good left)
     pub place : i ≡ 3 * length done
-    pub points-are : points ≡ over (flat (map (λ p. p .position) done)) points₀
-    pub normals-are : normals ≡ over (flat (map (λ p. p .normal) done)) normals₀
+    pub points-are : points ≡ over (coordinatesOf (map (λ p. p .position) done)) points₀
+    pub normals-are : normals ≡ over (coordinatesOf (map (λ p. p .normal) done)) normals₀
 
   module _ (f : Fitting s from points₀ normals₀) where
     pub storing-start : Storing f points₀ normals₀ from 0
-    unfolding flat over
+    unfolding coordinatesOf over
     storing-start = record {
       done = [];
       left = f .read;
@@ -89,12 +89,12 @@ module _ (s : List ℕ) (from : ℕ) (points₀ normals₀ : List Float) where
           (rw (f .lines-good, all) (st .points-are), rw (f .lines-good, all) (st .normals-are))
 
       module _ (inside : at < length s) where
-        pub storing-never : point (drop at s) ≡ malformed → ⊥
+        pub storing-never : pointFields (drop at s) ≡ malformed → ⊥
         storing-never e =
             let w = from-wrong points-run s at (good (st .left)) (st .source) inside e in
             let z : _≡_ {A = ℕ} 0 1 = cc in omega arith
 
-        module _ (p : Point) (next : ℕ) (e : point (drop at s) ≡ parsed p (drop next s)) where
+        module _ (p : Point) (next : ℕ) (e : pointFields (drop at s) ≡ parsed p (drop next s)) where
           -- the point that was read is the first of those left
           first : (l : List Point) × ((st .left ≡ p ∷ l) × From points-run s next (good l))
           first =
@@ -112,13 +112,13 @@ module _ (s : List ℕ) (from : ℕ) (points₀ normals₀ : List Float) where
               let b = f .normals-fit in
               (omega arith, omega arith)
 
-          part-next : (part : Point → Triple) (old old₀ new : List Float) → old ≡ over (flat (map part (st .done))) old₀
-              → new ≡ take i old ++ numbersOf (part p) ++ drop (i + 3) old → new ≡ over (flat (map part (st .done ++ (p ∷ [])))) old₀
+          part-next : (part : Point → Triple) (old old₀ new : List Float) → old ≡ over (coordinatesOf (map part (st .done))) old₀
+              → new ≡ take i old ++ numbersOf (part p) ++ drop (i + 3) old → new ≡ over (coordinatesOf (map part (st .done ++ (p ∷ [])))) old₀
           part-next part old old₀ new was now =
               let ts = map part (st .done) in
-              let len : length (flat ts) ≡ i = flat-length ts ∙ ap (λ (n : ℕ). 3 * n) (map-length part (st .done)) ∙ sym (st .place) in
+              let len : length (coordinatesOf ts) ≡ i = flat-length ts ∙ ap (λ (n : ℕ). 3 * n) (map-length part (st .done)) ∙ sym (st .place) in
               now ∙ ap (λ (l : List Float). take i l ++ numbersOf (part p) ++ drop (i + 3) l) was ∙ over-next ts (part p) old₀ i len
-              ∙ ap (λ (l : List Triple). over (flat l) old₀) (sym (map-snoc part (st .done) p))
+              ∙ ap (λ (l : List Triple). over (coordinatesOf l) old₀) (sym (map-snoc part (st .done) p))
 
           pub storing-next : (points′ normals′ : List Float) → points′ ≡ take i points ++ numbersOf (p .position) ++ drop (i + 3) points
               → normals′ ≡ take i normals ++ numbersOf (p .normal) ++ drop (i + 3) normals → Storing f points′ normals′ next (i + 3)

@@ -26,15 +26,15 @@ pub data Outcome : Type 0 where
   refused : ℕ → ℕ → Outcome
 
 -- The points fit if three times their number is at most the length of each slice.
-unfoldable pub judged : ℕ → ℕ → File → Outcome
-judged p n (malformedLine line) = refused badLine line
-judged p n (cloud radius ps) = cond (leb (3 * length ps) p && leb (3 * length ps) n) (accepted radius ps)
+unfoldable pub outcomeOf : ℕ → ℕ → File → Outcome
+outcomeOf p n (malformedLine line) = refused badLine line
+outcomeOf p n (cloud radius ps) = cond (leb (3 * length ps) p && leb (3 * length ps) n) (accepted radius ps)
     (refused noRoom 0)
 
 -- of the file's bytes and the two slices' lengths
 unfoldable pub outcome : List ℕ → ℕ → ℕ → Outcome
-unfolding file judged
-outcome bytes p n = judged p n (file bytes)
+unfolding file outcomeOf
+outcome bytes p n = outcomeOf p n (file bytes)
 
 unfoldable pub told : Outcome → CloudRead
 told (accepted radius ps) = record { answer = 0; detail = 0; radius = radius; count = length ps }
@@ -45,9 +45,9 @@ abbrev pub numbersOf : Triple → List Float
 numbersOf t = t .x ∷ t .y ∷ t .z ∷ []
 
 -- the numbers of some triples, three to a triple
-unfoldable pub flat : List Triple → List Float
-flat [] = []
-flat (t ∷ ts) = t .x ∷ t .y ∷ t .z ∷ flat ts
+unfoldable pub coordinatesOf : List Triple → List Float
+coordinatesOf [] = []
+coordinatesOf (t ∷ ts) = t .x ∷ t .y ∷ t .z ∷ coordinatesOf ts
 
 -- a list with new numbers in front in place of its own
 unfoldable pub over : List Float → List Float → List Float
@@ -56,8 +56,8 @@ over new old = new ++ drop (length new) old
 -- a slice that takes one part of each point, its position or its normal: the points' numbers in front, or untouched at
 -- a refusal
 unfoldable pub after : (Point → Triple) → Outcome → List Float → List Float
-unfolding flat over
-after part (accepted radius ps) old = over (flat (map part ps)) old
+unfolding coordinatesOf over
+after part (accepted radius ps) old = over (coordinatesOf (map part ps)) old
 after part (refused answer detail) old = old
 
 -- the whole answer: what is told of an outcome, and what each slice holds afterwards

@@ -6,9 +6,9 @@ use lib.ListN.{length}
 use lib.Ieee.{Float}
 unfoldable pub use Rattle.decimals.specs.Decimal.{decimal}
 pub use Rattle.numerals.specs.Format.{Parsed, parsed, malformed}
-unfoldable pub use Rattle.numerals.specs.Format.{then, startsWith, startsDigit, digits, few, whole}
-unfoldable pub use Rattle.numerals.specs.Format.{fraction, magnitude, number}
-unfoldable pub use Rattle.cloud_lines.specs.Format.{field, triple, point}
+unfoldable pub use Rattle.numerals.specs.Format.{then, startsWith, startsDigit, digits, few, digitsValue}
+unfoldable pub use Rattle.numerals.specs.Format.{fraction, unsignedNumber, number}
+unfoldable pub use Rattle.cloud_lines.specs.Format.{field, triple, pointFields}
 use Rattle.cloud_lines.specs.declared.line.Point.{Point}
 
 -- a run of points' lines: the points, or the first malformed line, from 1
@@ -24,10 +24,11 @@ ahead p (wrong line) = wrong (suc line)
 -- points' lines up to the end of the bytes. A line takes at least a byte, so fuel that starts at the number of bytes
 -- lasts.
 unfoldable pub lines : ℕ → List ℕ → Lines
-unfolding then point ahead
+unfolding then pointFields ahead
 lines zero bs = good []
 lines (suc fuel) [] = good []
-lines (suc fuel) (b ∷ bs) = elim (point (b ∷ bs)) [ parsed p rest ↦ ahead p (lines fuel rest) | malformed ↦ wrong 1 ]
+lines (suc fuel) (b ∷ bs) =
+    elim (pointFields (b ∷ bs)) [ parsed p rest ↦ ahead p (lines fuel rest) | malformed ↦ wrong 1 ]
 
 unfoldable pub body : List ℕ → Lines
 unfolding lines

@@ -7,7 +7,7 @@ use lib.Ieee.{Float}
 use Rattle.cloud_lines.specs.declared.line.Triple.{Triple}
 use Rattle.cloud_lines.specs.declared.line.Point.{Point}
 use Rattle.cloud.specs.Format.{body, Lines, good, wrong}
-use Rattle.cloud.specs.Answers.{flat, over}
+use Rattle.cloud.specs.Answers.{coordinatesOf, over}
 
 -- the lines from a place on are well formed, and both slices have room for their points
 pub record Fitting (s : List ℕ) (from : ℕ) (points normals : List Float) : Type 0 where
@@ -18,6 +18,6 @@ pub record Fitting (s : List ℕ) (from : ℕ) (points normals : List Float) : T
 
 -- one part of each point of some lines, in front of a list
 unfoldable pub laid : (Point → Triple) → Lines → List Float → List Float
-unfolding flat over
-laid part (good ps) old = over (flat (map part ps)) old
+unfolding coordinatesOf over
+laid part (good ps) old = over (coordinatesOf (map part ps)) old
 laid part (wrong line) old = old

@@ -7,7 +7,7 @@ mod point_lines;
 ghost use mathlib.Core.Path.{_≡_};
 ghost use lib.ListN.{length, drop};
 ghost use Rattle.cloud.specs.Format.{body, under};
-ghost use Rattle.cloud.specs.Answers.{Outcome, outcome, judged, told, Answered};
+ghost use Rattle.cloud.specs.Answers.{Outcome, outcome, outcomeOf, told, Answered};
 use crate::point_lines::Counted;
 use crate::point_lines::count_points;
 use crate::point_lines::store_points;
@@ -44,7 +44,7 @@ fn read_points(
     normals: &mut [f32],
 ) -> CloudRead
     ensures { λ r. ⌜ Answered
-        (judged (length (now (points .entry))) (length (now (normals .entry)))
+        (outcomeOf (length (now (points .entry))) (length (now (normals .entry)))
         (under radius (body (drop from (now (bytes .entry)))))) (now (points .entry)) (now (normals .entry)) r
         (now (points .exit)) (now (normals .exit)) ⌝ }
 {

@@ -8,7 +8,7 @@ use native.Mathlib.Omega.{arith}
 use lib.ListN.{drop}
 use lib.Seq.{drop-drop}
 use lib.Ieee.{Float}
-use Rattle.numerals.specs.Format.{Parsed, parsed, malformed, then, startsWith, digits, few, fraction, magnitude, number}
+use Rattle.numerals.specs.Format.{Parsed, parsed, malformed, then, startsWith, digits, few, fraction, unsignedNumber, number}
 use Rattle.cloud_lines.specs.Bare.{bare, skipMeans}
 use Rattle.numerals.proofs.Numeral.{few-most, found-rest, number-start}
 
@@ -79,21 +79,21 @@ module _ (s : List ℕ) (at : ℕ) where
   fraction-absent h dot negative units = rw dot (skip-some s at h)
 
   module _ (end : ℕ) (found : end ≡ cond (few (digits (drop at s)) 5) (at + digits (drop at s)) 0) where
-    pub magnitude-none : end ≡ 0 → (negative : Bool) → skipMeans s 0 ≡ bare (magnitude negative (drop at s))
-    unfolding magnitude bare skipMeans
+    pub magnitude-none : end ≡ 0 → (negative : Bool) → skipMeans s 0 ≡ bare (unsignedNumber negative (drop at s))
+    unfolding unsignedNumber bare skipMeans
     magnitude-none z negative =
         let n = digits (drop at s) in
         let e : few n 5 ≡ false = none (few n 5) (at + n) (λ t. let f = few-most n 5 t in omega arith) (sym z ∙ found) in
         rw e
 
     pub magnitude-some : (r : ℕ) → 0 < end → ((negative : Bool) (units : ℕ) → skipMeans s r ≡ bare (fraction negative units (drop end s)))
-        → (negative : Bool) → skipMeans s r ≡ bare (magnitude negative (drop at s))
-    unfolding magnitude
+        → (negative : Bool) → skipMeans s r ≡ bare (unsignedNumber negative (drop at s))
+    unfolding unsignedNumber
     magnitude-some r h go negative =
         let e = some (few (digits (drop at s)) 5) end (at + digits (drop at s)) found h in
         rw (e .0, found-rest s at end (e .1)) (go negative _)
 
-  pub number-skipped : (start r : ℕ) → start ≡ cond (startsWith 45 (drop at s)) (at + 1) at → ((negative : Bool) → skipMeans s r ≡ bare (magnitude negative (drop start s)))
+  pub number-skipped : (start r : ℕ) → start ≡ cond (startsWith 45 (drop at s)) (at + 1) at → ((negative : Bool) → skipMeans s r ≡ bare (unsignedNumber negative (drop start s)))
       → skipMeans s r ≡ bare (number (drop at s))
   number-skipped start r e go = rw (number-start s at, ← e) (go (startsWith 45 (drop at s)))
 

@@ -6,7 +6,7 @@ use Prim.Native.Nat.{ℕ, _-_, _≤_}
 use lib.ListN.{length, drop, length-drop}
 use lib.Ieee.{Float}
 use Rattle.numerals.specs.Format.{Parsed, parsed, malformed}
-use Rattle.cloud_lines.specs.Format.{point}
+use Rattle.cloud_lines.specs.Format.{pointFields}
 use Rattle.numerals.specs.Answers.{numberMeans, numberEnd}
 use Rattle.cloud_lines.specs.Answers.{tripleMeans, pointMeans, tripleEnd, pointEnd}
 use Rattle.cloud_lines.specs.Reading.{readMeans, placeAfter, Stepped}
@@ -57,24 +57,24 @@ triple-within m r t next h e = subst (λ (a : TripleRead). tripleEnd a ≤ m) e 
 
 -- ---- a step of a reader
 module _ (s : List ℕ) (at : ℕ) where
-  pub stepped-line : (r : PointRead) (p : Point) (next : ℕ) → pointMeans s r ≡ point (drop at s) → pointEnd r ≤ length s → r ≡ PointRead.Line p next → Stepped s at (LineRead.Point p) next
+  pub stepped-line : (r : PointRead) (p : Point) (next : ℕ) → pointMeans s r ≡ pointFields (drop at s) → pointEnd r ≤ length s → r ≡ PointRead.Line p next → Stepped s at (LineRead.Point p) next
   unfolding pointEnd readMeans placeAfter
   stepped-line r p next means end e =
-      let got = point-got s r (point (drop at s)) p next means e in
+      let got = point-got s r (pointFields (drop at s)) p next means e in
       let within : next ≤ length s = subst (λ (a : PointRead). pointEnd a ≤ length s) e end in
       let left : length (drop next s) ≡ length s - next = length-drop next s in
       record { means = sym got; place = omega arith ∙ ap (placeAfter (length s) at) (sym got) }
 
-  pub stepped-not : (r : PointRead) → pointMeans s r ≡ point (drop at s) → r ≡ PointRead.Malformed → Stepped s at LineRead.Malformed at
+  pub stepped-not : (r : PointRead) → pointMeans s r ≡ pointFields (drop at s) → r ≡ PointRead.Malformed → Stepped s at LineRead.Malformed at
   unfolding readMeans placeAfter
   stepped-not r means e =
-      let not = point-not s r (point (drop at s)) means e in
+      let not = point-not s r (pointFields (drop at s)) means e in
       record { means = sym not; place = ap (placeAfter (length s) at) (sym not) }
 
-  pub step-got : (read : LineRead) (p : Point) (next : ℕ) → Stepped s at read next → read ≡ LineRead.Point p → point (drop at s) ≡ parsed p (drop next s)
+  pub step-got : (read : LineRead) (p : Point) (next : ℕ) → Stepped s at read next → read ≡ LineRead.Point p → pointFields (drop at s) ≡ parsed p (drop next s)
   unfolding readMeans
-  step-got read p next h = is (readMeans (drop next s)) read (LineRead.Point p) (point (drop at s)) (h .means)
+  step-got read p next h = is (readMeans (drop next s)) read (LineRead.Point p) (pointFields (drop at s)) (h .means)
 
-  pub step-not : (read : LineRead) (next : ℕ) → Stepped s at read next → read ≡ LineRead.Malformed → point (drop at s) ≡ malformed
+  pub step-not : (read : LineRead) (next : ℕ) → Stepped s at read next → read ≡ LineRead.Malformed → pointFields (drop at s) ≡ malformed
   unfolding readMeans
-  step-not read next h = is (readMeans (drop next s)) read LineRead.Malformed (point (drop at s)) (h .means)
+  step-not read next h = is (readMeans (drop next s)) read LineRead.Malformed (pointFields (drop at s)) (h .means)

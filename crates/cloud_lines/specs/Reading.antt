@@ -4,7 +4,7 @@ use mathlib.Core.Path.{_≡_}
 use mathlib.Core.List.{List}
 use lib.ListN.{length, drop}
 use Rattle.numerals.specs.Format.{Parsed, parsed, malformed}
-use Rattle.cloud_lines.specs.Format.{point}
+use Rattle.cloud_lines.specs.Format.{pointFields}
 use Rattle.cloud_lines.specs.declared.line.Point.{Point}
 use Rattle.cloud_lines.specs.declared.reader.LineRead.{LineRead}
 
@@ -20,5 +20,5 @@ placeAfter total at malformed = at
 
 -- the line at a place of the bytes s was read, and the next place is behind it
 pub record Stepped (s : List ℕ) (at : ℕ) (read : LineRead) (next : ℕ) : Type 0 where
-  pub means : readMeans (drop next s) read ≡ point (drop at s)
-  pub place : next ≡ placeAfter (length s) at (point (drop at s))
+  pub means : readMeans (drop next s) read ≡ pointFields (drop at s)
+  pub place : next ≡ placeAfter (length s) at (pointFields (drop at s))

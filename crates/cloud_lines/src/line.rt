@@ -2,7 +2,7 @@
 ghost use mathlib.Core.Path.{_≡_};
 ghost use Prim.Native.Nat.{_≤_};
 ghost use lib.ListN.{length, drop};
-ghost use Rattle.cloud_lines.specs.Format.{field, triple, point};
+ghost use Rattle.cloud_lines.specs.Format.{field, triple, pointFields};
 ghost use Rattle.numerals.specs.Answers.{numberMeans, numberEnd};
 ghost use Rattle.cloud_lines.specs.Answers.{tripleMeans, pointMeans, tripleEnd, pointEnd};
 use numerals::NumberRead;
@@ -91,7 +91,7 @@ pub fn triple_at(s: &[u8], at: usize, last: u8) -> TripleRead
 
 // A point's line.
 pub fn point_at(s: &[u8], at: usize) -> PointRead
-    ensures { λ r. ⌜ pointMeans (now (s .entry)) r ≡ point (drop at (now (s .entry))) ⌝ }
+    ensures { λ r. ⌜ pointMeans (now (s .entry)) r ≡ pointFields (drop at (now (s .entry))) ⌝ }
     ensures { λ r. ⌜ pointEnd r ≤ length (now (s .entry)) ⌝ }
 {
     let TripleRead::Numbers {

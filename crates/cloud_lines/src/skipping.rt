@@ -4,8 +4,8 @@ ghost use mathlib.Core.Path.{_≡_};
 ghost use mathlib.Core.Bool.{Bool, cond};
 ghost use Prim.Native.Nat.{ℕ, _+_, _<_};
 ghost use lib.ListN.{drop};
-ghost use Rattle.numerals.specs.Format.{digits, few, fraction, magnitude, number};
-ghost use Rattle.cloud_lines.specs.Format.{field, triple, point};
+ghost use Rattle.numerals.specs.Format.{digits, few, fraction, unsignedNumber, number};
+ghost use Rattle.cloud_lines.specs.Format.{field, triple, pointFields};
 ghost use Rattle.cloud_lines.specs.Bare.{bare, skipMeans};
 use crate::line::COMMA;
 use crate::line::LINE_FEED;
@@ -39,7 +39,7 @@ fn skip_fraction(s: &[u8], at: usize) -> usize
 // A number without its sign.
 fn skip_magnitude(s: &[u8], at: usize) -> usize
     ensures { λ r. ⌜ ((negative : Bool)
-        → skipMeans (now (s .entry)) r ≡ bare (magnitude negative (drop at (now (s .entry))))) ⌝ }
+        → skipMeans (now (s .entry)) r ≡ bare (unsignedNumber negative (drop at (now (s .entry))))) ⌝ }
 {
     let end = skip_digits(s, at, 5);
     if end == 0 { 0 } else { skip_fraction(s, end) }
@@ -79,7 +79,7 @@ fn skip_triple(s: &[u8], at: usize, last: u8) -> usize
 
 // A point's line.
 pub fn skip_point(s: &[u8], at: usize) -> usize
-    ensures { λ r. ⌜ skipMeans (now (s .entry)) r ≡ bare (point (drop at (now (s .entry)))) ⌝ }
+    ensures { λ r. ⌜ skipMeans (now (s .entry)) r ≡ bare (pointFields (drop at (now (s .entry)))) ⌝ }
 {
     let middle = skip_triple(s, at, COMMA);
     if middle == 0 {

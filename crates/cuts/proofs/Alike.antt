@@ -9,7 +9,7 @@ use Rattle.domain.proofs.Accepted.{accepted-estimate, accepted-reconstruct}
 use Rattle.sorting.specs.Sorted.{sorted}
 use Rattle.radii.specs.Radii.{stepOf, sampleCount}
 use Rattle.estimate.specs.Estimate as estimate
-use Rattle.ball_pivoting.specs.Reconstruct.{pointCount, indexOf, radiiOf}
+use Rattle.ball_pivoting.specs.Reconstruct.{pointCount, spatialIndexOf, radiiOf}
 use Rattle.total_order.specs.TotalOrder.{densitiesOf, samplesOf}
 use Rattle.cuts.specs.Cuts.{CutsSame, EstimateCutsSame}
 use Rattle.cuts.proofs.Cells.{within-range, cells-same, middles-same}
@@ -17,11 +17,11 @@ use Rattle.cuts.proofs.Ranges.{ranges-same, sample-range-same}
 use Rattle.cuts.proofs.Places.{place-same, sorted-length, densities-most, samples-most, samples-few}
 
 pub cuts-alike : CutsSame
-unfolding indexOf radiiOf
+unfolding spatialIndexOf radiiOf
 cuts-alike points normals c words floats e given f32s =
     let a = accepted-reconstruct points normals c words floats e in
     let n : ℕ = pointCount points in
-    let g = indexOf c points in
+    let g = spatialIndexOf c points in
     record {
       cells = λ i l. cells-same c points n (a .cloud) (a .settled) i l;
       middles = λ i j l m. middles-same c points n (a .cloud) (a .settled) f32s i j l m;

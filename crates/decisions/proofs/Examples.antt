@@ -8,7 +8,7 @@ use Rattle.numbers.specs.Rounded.{f32}
 use Rattle.numbers.specs.Root.{root}
 use Rattle.numbers.specs.Order.{minimum, maximum, clamp}
 use Rattle.numbers.specs.Cut.{ceil}
-use Rattle.numbers.specs.Acos.{R, abs, cleared, acosMiddle, acosLow, acosHigh, acosInside, acos}
+use Rattle.numbers.specs.Acos.{R, abs, highPart, acosMiddle, acosLow, acosHigh, acosInside, acos}
 use Rattle.vector.specs.Vector.{point, difference, magnitudeSquared, magnitude, cross, squared, distance}
 use Rattle.quality.specs.Measures.{radiusOf, angle, least, largest, aspectRatio, edgeRatio, score, measures, degenerate}
 use Rattle.triangle.specs.Quality.{area, circumradius, quality, sourceAcceptable, acceptable}
@@ -44,5 +44,5 @@ square :
     × (searching (floatsOf (scene true) corners) 4 .pivotOf (f32 0x3fc00000) (1 ∷ 1 ∷ 1 ∷ 0 ∷ []) (edge 0 2) ≡ some 3)
     × (searching (floatsOf (scene true) corners) 4 .pivotOf (f32 0x3f800000) (1 ∷ 1 ∷ 1 ∷ 0 ∷ []) (edge 0 2) ≡ none)
     × (searching (floatsOf (scene true) corners) 4 .pivotOf (f32 0x3fc00000) (1 ∷ 1 ∷ 1 ∷ 1 ∷ []) (edge 0 2) ≡ none)
-unfolding toUnsigned odd ceil area radiusOf circumradius angle least largest aspectRatio edgeRatio score measures degenerate quality sourceAcceptable acceptable difference magnitudeSquared magnitude cross squared distance minimum maximum clamp R abs cleared acosMiddle acosLow acosHigh acosInside acos root neg add sub mul div lt le eq isNan ofBits toBits pointAt upFrom insertBefore cellOn cellOf before precedes byCell orderOf within inRange rangeOf keep neighbors isSecond isThird thirdOf secondOf firstOf scoreOf bestOf searching apart qualityAt isClose accepts middle around pivotable scoreAt floatsOf
+unfolding toUnsigned odd ceil area radiusOf circumradius angle least largest aspectRatio edgeRatio score measures degenerate quality sourceAcceptable acceptable difference magnitudeSquared magnitude cross squared distance minimum maximum clamp R abs highPart acosMiddle acosLow acosHigh acosInside acos root neg add sub mul div lt le eq isNan ofBits toBits pointAt upFrom insertBefore cellOn cellOf before precedes byCell orderOf within inRange rangeOf keep neighbors isSecond isThird thirdOf secondOf firstOf scoreOf bestOf searching apart qualityAt isClose accepts middle around pivotable scoreAt floatsOf
 square = (refl, refl, refl, refl, refl)

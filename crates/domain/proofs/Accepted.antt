@@ -10,7 +10,7 @@ use lib.ListN.{length, getD}
 use lib.Ieee.{Float, nan, inf, fin, le, neg, ofBits}
 use lib.Ieee.Scale.{finite}
 use borrow.Author.Tests.{leb-true, eqb-true}
-use Rattle.ranges.specs.Range.{inside, leading, firstOutside, firstBadPoint, farthest, largest, percentileInside}
+use Rattle.ranges.specs.Range.{inside, leading, firstOutside, firstBadPoint, farthest, largestFinite, percentileInside}
 use Rattle.settings.specs.Settings.{firstBadSetting}
 use Rattle.domain.specs.Refusals.{check, pointCheck, settingCheck, firstRefusal, pointsChecks, inputChecks}
 use Rattle.domain.specs.Refusals.{roomy, workChecks, estimateRefusal, reconstructRefusal}
@@ -80,13 +80,13 @@ accepted-input points normals settings e =
     let size = size-accepted (length points) (length normals) _ e in
     let four = check-accepted (pointCheck n (firstBadPoint points normals)) _ (λ h. omega arith) (size .1) in
     let five = check-accepted (settingCheck (firstBadSetting settings)) [] (λ h. omega arith) (four .1) in
-    let none : n ≤ min (firstOutside farthest points) (firstOutside largest normals) = leb-true n _ (four .0) in
-    let near : n ≤ firstOutside farthest points = omega (arith, min-le-left (firstOutside farthest points) (firstOutside largest normals)) in
-    let finite : length normals / 3 ≤ firstOutside largest normals = omega (arith, size .0 .as-long, min-le-right (firstOutside farthest points) (firstOutside largest normals)) in
+    let none : n ≤ min (firstOutside farthest points) (firstOutside largestFinite normals) = leb-true n _ (four .0) in
+    let near : n ≤ firstOutside farthest points = omega (arith, min-le-left (firstOutside farthest points) (firstOutside largestFinite normals)) in
+    let finite : length normals / 3 ≤ firstOutside largestFinite normals = omega (arith, size .0 .as-long, min-le-right (firstOutside farthest points) (firstOutside largestFinite normals)) in
     record {
       cloud = cloud-of points normals (size .0) near;
       as-long = size .0 .as-long;
-      finite = all-within largest normals (omega (arith, size .0 .as-long, size .0 .threes)) finite;
+      finite = all-within largestFinite normals (omega (arith, size .0 .as-long, size .0 .threes)) finite;
       settled = settled-of settings (eqb-true (firstBadSetting settings) 0 (five .0));
     }
 

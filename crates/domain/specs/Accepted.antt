@@ -5,7 +5,7 @@ use mathlib.Core.Bool.{true}
 use mathlib.Core.List.{List}
 use lib.ListN.{length, getD}
 use lib.Ieee.{Float, nan, neg}
-use Rattle.ranges.specs.Range.{inside, farthest, largest, percentileInside}
+use Rattle.ranges.specs.Range.{inside, farthest, largestFinite, percentileInside}
 use Rattle.settings.specs.Settled.{Settled}
 use Rattle.settings.specs.declared.BallPivotingConfig.{BallPivotingConfig}
 
@@ -34,13 +34,13 @@ pub record AcceptedEstimate (points : List Float) (percentile : Float) (words fl
 pub record AcceptedInput (points normals : List Float) (settings : BallPivotingConfig) : Type 0 where
   pub cloud : Cloud (length points / 3) points
   pub as-long : length normals ≡ length points
-  pub finite : Within largest normals
+  pub finite : Within largestFinite normals
   pub settled : Settled settings
 
 pub record AcceptedReconstruct (points normals : List Float) (settings : BallPivotingConfig) (words floats : ℕ)
     : Type 0 where
   pub cloud : Cloud (length points / 3) points
   pub as-long : length normals ≡ length points
-  pub finite : Within largest normals
+  pub finite : Within largestFinite normals
   pub settled : Settled settings
   pub room : Room (length points / 3) words floats

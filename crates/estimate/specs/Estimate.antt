@@ -41,11 +41,11 @@ leastDistances pts n step i (suc m) =
 abbrev pub sampleSize : ℕ → ℕ
 sampleSize n = min (max (n / 10) 100) 1000
 
-abbrev pub stepOf : ℕ → ℕ
-stepOf n = max (n / sampleSize n) 1
+abbrev pub estimateStep : ℕ → ℕ
+estimateStep n = max (n / sampleSize n) 1
 
-abbrev pub sampleCount : ℕ → ℕ
-sampleCount n = stepsFrom n (stepOf n) 0
+abbrev pub estimateSamples : ℕ → ℕ
+estimateSamples n = stepsFrom n (estimateStep n) 0
 
 -- of sorted least distances the one at the percentile, times 2.5, or 0.1 if there is none
 unfoldable pub scaled : List Float → Float → Float
@@ -54,7 +54,7 @@ scaled (d ∷ ds) p = percentileOf (d ∷ ds) p ⊗ f32 0x40200000
 
 -- the estimate for n points
 unfoldable pub optimalRadius : List Float → ℕ → Float → Float
-optimalRadius pts n p = scaled (sorted (leastDistances pts n (stepOf n) 0 (sampleCount n))) p
+optimalRadius pts n p = scaled (sorted (leastDistances pts n (estimateStep n) 0 (estimateSamples n))) p
 
 -- whether the checks pass, for work slices of these lengths
 abbrev pub accepted : List Float → Float → ℕ → ℕ → Bool

@@ -11,7 +11,7 @@ use Rattle.ball_pivoting.specs.declared.Patch.{Patch}
 use Rattle.ball_pivoting.specs.Outcome.{facesIn, Reconstructs}
 use Rattle.orders.specs.Order.{Rearranged}
 use Rattle.face_lines.specs.Format.{good, file}
-use Rattle.patch_order.specs.Ordering.{refusalOf, facesOf, OrdersPatch}
+use Rattle.patch_order.specs.Ordering.{refusalOf, facesRead, OrdersPatch}
 use Rattle.patch_order.specs.declared.Ordered.{Ordered}
 use Rattle.patch_order.proofs.Exactly.{told-answer}
 use Rattle.patch_order.proofs.Ours.{patch-never}
@@ -30,5 +30,5 @@ pub order-of-patch : (points normals : List Float) (c : BallPivotingConfig) (fac
 order-of-patch points normals c faces words floats p faces' words' floats' made accepted radii bytes hs lines rearranged e n order u f r order' u' f' o h =
     let shape = made .shape accepted radii .shape in
     let same : r .answer ≡ refusalOf n (length order) (length u) (length f) (file bytes) .answer =
-    ap (λ (q : Ordered). q .answer) (o .result) ∙ told-answer (refusalOf n (length order) (length u) (length f) (file bytes)) (facesOf (file bytes)) in
+    ap (λ (q : Ordered). q .answer) (o .result) ∙ told-answer (refusalOf n (length order) (length u) (length f) (file bytes)) (facesRead (file bytes)) in
     patch-never (facesIn (p .faces) faces') _ (p .faces) (p .seeds) (p .looks) (p .pivots) shape hs lines rearranged bytes e n (length order) (length u) (length f) (sym same ∙ h)

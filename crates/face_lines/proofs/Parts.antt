@@ -7,7 +7,7 @@ use native.Mathlib.Omega.{arith}
 use lib.ListN.{length, take, drop, length-drop}
 use lib.Seq.{drop-drop}
 use Rattle.lists.proofs.Bools.{and-both}
-use Rattle.numerals.specs.Format.{Parsed, parsed, malformed, startsWith, digits, few, whole}
+use Rattle.numerals.specs.Format.{Parsed, parsed, malformed, startsWith, digits, few, digitsValue}
 use Rattle.numerals.proofs.Numeral.{few-most, found-count, found-rest}
 use Rattle.numerals.proofs.Shorter.{Below, below-cond, below-then, digits-within, next-below}
 use Rattle.patch.specs.Lay.{Face, face}
@@ -27,7 +27,7 @@ module _ (s : List ℕ) (at stop end : ℕ) (found : stop ≡ at + digits (drop 
     unfolding number
     number-open b = let n = found-count s at stop found in rw (found-rest s at stop found, ← n, e, b)
 
-    pub number-read : (v : ℕ) → startsWith end (drop stop s) ≡ true → v ≡ whole 0 (take (stop - at) (drop at s)) → parsed v (drop (stop + 1) s) ≡ number end (drop at s)
+    pub number-read : (v : ℕ) → startsWith end (drop stop s) ≡ true → v ≡ digitsValue 0 (take (stop - at) (drop at s)) → parsed v (drop (stop + 1) s) ≡ number end (drop at s)
     unfolding number
     number-read v b w = let n = found-count s at stop found in rw (found-rest s at stop found, ← n, e, b, drop-drop 1 stop s, w)
 

@@ -4,17 +4,17 @@ use mathlib.Core.Bool.{Bool, cond, _&&_, _||_}
 use mathlib.Core.List.{List, [], _∷_}
 use lib.Dec.{leb, eqb}
 use lib.ListN.{length, take, drop}
-use Rattle.numerals.specs.Format.{Parsed, parsed, malformed, then, startsWith, digits, few, whole}
+use Rattle.numerals.specs.Format.{Parsed, parsed, malformed, then, startsWith, digits, few, digitsValue}
 use Rattle.patch.specs.Lay.{Face, face}
 
 -- a point's number, 1 to 5 digits, and the byte that ends it: a comma is 44, a line feed 10
 unfoldable pub number : ℕ → List ℕ → Parsed ℕ
-unfolding startsWith digits few whole
+unfolding startsWith digits few digitsValue
 number end bs =
     let count = digits bs in
     cond
     (few count 5 && startsWith end (drop count bs))
-    (parsed (whole 0 (take count bs)) (drop 1 (drop count bs)))
+    (parsed (digitsValue 0 (take count bs)) (drop 1 (drop count bs)))
     malformed
 
 -- a face's line: a,b,c

@@ -14,7 +14,7 @@ use Rattle.tally.specs.Checks.{maxPatches, enterable, sound, Enterable}
 use Rattle.tally.specs.Tallies.{better, bestOf, worstOf, summed, withPatch, addedTo}
 use Rattle.figures.specs.Working.{coverageOf, varianceOf, noFigures, soundFigures, figuresOf}
 use Rattle.figures.specs.Claims.{Additions, Seasons}
-use Rattle.figures.specs.Season.{total, scannedOf, coveredOf, facesOf, squareOf, worse, Each, none, one, Earliest, Figured, Empty, after, entered, Reordered, same, next, swap, then, Alike}
+use Rattle.figures.specs.Season.{total, scannedOf, coveredOf, faceCount, squareOf, worse, Each, none, one, Earliest, Figured, Empty, after, entered, Reordered, same, next, swap, then, Alike}
 use Rattle.tally.specs.declared.SeasonPatch.{SeasonPatch}
 use Rattle.tally.specs.declared.Tally.{Tally}
 use Rattle.figures.specs.declared.Figures.{Figures}
@@ -31,7 +31,7 @@ total-append f (q ∷ ps) p = let e = total-append f ps p in omega arith
 record Holds (ps : List SeasonPatch) (t : Tally) : Type 0 where
   taken : sound t ≡ true
   patches : t .patches ≡ length ps
-  faces : t .faces ≡ total facesOf ps
+  faces : t .faces ≡ total faceCount ps
   squares : t .«face_squares» ≡ total squareOf ps
   scanned : t .scanned ≡ total scannedOf ps
   covered : t .covered ≡ total coveredOf ps
@@ -69,7 +69,7 @@ module _ (ps : List SeasonPatch) (t : Tally) (p : SeasonPatch) (h : Holds ps t) 
   held best worst s x y = record {
     taken = s;
     patches = omega (arith, h .patches, length-append ps (p ∷ []));
-    faces = omega (arith, h .faces, total-append facesOf ps p);
+    faces = omega (arith, h .faces, total-append faceCount ps p);
     squares = omega (arith, h .squares, total-append squareOf ps p);
     scanned = omega (arith, h .scanned, total-append scannedOf ps p);
     covered = omega (arith, h .covered, total-append coveredOf ps p);
@@ -197,8 +197,8 @@ module _ (ps qs : List SeasonPatch) (f g : Figures) (r : Reordered ps qs) (some 
   reordered-figures = record {
     answer = x .answer ∙ sym (y .answer);
     patches = x .patches ∙ reordered-length r ∙ sym (y .patches);
-    mean = x .mean ∙ (λ i. lowest (reordered-total facesOf r i) (reordered-length r i)) ∙ sym (y .mean);
-    variance = x .variance ∙ (λ i. varianceOf (reordered-length r i) (reordered-total facesOf r i) (reordered-total squareOf r i)) ∙ sym (y .variance);
+    mean = x .mean ∙ (λ i. lowest (reordered-total faceCount r i) (reordered-length r i)) ∙ sym (y .mean);
+    variance = x .variance ∙ (λ i. varianceOf (reordered-length r i) (reordered-total faceCount r i) (reordered-total squareOf r i)) ∙ sym (y .variance);
     coverage = x .coverage ∙ (λ i. lowest (reordered-total coveredOf r i) (reordered-total scannedOf r i)) ∙ sym (y .coverage);
     best = best-level;
     worst = worst-level;

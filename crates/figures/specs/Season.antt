@@ -24,8 +24,8 @@ scannedOf p = p .scanned
 abbrev pub coveredOf : SeasonPatch → ℕ
 coveredOf p = p .covered
 
-abbrev pub facesOf : SeasonPatch → ℕ
-facesOf p = p .faces
+abbrev pub faceCount : SeasonPatch → ℕ
+faceCount p = p .faces
 
 abbrev pub squareOf : SeasonPatch → ℕ
 squareOf p = p .faces * p .faces
@@ -51,8 +51,8 @@ pub record Earliest (beats : SeasonPatch → SeasonPatch → Bool) (ps : List Se
 pub record Figured (ps : List SeasonPatch) (f : Figures) : Type 0 where
   pub answer : f .answer ≡ 0
   pub patches : f .patches ≡ length ps
-  pub mean : f .mean ≡ lowest (total facesOf ps) (length ps)
-  pub variance : f .variance ≡ varianceOf (length ps) (total facesOf ps) (total squareOf ps)
+  pub mean : f .mean ≡ lowest (total faceCount ps) (length ps)
+  pub variance : f .variance ≡ varianceOf (length ps) (total faceCount ps) (total squareOf ps)
   pub coverage : f .coverage ≡ lowest (total coveredOf ps) (total scannedOf ps)
   pub best : Earliest better ps (f .best)
   pub worst : Earliest worse ps (f .worst)

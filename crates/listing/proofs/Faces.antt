@@ -4,7 +4,7 @@ use mathlib.Core.List.{List, [], _++_, append-nil, append-assoc}
 use Prim.Native.Nat.{ℕ, suc, _+_, _-_, _*_, _≤_, _<_}
 use native.Mathlib.Omega.{arith}
 use lib.ListN.{getD}
-use Rattle.listing.specs.Listing.{text, field, faceLine, faceLines, countsLine, listing, refusal}
+use Rattle.listing.specs.Listing.{text, fieldText, faceLine, faceLines, countsLine, listing, refusalText}
 use Rattle.listing.specs.declared.Counts.{Counts}
 use Rattle.listing.specs.Ready.{Put}
 use Rattle.listing.proofs.Puts.{put-none, put-then}
@@ -39,23 +39,23 @@ module _ (fs : List ℕ) (n : ℕ) (out₀ out : List ℕ) (at i next : ℕ) (r 
 
 -- ---- the fields of a line, one after the other
 module _ (l₀ l₁ l₂ l₃ l₄ : List ℕ) (at r₁ r₂ r₃ r₄ : ℕ) where
-  pub put-face-line : (i a b c : ℕ) → Put (field i 44) l₀ l₁ at r₁ × (r₁ ≤ at + 21) → Put (field a 44) l₁ l₂ r₁ r₂ × (r₂ ≤ r₁ + 21) → Put (field b 44) l₂ l₃ r₂ r₃ × (r₃ ≤ r₂ + 21)
-      → Put (field c 10) l₃ l₄ r₃ r₄ × (r₄ ≤ r₃ + 21) → Put (faceLine i a b c) l₀ l₄ at r₄ × (r₄ ≤ at + 84)
+  pub put-face-line : (i a b c : ℕ) → Put (fieldText i 44) l₀ l₁ at r₁ × (r₁ ≤ at + 21) → Put (fieldText a 44) l₁ l₂ r₁ r₂ × (r₂ ≤ r₁ + 21) → Put (fieldText b 44) l₂ l₃ r₂ r₃ × (r₃ ≤ r₂ + 21)
+      → Put (fieldText c 10) l₃ l₄ r₃ r₄ × (r₄ ≤ r₃ + 21) → Put (faceLine i a b c) l₀ l₄ at r₄ × (r₄ ≤ at + 84)
   unfolding faceLine
   put-face-line i a b c p₁ p₂ p₃ p₄ =
-      let two = put-then (field i 44) (field a 44) l₀ l₁ l₂ at r₁ r₂ (p₁ .0) (p₂ .0) in
-      let three = put-then (field i 44 ++ field a 44) (field b 44) l₀ l₂ l₃ at r₂ r₃ two (p₃ .0) in
-      (put-then (field i 44 ++ field a 44 ++ field b 44) (field c 10) l₀ l₃ l₄ at r₃ r₄ three (p₄ .0), omega (arith, p₁ .1, p₂ .1, p₃ .1, p₄ .1))
+      let two = put-then (fieldText i 44) (fieldText a 44) l₀ l₁ l₂ at r₁ r₂ (p₁ .0) (p₂ .0) in
+      let three = put-then (fieldText i 44 ++ fieldText a 44) (fieldText b 44) l₀ l₂ l₃ at r₂ r₃ two (p₃ .0) in
+      (put-then (fieldText i 44 ++ fieldText a 44 ++ fieldText b 44) (fieldText c 10) l₀ l₃ l₄ at r₃ r₄ three (p₄ .0), omega (arith, p₁ .1, p₂ .1, p₃ .1, p₄ .1))
 
-  pub put-counts-line : (l₅ : List ℕ) (r₅ : ℕ) (n : Counts) → Put (field (n .points) 44) l₀ l₁ at r₁ × (r₁ ≤ at + 21) → Put (field (n .faces) 44) l₁ l₂ r₁ r₂ × (r₂ ≤ r₁ + 21)
-      → Put (field (n .seeds) 44) l₂ l₃ r₂ r₃ × (r₃ ≤ r₂ + 21) → Put (field (n .looks) 44) l₃ l₄ r₃ r₄ × (r₄ ≤ r₃ + 21) → Put (field (n .pivots) 10) l₄ l₅ r₄ r₅ × (r₅ ≤ r₄ + 21)
+  pub put-counts-line : (l₅ : List ℕ) (r₅ : ℕ) (n : Counts) → Put (fieldText (n .points) 44) l₀ l₁ at r₁ × (r₁ ≤ at + 21) → Put (fieldText (n .faces) 44) l₁ l₂ r₁ r₂ × (r₂ ≤ r₁ + 21)
+      → Put (fieldText (n .seeds) 44) l₂ l₃ r₂ r₃ × (r₃ ≤ r₂ + 21) → Put (fieldText (n .looks) 44) l₃ l₄ r₃ r₄ × (r₄ ≤ r₃ + 21) → Put (fieldText (n .pivots) 10) l₄ l₅ r₄ r₅ × (r₅ ≤ r₄ + 21)
       → Put (countsLine n) l₀ l₅ at r₅ × (r₅ ≤ at + 105)
   unfolding countsLine
   put-counts-line l₅ r₅ n p₁ p₂ p₃ p₄ p₅ =
-      let two = put-then (field (n .points) 44) (field (n .faces) 44) l₀ l₁ l₂ at r₁ r₂ (p₁ .0) (p₂ .0) in
-      let three = put-then (field (n .points) 44 ++ field (n .faces) 44) (field (n .seeds) 44) l₀ l₂ l₃ at r₂ r₃ two (p₃ .0) in
-      let four = put-then (field (n .points) 44 ++ field (n .faces) 44 ++ field (n .seeds) 44) (field (n .looks) 44) l₀ l₃ l₄ at r₃ r₄ three (p₄ .0) in
-      (put-then (field (n .points) 44 ++ field (n .faces) 44 ++ field (n .seeds) 44 ++ field (n .looks) 44) (field (n .pivots) 10) l₀ l₄ l₅ at r₄ r₅ four (p₅ .0), omega (arith, p₁ .1, p₂ .1, p₃ .1, p₄ .1, p₅ .1))
+      let two = put-then (fieldText (n .points) 44) (fieldText (n .faces) 44) l₀ l₁ l₂ at r₁ r₂ (p₁ .0) (p₂ .0) in
+      let three = put-then (fieldText (n .points) 44 ++ fieldText (n .faces) 44) (fieldText (n .seeds) 44) l₀ l₂ l₃ at r₂ r₃ two (p₃ .0) in
+      let four = put-then (fieldText (n .points) 44 ++ fieldText (n .faces) 44 ++ fieldText (n .seeds) 44) (fieldText (n .looks) 44) l₀ l₃ l₄ at r₃ r₄ three (p₄ .0) in
+      (put-then (fieldText (n .points) 44 ++ fieldText (n .faces) 44 ++ fieldText (n .seeds) 44 ++ fieldText (n .looks) 44) (fieldText (n .pivots) 10) l₀ l₄ l₅ at r₄ r₅ four (p₅ .0), omega (arith, p₁ .1, p₂ .1, p₃ .1, p₄ .1, p₅ .1))
 
   -- the whole texts
   pub put-all-parts : (n : Counts) (fs : List ℕ) → Put (text "points,faces,seeds,looks,pivots\n") l₀ l₁ at r₁ → Put (countsLine n) l₁ l₂ r₁ r₂ → Put (text "face,a,b,c\n") l₂ l₃ r₂ r₃
@@ -66,7 +66,7 @@ module _ (l₀ l₁ l₂ l₃ l₄ : List ℕ) (at r₁ r₂ r₃ r₄ : ℕ) wh
       let three = put-then (text "points,faces,seeds,looks,pivots\n" ++ countsLine n) (text "face,a,b,c\n") l₀ l₂ l₃ at r₂ r₃ two p₃ in
       put-then (text "points,faces,seeds,looks,pivots\n" ++ countsLine n ++ text "face,a,b,c\n") (faceLines fs 0 (n .faces)) l₀ l₃ l₄ at r₃ r₄ three p₄
 
-pub put-refused : (l₀ l₁ l₂ l₃ : List ℕ) (at r₁ r₂ r₃ answer detail : ℕ) → Put (text "refused,") l₀ l₁ at r₁ → Put (field answer 44) l₁ l₂ r₁ r₂ → Put (field detail 10) l₂ l₃ r₂ r₃ → Put (refusal answer detail) l₀ l₃ at r₃
-unfolding refusal
+pub put-refused : (l₀ l₁ l₂ l₃ : List ℕ) (at r₁ r₂ r₃ answer detail : ℕ) → Put (text "refused,") l₀ l₁ at r₁ → Put (fieldText answer 44) l₁ l₂ r₁ r₂ → Put (fieldText detail 10) l₂ l₃ r₂ r₃ → Put (refusalText answer detail) l₀ l₃ at r₃
+unfolding refusalText
 put-refused l₀ l₁ l₂ l₃ at r₁ r₂ r₃ answer detail p₁ p₂ p₃ =
-    put-then (text "refused," ++ field answer 44) (field detail 10) l₀ l₂ l₃ at r₂ r₃ (put-then (text "refused,") (field answer 44) l₀ l₁ l₂ at r₁ r₂ p₁ p₂) p₃
+    put-then (text "refused," ++ fieldText answer 44) (fieldText detail 10) l₀ l₂ l₃ at r₂ r₃ (put-then (text "refused,") (fieldText answer 44) l₀ l₁ l₂ at r₁ r₂ p₁ p₂) p₃

@@ -18,19 +18,19 @@ unfoldable pub spelled : ℕ → ℕ → List ℕ
 spelled zero n = []
 spelled (suc fuel) n = let more = spelled fuel (n / 10) ++ ((48 + n % 10) ∷ []) in cond (ltb n 10) ((48 + n) ∷ []) more
 
-unfoldable pub decimal : ℕ → List ℕ
+unfoldable pub digitsOf : ℕ → List ℕ
 unfolding spelled
-decimal n = spelled (suc n) n
+digitsOf n = spelled (suc n) n
 
 -- a number and the byte that ends it: a comma is 44, a line feed 10
-unfoldable pub field : ℕ → ℕ → List ℕ
-unfolding decimal
-field n end = decimal n ++ (end ∷ [])
+unfoldable pub fieldText : ℕ → ℕ → List ℕ
+unfolding digitsOf
+fieldText n end = digitsOf n ++ (end ∷ [])
 
 -- the line of one face: its number and its three points'
 unfoldable pub faceLine : ℕ → ℕ → ℕ → ℕ → List ℕ
-unfolding field
-faceLine i a b c = field i 44 ++ field a 44 ++ field b 44 ++ field c 10
+unfolding fieldText
+faceLine i a b c = fieldText i 44 ++ fieldText a 44 ++ fieldText b 44 ++ fieldText c 10
 
 -- the lines of n faces, the first of them number i; three entries of fs to a face
 unfoldable pub faceLines : List ℕ → ℕ → ℕ → List ℕ
@@ -40,9 +40,9 @@ faceLines fs i (suc n) = faceLine i (getD fs (3 * i) 0) (getD fs (3 * i + 1) 0) 
     ++ faceLines fs (i + 1) n
 
 unfoldable pub countsLine : Counts → List ℕ
-unfolding field
-countsLine c = field (c .points) 44 ++ field (c .faces) 44 ++ field (c .seeds) 44 ++ field (c .looks) 44
-    ++ field (c .pivots) 10
+unfolding fieldText
+countsLine c = fieldText (c .points) 44 ++ fieldText (c .faces) 44 ++ fieldText (c .seeds) 44 ++ fieldText (c .looks) 44
+    ++ fieldText (c .pivots) 10
 
 -- the whole listing
 unfoldable pub listing : Counts → List ℕ → List ℕ
@@ -51,9 +51,9 @@ listing c fs =
     text "points,faces,seeds,looks,pivots\n" ++ countsLine c ++ text "face,a,b,c\n" ++ faceLines fs 0 (c .faces)
 
 -- a refusal
-unfoldable pub refusal : ℕ → ℕ → List ℕ
-unfolding text field
-refusal answer detail = text "refused," ++ field answer 44 ++ field detail 10
+unfoldable pub refusalText : ℕ → ℕ → List ℕ
+unfolding text fieldText
+refusalText answer detail = text "refused," ++ fieldText answer 44 ++ fieldText detail 10
 
 -- ---- into a lent buffer: the whole text in front, or nothing where it does not fit; and how many bytes were written
 unfoldable pub filled : List ℕ → List ℕ → List ℕ

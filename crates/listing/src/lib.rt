@@ -8,7 +8,7 @@ mod rows;
 ghost use mathlib.Core.Path.{_≡_};
 ghost use Prim.Native.Nat.{_*_, _≤_};
 ghost use lib.ListN.{length};
-ghost use Rattle.listing.specs.Listing.{refusal, listing, listed, filled, written};
+ghost use Rattle.listing.specs.Listing.{refusalText, listing, listed, filled, written};
 ghost use Rattle.listing.specs.Ready.{Put};
 use crate::put::put_field;
 use crate::put::put_text;
@@ -53,7 +53,7 @@ pub fn write_listing(counts: Counts, faces: &[u32], out: &mut [u8]) -> usize
 }
 
 fn put_refusal(answer: u32, detail: usize, out: &mut [u8]) -> usize
-    ensures { λ r. ⌜ Put (refusal answer detail) (now (out .entry)) (now (out .exit)) 0 r ⌝ }
+    ensures { λ r. ⌜ Put (refusalText answer detail) (now (out .entry)) (now (out .exit)) 0 r ⌝ }
 {
     let a = put_text(out, 0, b"refused,");
     let b = put_field(out, a, answer as u64, b',');
@@ -62,8 +62,8 @@ fn put_refusal(answer: u32, detail: usize, out: &mut [u8]) -> usize
 
 // The number of bytes written, 0 where the line does not fit.
 pub fn write_refusal(answer: u32, detail: usize, out: &mut [u8]) -> usize
-    ensures { λ r. ⌜ (r ≡ written (refusal answer detail) (now (out .entry)))
-        × (now (out .exit) ≡ filled (refusal answer detail) (now (out .entry))) ⌝ }
+    ensures { λ r. ⌜ (r ≡ written (refusalText answer detail) (now (out .entry)))
+        × (now (out .exit) ≡ filled (refusalText answer detail) (now (out .entry))) ⌝ }
 {
     let mut scratch = [0u8; 1];
     let n = put_refusal(answer, detail, &mut scratch);

@@ -4,7 +4,7 @@ use Prim.Native.Nat.{ℕ}
 use lib.Ieee.{binary32, neg, add, sub, mul, div, lt, le, eq, isNan, ofBits, toBits}
 use Rattle.numbers.specs.Rounded.{f32}
 use Rattle.numbers.specs.Root.{root}
-use Rattle.numbers.specs.Acos.{R, abs, cleared, acosMiddle, acosLow, acosHigh, acosInside, acos}
+use Rattle.numbers.specs.Acos.{R, abs, highPart, acosMiddle, acosLow, acosHigh, acosInside, acos}
 
 -- the bits of the arc cosine of the f32 with the bits b
 abbrev acosBits : ℕ → ℕ
@@ -19,5 +19,5 @@ acos-values :
     × (acosBits 0xbf000000 ≡ 0x40060a92)
     × (acosBits 0x32800000 ≡ 0x3fc90fda)
     × (acosBits 0x3e800000 ≡ 0x3fa8b807)
-unfolding R abs cleared acosMiddle acosLow acosHigh acosInside acos root neg add sub mul div lt le eq isNan ofBits toBits
+unfolding R abs highPart acosMiddle acosLow acosHigh acosInside acos root neg add sub mul div lt le eq isNan ofBits toBits
 acos-values = (refl, refl, refl, refl, refl, refl, refl)

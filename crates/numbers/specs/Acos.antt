@@ -31,8 +31,8 @@ unfoldable pub abs : Float → Float
 abs v = cond (lt v (f32 0)) (neg v) v
 
 -- s with its low 12 bits cleared
-unfoldable pub cleared : Float → Float
-cleared s = cond (isNan s) s (f32 (toBits binary32 s - toBits binary32 s % 4096))
+unfoldable pub highPart : Float → Float
+highPart s = cond (isNan s) s (f32 (toBits binary32 s - toBits binary32 s % 4096))
 
 -- |v| below 0.5
 unfoldable pub acosMiddle : Float → Float
@@ -50,7 +50,7 @@ unfoldable pub acosHigh : Float → Float
 acosHigh v =
     let z = (one ⊖ v) ⊗ half in
     let s = root z in
-    let d = cleared s in
+    let d = highPart s in
     let c = (z ⊖ d ⊗ d) ⊘ (s ⊕ d) in
     two ⊗ (d ⊕ (R z ⊗ s ⊕ c))
 

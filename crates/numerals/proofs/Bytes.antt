@@ -10,7 +10,7 @@ use lib.Dec.{T, eqb, lit<}
 use borrow.Author.Tests.{leb-true}
 use lib.ListN.{length, take, drop, getD, drop-of-length-le}
 use lib.Seq.{drop-cons, drop-drop}
-use Rattle.numerals.specs.Format.{startsWith, isDigit, startsDigit, digits, few, whole}
+use Rattle.numerals.specs.Format.{startsWith, isDigit, startsDigit, digits, few, digitsValue}
 
 -- ---- one byte
 module _ (f : List ℕ → Bool) (empty : f [] ≡ false) where
@@ -82,10 +82,10 @@ pub record Digit (s : List ℕ) (i end v : ℕ) : Type 0 where
   pub low : 48 ≤ getD s i 0
   pub high : getD s i 0 ≤ 57
   pub rest : end - (i + 1) ≤ digits (drop (i + 1) s)
-  pub same : whole v (take (end - i) (drop i s)) ≡ whole (v * 10 + (getD s i 0 - 48)) (take (end - (i + 1)) (drop (i + 1) s))
+  pub same : digitsValue v (take (end - i) (drop i s)) ≡ digitsValue (v * 10 + (getD s i 0 - 48)) (take (end - (i + 1)) (drop (i + 1) s))
 
 pub next-digit : (s : List ℕ) (i end v : ℕ) → i < end → end - i ≤ digits (drop i s) → Digit s i end v
-unfolding whole
+unfolding digitsValue
 next-digit s i end v h all =
     let here : startsDigit (drop i s) ≡ true = digits-some (drop i s) (omega arith) in
     let within : i < length s = digit-inside s i here in

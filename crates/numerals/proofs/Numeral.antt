@@ -11,7 +11,7 @@ use lib.ListN.{take, drop}
 use lib.Seq.{drop-drop}
 use lib.Ieee.{Float}
 use Rattle.decimals.specs.Decimal.{decimal}
-use Rattle.numerals.specs.Format.{Parsed, parsed, malformed, startsWith, digits, few, whole, fraction, magnitude, number}
+use Rattle.numerals.specs.Format.{Parsed, parsed, malformed, startsWith, digits, few, digitsValue, fraction, unsignedNumber, number}
 use Rattle.numerals.specs.Ready.{Digits}
 use Rattle.numerals.proofs.Bytes.{both}
 
@@ -46,33 +46,33 @@ module _ (s : List ℕ) (at : ℕ) (negative : Bool) where
       unfolding fraction
       fraction-bad e = let n = found-count s (at + 1) end found in rw (dot, drop-drop 1 at s, ← n, e)
 
-      pub fraction-read : (v : Float) (parts : ℕ) → few (end - (at + 1)) 6 ≡ true → parts ≡ whole 0 (take (end - (at + 1)) (drop (at + 1) s)) → v ≡ decimal negative units parts (end - (at + 1))
+      pub fraction-read : (v : Float) (parts : ℕ) → few (end - (at + 1)) 6 ≡ true → parts ≡ digitsValue 0 (take (end - (at + 1)) (drop (at + 1) s)) → v ≡ decimal negative units parts (end - (at + 1))
           → parsed v (drop end s) ≡ fraction negative units (drop at s)
       unfolding fraction
       fraction-read v parts e p d = let n = found-count s (at + 1) end found in rw (dot, drop-drop 1 at s, found-rest s (at + 1) end found, ← n, e, d, p)
 
   -- ---- the whole part
   module _ (end : ℕ) (found : end ≡ at + digits (drop at s)) where
-    pub magnitude-bad : few (end - at) 5 ≡ false → malformed ≡ magnitude negative (drop at s)
-    unfolding magnitude
+    pub magnitude-bad : few (end - at) 5 ≡ false → malformed ≡ unsignedNumber negative (drop at s)
+    unfolding unsignedNumber
     magnitude-bad e = let n = found-count s at end found in rw (← n, e)
 
-    pub magnitude-read : (units : ℕ) (p : Parsed Float) → few (end - at) 5 ≡ true → units ≡ whole 0 (take (end - at) (drop at s)) → p ≡ fraction negative units (drop end s)
-        → p ≡ magnitude negative (drop at s)
-    unfolding magnitude
+    pub magnitude-read : (units : ℕ) (p : Parsed Float) → few (end - at) 5 ≡ true → units ≡ digitsValue 0 (take (end - at) (drop at s)) → p ≡ fraction negative units (drop end s)
+        → p ≡ unsignedNumber negative (drop at s)
+    unfolding unsignedNumber
     magnitude-read units p e u d = let n = found-count s at end found in rw (found-rest s at end found, ← n, e, ← u) d
 
 -- ---- the sign
 module _ (s : List ℕ) (at : ℕ) where
   -- a number is what stands behind the minus, if there is one
-  pub number-start : number (drop at s) ≡ magnitude (startsWith 45 (drop at s)) (drop (cond (startsWith 45 (drop at s)) (at + 1) at) s)
+  pub number-start : number (drop at s) ≡ unsignedNumber (startsWith 45 (drop at s)) (drop (cond (startsWith 45 (drop at s)) (at + 1) at) s)
   unfolding number
   number-start = go (startsWith 45 (drop at s))
     where
-      go : (t : Bool) → cond t (magnitude true (drop 1 (drop at s))) (magnitude false (drop at s)) ≡ magnitude t (drop (cond t (at + 1) at) s)
-      go true = ap (magnitude true) (drop-drop 1 at s)
+      go : (t : Bool) → cond t (unsignedNumber true (drop 1 (drop at s))) (unsignedNumber false (drop at s)) ≡ unsignedNumber t (drop (cond t (at + 1) at) s)
+      go true = ap (unsignedNumber true) (drop-drop 1 at s)
       go false = refl
 
   pub number-signed : (start : ℕ) (negative : Bool) (p : Parsed Float) → start ≡ cond (startsWith 45 (drop at s)) (at + 1) at → negative ≡ startsWith 45 (drop at s)
-      → p ≡ magnitude negative (drop start s) → p ≡ number (drop at s)
+      → p ≡ unsignedNumber negative (drop start s) → p ≡ number (drop at s)
   number-signed start negative p e n h = rw (number-start, ← e, ← n) h

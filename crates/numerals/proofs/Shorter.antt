@@ -6,7 +6,7 @@ use Prim.Native.Nat.{ℕ, suc, _-_, _≤_, _<_}
 use native.Mathlib.Omega.{arith}
 use lib.ListN.{length, drop, length-drop}
 use Rattle.decimals.specs.Decimal.{decimal}
-use Rattle.numerals.specs.Format.{Parsed, parsed, malformed, then, startsWith, isDigit, digits, few, fraction, magnitude, number}
+use Rattle.numerals.specs.Format.{Parsed, parsed, malformed, then, startsWith, isDigit, digits, few, fraction, unsignedNumber, number}
 use Rattle.numerals.proofs.Numeral.{few-most}
 
 -- fewer than n bytes are left
@@ -46,8 +46,8 @@ fraction-below negative units bs =
     (λ _. below-cond (suc (length bs)) (few places 6) (parsed (decimal negative units _ places) (drop places (drop 1 bs))) malformed (λ _. left) tt)
     (omega arith)
 
-magnitude-below : (negative : Bool) (bs : List ℕ) → Below (length bs) (magnitude negative bs)
-unfolding magnitude
+magnitude-below : (negative : Bool) (bs : List ℕ) → Below (length bs) (unsignedNumber negative bs)
+unfolding unsignedNumber
 magnitude-below negative bs =
     let count = digits bs in
     let within : digits bs ≤ length bs = digits-within bs in
@@ -61,8 +61,8 @@ pub number-below : (bs : List ℕ) → Below (length bs) (number bs)
 unfolding number
 number-below bs =
     let len : length (drop 1 bs) ≡ length bs - 1 = length-drop 1 bs in
-    below-cond (length bs) (startsWith 45 bs) (magnitude true (drop 1 bs)) (magnitude false bs)
-    (λ _. below-more (length (drop 1 bs)) (length bs) (magnitude true (drop 1 bs)) (omega arith) (magnitude-below true (drop 1 bs)))
+    below-cond (length bs) (startsWith 45 bs) (unsignedNumber true (drop 1 bs)) (unsignedNumber false bs)
+    (λ _. below-more (length (drop 1 bs)) (length bs) (unsignedNumber true (drop 1 bs)) (omega arith) (magnitude-below true (drop 1 bs)))
     (magnitude-below false bs)
 
 -- what is shorter than shorter bytes is shorter

@@ -40,28 +40,28 @@ unfoldable pub few : ℕ → ℕ → Bool
 few count most = leb 1 count && leb count most
 
 -- the whole number that digits write in decimal, behind digits that write v
-unfoldable pub whole : ℕ → List ℕ → ℕ
-whole v [] = v
-whole v (d ∷ ds) = whole (v * 10 + (d - 48)) ds
+unfoldable pub digitsValue : ℕ → List ℕ → ℕ
+digitsValue v [] = v
+digitsValue v (d ∷ ds) = digitsValue (v * 10 + (d - 48)) ds
 
 -- ---- a number
 -- what follows the whole part: a point (byte 46) and 1 to 6 digits, or nothing
 unfoldable pub fraction : Bool → ℕ → List ℕ → Parsed Float
-unfolding startsWith digits few whole decimal
+unfolding startsWith digits few digitsValue decimal
 fraction negative units bs =
     let places = digits (drop 1 bs) in
-    let digitsRead = parsed (decimal negative units (whole 0 (take places (drop 1 bs))) places)
+    let digitsRead = parsed (decimal negative units (digitsValue 0 (take places (drop 1 bs))) places)
     (drop places (drop 1 bs)) in
     cond (startsWith 46 bs) (cond (few places 6) digitsRead malformed) (parsed (decimal negative units 0 0) bs)
 
 -- 1 to 5 digits, and perhaps a fraction
-unfoldable pub magnitude : Bool → List ℕ → Parsed Float
-unfolding digits few whole fraction
-magnitude negative bs =
+unfoldable pub unsignedNumber : Bool → List ℕ → Parsed Float
+unfolding digits few digitsValue fraction
+unsignedNumber negative bs =
     let count = digits bs in
-    cond (few count 5) (fraction negative (whole 0 (take count bs)) (drop count bs)) malformed
+    cond (few count 5) (fraction negative (digitsValue 0 (take count bs)) (drop count bs)) malformed
 
 -- an optional minus (byte 45), and a magnitude
 unfoldable pub number : List ℕ → Parsed Float
-unfolding startsWith magnitude
-number bs = cond (startsWith 45 bs) (magnitude true (drop 1 bs)) (magnitude false bs)
+unfolding startsWith unsignedNumber
+number bs = cond (startsWith 45 bs) (unsignedNumber true (drop 1 bs)) (unsignedNumber false bs)

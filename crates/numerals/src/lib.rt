@@ -3,7 +3,8 @@ ghost use mathlib.Core.Path.{_≡_};
 ghost use mathlib.Core.Bool.{cond};
 ghost use Prim.Native.Nat.{_+_, _-_, _^_, _≤_, _<_};
 ghost use lib.ListN.{take, drop};
-ghost use Rattle.numerals.specs.Format.{startsWith, startsDigit, digits, few, whole, fraction, magnitude, number};
+ghost use Rattle.numerals.specs.Format.{startsWith, startsDigit, digits, few, digitsValue, fraction};
+ghost use Rattle.numerals.specs.Format.{unsignedNumber, number};
 ghost use Rattle.numerals.specs.Answers.{numberMeans};
 ghost use Rattle.numerals.specs.Ready.{Digits};
 use decimals::decimal_value;
@@ -52,7 +53,7 @@ pub fn is_few(count: usize, most: usize) -> bool
 // The whole number that the digits from at to end write.
 pub fn whole_of(s: &[u8], at: usize, end: usize) -> u32
     requires { ⌜ Digits (now s) at end ⌝ }
-    ensures { λ r. ⌜ (r ≡ whole 0 (take (end - at) (drop at (now (s .entry))))) × (r < 10 ^ (end - at)) ⌝ }
+    ensures { λ r. ⌜ (r ≡ digitsValue 0 (take (end - at) (drop at (now (s .entry))))) × (r < 10 ^ (end - at)) ⌝ }
 {
     let mut v: u32 = 0;
     let mut i = at;
@@ -92,7 +93,7 @@ fn fraction_at(s: &[u8], at: usize, negative: bool, units: u32) -> NumberRead
 
 // A number without its sign.
 fn magnitude_at(s: &[u8], at: usize, negative: bool) -> NumberRead
-    ensures { λ r. ⌜ numberMeans (now (s .entry)) r ≡ magnitude negative (drop at (now (s .entry))) ⌝ }
+    ensures { λ r. ⌜ numberMeans (now (s .entry)) r ≡ unsignedNumber negative (drop at (now (s .entry))) ⌝ }
 {
     let end = digits_end(s, at);
     let count = end - at;

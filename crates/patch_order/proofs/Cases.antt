@@ -6,13 +6,13 @@ use Prim.Native.Nat.{ℕ}
 use Prim.Native.String.{String, [] as []ˢ, _∷_ as _∷ˢ_}
 use Prim.Native.Char.{code}
 use Rattle.lists.specs.Lists.{any, upFrom}
-use Rattle.numerals.specs.Format.{then, startsWith, digits, few, whole}
+use Rattle.numerals.specs.Format.{then, startsWith, digits, few, digitsValue}
 use Rattle.domain.specs.Refusals.{firstRefusal, roomy}
 use Rattle.patch.specs.Lay.{same}
 use Rattle.patch.specs.Shape.{has, touches}
 use Rattle.orders.specs.Order.{neighbours, reached, joined, fresh, fits, allFit, firstOr, without, greedyFrom, greedy, accepted, crowded, seeds}
 use Rattle.face_lines.specs.Format.{number, line, Lines, ahead, lines, file, outside, twice}
-use Rattle.patch_order.specs.Ordering.{refusalOf, passed, facesOf, told, orderAfter}
+use Rattle.patch_order.specs.Ordering.{refusalOf, passed, facesRead, told, orderAfter}
 
 -- the bytes of a text of ASCII characters
 abbrev text : String → List ℕ
@@ -31,7 +31,7 @@ checks :
     ≡ (10, 2) ∷ (3, 0) ∷ (0, 0) ∷ (14, 0)
     ∷ (17, 0) ∷ (0, 0) ∷ (7, 0) ∷ (7, 0)
     ∷ (13, 0) ∷ (23, 0) ∷ (0, 0) ∷ (7, 0) ∷ []
-unfolding refusalOf firstRefusal roomy file lines line number then ahead startsWith digits few whole outside twice any upFrom neighbours reached joined fresh fits allFit firstOr without greedyFrom greedy accepted crowded same has touches
+unfolding refusalOf firstRefusal roomy file lines line number then ahead startsWith digits few digitsValue outside twice any upFrom neighbours reached joined fresh fits allFit firstOr without greedyFrom greedy accepted crowded same has touches
 checks = refl
 
 -- the work slices are cleared at 13, 23 and 0, not at 10, 3, 14, 17 and 7
@@ -39,17 +39,17 @@ cleared :
     passed 9999 0 0 (file (text "0,1\n")) ∷ passed 4097 98392 16452 (file (text "")) ∷ passed 3 136 76 (file (text "0,1,3\n")) ∷ passed 3 136 76 (file (text "0,1,1\n"))
     ∷ passed 3 135 76 (file (text "0,1,2\n")) ∷ passed 4 160 80 (file (text "0,1,2\n1,2,0\n")) ∷ passed 3 136 76 (file (text "0,1,2\n")) ∷ []
     ≡ false ∷ false ∷ false ∷ false ∷ false ∷ true ∷ true ∷ []
-unfolding passed firstRefusal roomy file lines line number then ahead startsWith digits few whole outside twice any
+unfolding passed firstRefusal roomy file lines line number then ahead startsWith digits few digitsValue outside twice any
 cleared = refl
 
 -- faces from 0; the lowest that shares an edge comes first, and a slice's rest stays
 abbrev three : Lines
 three = file (text "0,1,2\n2,3,4\n2,1,3\n")
 
-ordered : told (refusalOf 5 4 184 84 three) (facesOf three) ≡ record { answer = 0; detail = 0; faces = 3; seeds = 1 }
-unfolding refusalOf firstRefusal roomy told facesOf file lines line number then ahead startsWith digits few whole outside twice any upFrom neighbours reached joined fresh fits allFit firstOr without greedyFrom greedy accepted crowded seeds same has touches
+ordered : told (refusalOf 5 4 184 84 three) (facesRead three) ≡ record { answer = 0; detail = 0; faces = 3; seeds = 1 }
+unfolding refusalOf firstRefusal roomy told facesRead file lines line number then ahead startsWith digits few digitsValue outside twice any upFrom neighbours reached joined fresh fits allFit firstOr without greedyFrom greedy accepted crowded seeds same has touches
 ordered = refl
 
-in-order : orderAfter (refusalOf 5 4 184 84 three) (facesOf three) (7 ∷ 7 ∷ 7 ∷ 7 ∷ []) ≡ 0 ∷ 2 ∷ 1 ∷ 7 ∷ []
-unfolding refusalOf firstRefusal roomy orderAfter facesOf file lines line number then ahead startsWith digits few whole outside twice any upFrom neighbours reached joined fresh fits allFit firstOr without greedyFrom greedy accepted crowded same has touches
+in-order : orderAfter (refusalOf 5 4 184 84 three) (facesRead three) (7 ∷ 7 ∷ 7 ∷ 7 ∷ []) ≡ 0 ∷ 2 ∷ 1 ∷ 7 ∷ []
+unfolding refusalOf firstRefusal roomy orderAfter facesRead file lines line number then ahead startsWith digits few digitsValue outside twice any upFrom neighbours reached joined fresh fits allFit firstOr without greedyFrom greedy accepted crowded same has touches
 in-order = refl

@@ -18,7 +18,7 @@ use Rattle.patch.specs.Lay.{Face}
 use Rattle.face_lines.specs.Format.{Lines, good, wrong, file, outside, twice}
 use Rattle.face_lines.specs.declared.FacesScanned.{FacesScanned}
 use Rattle.face_lines.proofs.Scanning.{Good}
-use Rattle.patch_order.specs.Ordering.{firstChecks, checksOf, lastChecks, refusalOf, passed, facesOf, refusedWith, told, orderAfter, OrdersPatch}
+use Rattle.patch_order.specs.Ordering.{firstChecks, checksOf, lastChecks, refusalOf, passed, facesRead, refusedWith, told, orderAfter, OrdersPatch}
 use Rattle.patch_order.specs.Ready.{Checked, Judged}
 use Rattle.patch_order.specs.declared.Ordered.{Ordered}
 use Rattle.patch_order.proofs.Exactly.{zero-exactly, not-false-true}
@@ -40,21 +40,21 @@ pub first-is : (n : ℕ) (l : Lines) (seen : FacesScanned) (g : Good n l seen) (
 first-is n l seen g words floats answer h = h ∙ ap₂ (λ (o t : Bool). firstRefusal (firstChecks n o t words floats) .answer) (g .out) (g .same)
 
 module _ (bytes : List ℕ) (n : ℕ) (order words : List ℕ) (floats : List Float) where
-  assembled : (R : Refusal) (fs : List Face) (p : Bool) → refusalOf n (length order) (length words) (length floats) (file bytes) ≡ R → facesOf (file bytes) ≡ fs
+  assembled : (R : Refusal) (fs : List Face) (p : Bool) → refusalOf n (length order) (length words) (length floats) (file bytes) ≡ R → facesRead (file bytes) ≡ fs
       → passed n (length words) (length floats) (file bytes) ≡ p → (r : Ordered) (order' words' : List ℕ) (floats' : List Float) → r ≡ told R fs → order' ≡ orderAfter R fs order
       → words' ≡ swept 0 p words → floats' ≡ swept (f32 0) p floats → OrdersPatch bytes n order words floats r order' words' floats'
   assembled R fs p eR ef ep r order' words' floats' h o w f =
-      let result : r ≡ told (refusalOf n (length order) (length words) (length floats) (file bytes)) (facesOf (file bytes)) = rw (eR, ef) h in
+      let result : r ≡ told (refusalOf n (length order) (length words) (length floats) (file bytes)) (facesRead (file bytes)) = rw (eR, ef) h in
       record {
         result = result;
         order-left = rw (eR, ef) o;
         words-left = rw ep w;
         floats-left = rw ep f;
-        exactly = zero-exactly bytes n (length order) (length words) (length floats) r (facesOf (file bytes)) result;
+        exactly = zero-exactly bytes n (length order) (length words) (length floats) r (facesRead (file bytes)) result;
       }
 
   pub whole-wrong : (line : ℕ) → file bytes ≡ wrong line → (r : Ordered) → r ≡ refusedWith 10 line → OrdersPatch bytes n order words floats r order words floats
-  unfolding refusalOf passed facesOf told orderAfter swept
+  unfolding refusalOf passed facesRead told orderAfter swept
   whole-wrong line e r h = assembled (refusal 10 line) [] false (rw e) (rw e) (rw e) r order words floats h refl refl refl
 
   module _ (fs : List Face) (e : file bytes ≡ good fs) (answer : ℕ) (is : answer ≡ firstRefusal (checksOf n (length words) (length floats) fs) .answer) where
@@ -65,8 +65,8 @@ module _ (bytes : List ℕ) (n : ℕ) (order words : List ℕ) (floats : List Fl
         (four (leb n 4096) (not (any (outside n) fs)) (not (any twice fs)) (roomy n (length words) (length floats)) (lastChecks (length order) fs)
         ∙ ap (λ (k : ℕ). cond (eqb k 0) (firstRefusal (lastChecks (length order) fs)) (refusal k 0)) (sym is))
 
-    the-faces : facesOf (file bytes) ≡ fs
-    unfolding facesOf
+    the-faces : facesRead (file bytes) ≡ fs
+    unfolding facesRead
     the-faces = rw e
 
     went : (b : Bool) → eqb answer 0 ≡ b → passed n (length words) (length floats) (file bytes) ≡ b

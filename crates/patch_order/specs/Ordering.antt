@@ -51,9 +51,9 @@ unfolding firstRefusal
 passed n words floats (good fs) = eqb (firstRefusal (checksOf n words floats fs) .answer) 0
 passed n words floats (wrong line) = false
 
-unfoldable pub facesOf : Lines → List Face
-facesOf (good fs) = fs
-facesOf (wrong line) = []
+unfoldable pub facesRead : Lines → List Face
+facesRead (good fs) = fs
+facesRead (wrong line) = []
 
 -- ---- what comes back
 abbrev pub refusedWith : ℕ → ℕ → Ordered
@@ -87,10 +87,11 @@ pub record OrdersPatch
     (bytes : List ℕ) (n : ℕ) (order words : List ℕ) (floats : List Float)
     (r : Ordered) (order' words' : List ℕ) (floats' : List Float) : Type 0 where
   pub result :
-      r ≡ told (refusalOf n (length order) (length words) (length floats) (file bytes)) (facesOf (file bytes))
+      r ≡ told (refusalOf n (length order) (length words) (length floats) (file bytes)) (facesRead (file bytes))
   pub order-left :
       order'
-      ≡ orderAfter (refusalOf n (length order) (length words) (length floats) (file bytes)) (facesOf (file bytes)) order
+      ≡ orderAfter (refusalOf n (length order) (length words) (length floats) (file bytes))
+      (facesRead (file bytes)) order
   pub words-left : words' ≡ swept 0 (passed n (length words) (length floats) (file bytes)) words
   pub floats-left : floats' ≡ swept (f32 0) (passed n (length words) (length floats) (file bytes)) floats
   -- accepted are exactly the files whose faces have some valid order

@@ -21,9 +21,9 @@ use Rattle.ball_pivoting.specs.declared.Patch.{Patch}
 use Rattle.ball_pivoting.proofs.Answered.{answered-zero}
 use Rattle.ball_pivoting.proofs.Inside.{Inside, found-inside}
 use Rattle.cloud.specs.Answers as cloud
-use Rattle.listing.specs.Listing.{refusal, listing}
+use Rattle.listing.specs.Listing.{refusalText, listing}
 use Rattle.patch_text.specs.Text.{countsOf, patchText, laidText, outcomeText, fileText, printed}
-use Rattle.stl_file.specs.Answers.{allBelow, judged}
+use Rattle.stl_file.specs.Answers.{allBelow, stlOutcome}
 use Rattle.stl_file.specs.declared.StlWritten.{StlWritten}
 use Rattle.patch_stl.specs.Output.{Output, refusedWith, writtenOutput, patchOutput, laidOutput, outcomeOutput, fileOutput, output}
 
@@ -48,8 +48,8 @@ module _ (points normals : List Float) (c : BallPivotingConfig) (faces words flo
   abbrev fl : List ℕ
   fl = view.flat (found c points .faces)
 
-  pub taken : p .answer ≡ 0 → judged points fl room ≡ record { answer = 0; detail = 0; length = 84 + 50 * (length fl / 3) }
-  unfolding judged firstOutside
+  pub taken : p .answer ≡ 0 → stlOutcome points fl room ≡ record { answer = 0; detail = 0; length = 84 + 50 * (length fl / 3) }
+  unfolding stlOutcome firstOutside
   taken z =
       let a = answered-zero points normals c faces words floats p refl z in
       let r = accepted-reconstruct points normals c words floats (a .0) .cloud in
@@ -66,7 +66,7 @@ module _ (points normals : List Float) (c : BallPivotingConfig) (faces words flo
 
   taken-output : p .answer ≡ 0 → writtenOutput points fl room .refused ≡ false
   unfolding writtenOutput
-  taken-output z = let t = taken z in let e : eqb (judged points fl room .answer) 0 ≡ true = eq-eqb (judged points fl room .answer) 0 (ap (λ (s : StlWritten). s .answer) t) in rw e
+  taken-output z = let t = taken z in let e : eqb (stlOutcome points fl room .answer) 0 ≡ true = eq-eqb (stlOutcome points fl room .answer) 0 (ap (λ (s : StlWritten). s .answer) t) in rw e
 
   -- the line is lay's, whatever number of points it counts
   patch-alike : (n : ℕ) → patchOutput points p (found c points) room .refused ≡ true → patchOutput points p (found c points) room .bytes ≡ patchText n p (found c points)
@@ -74,7 +74,7 @@ module _ (points normals : List Float) (c : BallPivotingConfig) (faces words flo
   patch-alike n = go (eqb (p .answer) 0) refl
     where
       go : (b : Bool) → eqb (p .answer) 0 ≡ b → cond b (writtenOutput points fl room) (refusedWith (p .answer) (p .detail)) .refused ≡ true
-          → cond b (writtenOutput points fl room) (refusedWith (p .answer) (p .detail)) .bytes ≡ cond b (listing (countsOf n p) fl) (refusal (p .answer) (p .detail))
+          → cond b (writtenOutput points fl room) (refusedWith (p .answer) (p .detail)) .bytes ≡ cond b (listing (countsOf n p) fl) (refusalText (p .answer) (p .detail))
       go true e r = absurd (true-not-false r (taken-output (eqb-true (p .answer) 0 e)))
       go false e r = refl
 
@@ -92,6 +92,6 @@ unfolding output printed fileOutput fileText
 same-line bytes = go (ltb 65536 (length bytes))
   where
     go : (long : Bool) → cond long (refusedWith 11 0) (outcomeOutput (cloud.outcome bytes 1536 1536) 15000 12352 2112 250084) .refused ≡ true
-        → cond long (refusedWith 11 0) (outcomeOutput (cloud.outcome bytes 1536 1536) 15000 12352 2112 250084) .bytes ≡ cond long (refusal 11 0) (outcomeText (cloud.outcome bytes 1536 1536) 15000 12352 2112)
+        → cond long (refusedWith 11 0) (outcomeOutput (cloud.outcome bytes 1536 1536) 15000 12352 2112 250084) .bytes ≡ cond long (refusalText 11 0) (outcomeText (cloud.outcome bytes 1536 1536) 15000 12352 2112)
     go true r = refl
     go false r = outcome-alike (cloud.outcome bytes 1536 1536) 15000 12352 2112 250084 (omega arith) (omega arith) r

@@ -15,15 +15,15 @@ use Rattle.patch.specs.View as view
 use Rattle.ball_pivoting.specs.Reconstruct.{found, reconstructed}
 use Rattle.ball_pivoting.specs.Outcome.{Reconstructs}
 use Rattle.ball_pivoting.specs.declared.Patch.{Patch}
-use Rattle.cloud.specs.Answers.{Outcome, accepted, refused, outcome, told, flat, Answered}
+use Rattle.cloud.specs.Answers.{Outcome, accepted, refused, outcome, told, coordinatesOf, Answered}
 use Rattle.cloud_lines.specs.declared.line.Point.{Point}
 use Rattle.cloud.specs.declared.CloudRead.{CloudRead}
-use Rattle.listing.specs.Listing.{text, field, decimal, refusal, written, filled}
+use Rattle.listing.specs.Listing.{text, fieldText, digitsOf, refusalText, written, filled}
 use Rattle.listing.proofs.Decimal.{decimal-within}
 use Rattle.patch_text.proofs.Laid.{faces-front}
 use Rattle.patch_text.proofs.Told.{read, front}
 use Rattle.facets.specs.Format.{stl}
-use Rattle.stl_file.specs.Answers.{judged, Wrote}
+use Rattle.stl_file.specs.Answers.{stlOutcome, Wrote}
 use Rattle.stl_file.specs.declared.StlWritten.{StlWritten}
 use Rattle.facets.proofs.Puts.{stl-length}
 use Rattle.stl_file.proofs.Calls.{accepted-patch}
@@ -43,28 +43,28 @@ outputs-within o out after r h =
     omega (arith, h .length-is, ap length (h .after-is), length-append (o .bytes) (drop (length (o .bytes)) out))
 
 -- ---- a refusal's line is at most forty bytes long
-field-within : (k n end : ℕ) → n < 10 ^ suc k → length (field n end) ≤ suc (suc k)
-unfolding field
-field-within k n end h = omega (arith, length-append (decimal n) (end ∷ []), decimal-within k n h)
+field-within : (k n end : ℕ) → n < 10 ^ suc k → length (fieldText n end) ≤ suc (suc k)
+unfolding fieldText
+field-within k n end h = omega (arith, length-append (digitsOf n) (end ∷ []), decimal-within k n h)
 
-line-most : (answer detail : ℕ) → answer < 2 ^ 32 → detail < 2 ^ 64 → length (refusal answer detail) ≤ 40
-unfolding refusal text
+line-most : (answer detail : ℕ) → answer < 2 ^ 32 → detail < 2 ^ 64 → length (refusalText answer detail) ≤ 40
+unfolding refusalText text
 line-most answer detail a d =
     let ten : answer < 10 ^ 10 = omega arith in
     let twenty : detail < 10 ^ 20 = omega arith in
     omega (
       arith,
-      length-append (text "refused," ++ field answer 44) (field detail 10),
-      length-append (text "refused,") (field answer 44),
+      length-append (text "refused," ++ fieldText answer 44) (fieldText detail 10),
+      length-append (text "refused,") (fieldText answer 44),
       field-within 9 answer 44 ten,
       field-within 19 detail 10 twenty,
     )
 
 pub line-output : (answer detail n : ℕ) (out after : List ℕ) (r : StlOutput) → answer < 2 ^ 32 → detail < 2 ^ 64 → 40 ≤ length out → r ≡ record { refused = true; length = n }
-    → (n ≡ written (refusal answer detail) out) × (after ≡ filled (refusal answer detail) out) → Outputs (refusedWith answer detail) out r after
+    → (n ≡ written (refusalText answer detail) out) × (after ≡ filled (refusalText answer detail) out) → Outputs (refusedWith answer detail) out r after
 unfolding written filled
 line-output answer detail n out after r a d room e w =
-    let t : List ℕ = refusal answer detail in
+    let t : List ℕ = refusalText answer detail in
     let fits = le-leb (length t) (length out) (omega (arith, line-most answer detail a d)) in
     let number : n ≡ length t = rw fits at (w .0) in
     let held : after ≡ t ++ drop (length t) out = rw fits at (w .1) in
@@ -132,7 +132,7 @@ module _ (bytes : List ℕ) (points normals : List Float) (faces words floats ro
   refused-outcome (refused answer detail) bad = refl
 
   accepted-outcome : (q : Outcome) (radius : Float) (ps : List Point) → q ≡ accepted radius ps
-      → laidOutput radius (flat (map (λ p. p .position) ps)) (flat (map (λ p. p .normal) ps)) faces words floats room ≡ outcomeOutput q faces words floats room
+      → laidOutput radius (coordinatesOf (map (λ p. p .position) ps)) (coordinatesOf (map (λ p. p .normal) ps)) faces words floats room ≡ outcomeOutput q faces words floats room
   unfolding outcomeOutput
   accepted-outcome q radius ps e = ap (λ (s : Outcome). outcomeOutput s faces words floats room) (sym e)
 

@@ -13,9 +13,9 @@ use Rattle.patch.specs.View as patch
 use Rattle.ball_pivoting.specs.Reconstruct.{Found, found, reconstructed}
 use Rattle.ball_pivoting.specs.declared.Patch.{Patch}
 use Rattle.cloud.specs.Answers as cloud
-use Rattle.listing.specs.Listing.{refusal}
+use Rattle.listing.specs.Listing.{refusalText}
 use Rattle.facets.specs.Format.{stl}
-use Rattle.stl_file.specs.Answers.{judged}
+use Rattle.stl_file.specs.Answers.{stlOutcome}
 use Rattle.patch_stl.specs.declared.StlOutput.{StlOutput}
 
 pub record Output : Type 0 where
@@ -23,14 +23,14 @@ pub record Output : Type 0 where
   pub bytes : List ℕ
 
 abbrev pub refusedWith : ℕ → ℕ → Output
-refusedWith answer detail = record { refused = true; bytes = refusal answer detail }
+refusedWith answer detail = record { refused = true; bytes = refusalText answer detail }
 
 -- what the writer of STL files answers, over an output of `room` bytes
 unfoldable pub writtenOutput : List Float → List ℕ → ℕ → Output
 writtenOutput points faces room =
-    cond (eqb (judged points faces room .answer) 0)
+    cond (eqb (stlOutcome points faces room .answer) 0)
     (record { refused = false; bytes = stl points faces })
-    (refusedWith (judged points faces room .answer) (judged points faces room .detail))
+    (refusedWith (stlOutcome points faces room .answer) (stlOutcome points faces room .detail))
 
 -- what the main call answers: the file of the faces found, or its refusal
 unfoldable pub patchOutput : List Float → Patch → Found → ℕ → Output

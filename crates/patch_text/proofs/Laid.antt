@@ -20,7 +20,7 @@ use Rattle.ball_pivoting.specs.Reconstruct.{found, reconstructed, accepted, fac
 use Rattle.ball_pivoting.specs.Outcome.{Reconstructs}
 use Rattle.ball_pivoting.specs.declared.Patch.{Patch}
 use Rattle.ball_pivoting.proofs.Answered.{answered-zero}
-use Rattle.listing.specs.Listing.{refusal, listed, written, filled}
+use Rattle.listing.specs.Listing.{refusalText, listed, written, filled}
 use Rattle.patch_text.specs.Text.{countsOf, patchText, laidText, Prints}
 
 -- the faces' points stand in front of the slice
@@ -63,7 +63,7 @@ module _ (points normals : List Float) (c : BallPivotingConfig) (faces words : L
       let long : 3 * p .faces ≤ length (view.flat (found c points .faces)) = omega (arith, a .0, length-flat (found c points .faces)) in
       rw (e, eq-eqb (p .answer) 0 z, le-leb (3 * p .faces) (length (view.flat (found c points .faces))) long)
 
-  pub refused-text : (p .answer ≡ 0 → ⊥) → refusal (p .answer) (p .detail) ≡ patchText (length points / 3) p (found c points)
+  pub refused-text : (p .answer ≡ 0 → ⊥) → refusalText (p .answer) (p .detail) ≡ patchText (length points / 3) p (found c points)
   unfolding patchText
   refused-text bad = rw (ne-eqb (p .answer) 0 bad)
 

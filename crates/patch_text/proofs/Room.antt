@@ -25,7 +25,7 @@ use Rattle.cloud.specs.Answers as cloud
 use Rattle.cloud_lines.specs.declared.line.Point.{Point}
 use Rattle.numerals.proofs.Shorter.{Below}
 use Rattle.cloud_lines.proofs.Shorter.{field-below}
-use Rattle.listing.specs.Listing.{refusal, listing, written, filled}
+use Rattle.listing.specs.Listing.{refusalText, listing, written, filled}
 use Rattle.listing.proofs.Lengths.{listing-most, listing-some, refusal-most, refusal-some}
 use Rattle.patch_text.specs.Text.{countsOf, patchText, laidText, outcomeText, fileText, printed, Prints, PrintsFile}
 use Rattle.patch_text.proofs.Told.{part-length}
@@ -117,7 +117,7 @@ module _ (points normals : List Float) (c : BallPivotingConfig) (room words floa
     where
       go : (zero-answer : Bool) → eqb (reconstructed points normals c room words floats .answer) 0 ≡ zero-answer
           → length (cond zero-answer (listing (countsOf (length points / 3) (reconstructed points normals c room words floats)) (view.flat (found c points .faces)))
-          (refusal (reconstructed points normals c room words floats .answer) (reconstructed points normals c room words floats .detail))) ≤ 220098
+          (refusalText (reconstructed points normals c room words floats .answer) (reconstructed points normals c room words floats .detail))) ≤ 220098
       go true e = listed-most few short (reconstructed points normals c room words floats) refl (eqb-true _ 0 e)
       go false e =
           let b = brief few in
@@ -189,7 +189,7 @@ pub printed-most : (bytes : List ℕ) → length (printed bytes) ≤ 220098
 unfolding printed fileText cloud.outcome
 printed-most bytes = go (ltb 65536 (length bytes)) refl
   where
-    go : (long : Bool) → ltb 65536 (length bytes) ≡ long → length (cond long (refusal 11 0) (outcomeText (cloud.outcome bytes 1536 1536) 15000 12352 2112)) ≤ 220098
+    go : (long : Bool) → ltb 65536 (length bytes) ≡ long → length (cond long (refusalText 11 0) (outcomeText (cloud.outcome bytes 1536 1536) 15000 12352 2112)) ≤ 220098
     go true e = omega (arith, refusal-most 11 0 (omega arith) (omega arith))
     go false e =
         let l = ltb-false 65536 (length bytes) e in
@@ -214,7 +214,7 @@ patch-some : (n : ℕ) (p : Patch) (f : Found) → 0 < length (patchText n p f)
 unfolding patchText
 patch-some n p f =
     let faces : List ℕ = view.flat (f .faces) in
-    cond-some (eqb (p .answer) 0) (listing (countsOf n p) faces) (refusal (p .answer) (p .detail)) (listing-some (countsOf n p) faces) (refusal-some (p .answer) (p .detail))
+    cond-some (eqb (p .answer) 0) (listing (countsOf n p) faces) (refusalText (p .answer) (p .detail)) (listing-some (countsOf n p) faces) (refusal-some (p .answer) (p .detail))
 
 outcome-some : (o : cloud.Outcome) (faces words floats : ℕ) → 0 < length (outcomeText o faces words floats)
 unfolding outcomeText laidText
@@ -228,7 +228,7 @@ pub printed-some : (bytes : List ℕ) → 0 < length (printed bytes)
 unfolding printed fileText
 printed-some bytes =
     let o : cloud.Outcome = cloud.outcome bytes 1536 1536 in
-    cond-some (ltb 65536 (length bytes)) (refusal 11 0) (outcomeText o 15000 12352 2112) (refusal-some 11 0) (outcome-some o 15000 12352 2112)
+    cond-some (ltb 65536 (length bytes)) (refusalText 11 0) (outcomeText o 15000 12352 2112) (refusal-some 11 0) (outcome-some o 15000 12352 2112)
 
 -- so whatever holds of a text that was printed, this holds of the file
 pub prints-file : (bytes out : List ℕ) (r : ℕ) (out' : List ℕ) → Prints (printed bytes) out r out' → PrintsFile bytes out r out'

@@ -12,7 +12,7 @@ use Rattle.patch.specs.View as patch
 use Rattle.ball_pivoting.specs.Reconstruct.{Found, found, reconstructed}
 use Rattle.ball_pivoting.specs.declared.Patch.{Patch}
 use Rattle.cloud.specs.Answers as cloud
-use Rattle.listing.specs.Listing.{refusal, listing, written, filled}
+use Rattle.listing.specs.Listing.{refusalText, listing, written, filled}
 use Rattle.listing.specs.declared.Counts.{Counts}
 
 -- what is counted of a patch over n points
@@ -22,7 +22,7 @@ countsOf n p = record { points = n; faces = p .faces; seeds = p .seeds; looks = 
 -- the main call's answer over n points: the listing of the faces found, or the refusal
 unfoldable pub patchText : ℕ → Patch → Found → List ℕ
 patchText n p f = cond (eqb (p .answer) 0) (listing (countsOf n p) (patch.flat (f .faces)))
-    (refusal (p .answer) (p .detail))
+    (refusalText (p .answer) (p .detail))
 
 -- a cloud, by its coordinates and normals, with the settings of `ball_pivoting_from_normals`; `faces`, `words` and
 -- `floats` are the lengths of the slices lent for them
@@ -35,12 +35,12 @@ unfoldable pub outcomeText : cloud.Outcome → ℕ → ℕ → ℕ → List ℕ
 outcomeText (cloud.accepted radius ps) faces words floats =
     laidText radius (length ps) (cloud.flat (map (λ p. p .position) ps)) (cloud.flat (map (λ p. p .normal) ps)) faces
     words floats
-outcomeText (cloud.refused answer detail) faces words floats = refusal answer detail
+outcomeText (cloud.refused answer detail) faces words floats = refusalText answer detail
 
 -- a whole file, with slices of these lengths; one of more than 65,536 bytes is refused before any line is read
 unfoldable pub fileText : List ℕ → ℕ → ℕ → ℕ → ℕ → ℕ → List ℕ
 fileText bytes points normals faces words floats =
-    cond (ltb 65536 (length bytes)) (refusal noRoom 0)
+    cond (ltb 65536 (length bytes)) (refusalText noRoom 0)
     (outcomeText (cloud.outcome bytes points normals) faces words floats)
 
 -- the program: room for 512 points and 5,000 faces, and work slices for so many points

@@ -13,7 +13,7 @@ use Rattle.vector.specs.declared.Point3f.{Point3f}
 use Rattle.points.specs.Points.{pointAt}
 use Rattle.lists.specs.Lists.{upFrom}
 use Rattle.patch.specs.Lay.{Face, face}
-use Rattle.plain.specs.Plain.{candidate, candidates, sound, valid, facesOver, facesAt, facesOf, plainFaces}
+use Rattle.plain.specs.Plain.{candidate, candidates, sound, valid, facesOver, facesAt, plainFacesFrom, plainFaces}
 
 -- ---- the numbers from k up to n
 pub up-more : (k n : ℕ) → k < n → upFrom k (n - k) ≡ k ∷ upFrom (k + 1) (n - (k + 1))
@@ -84,23 +84,23 @@ module _ (points : List Float) (radius : Float) where
     valid-is a b e f g h = cc
 
   -- i goes from 0 to n
-  pub of-more : (i n : ℕ) → i < n → facesOf points radius (upFrom i (n - i)) ≡ facesAt points radius i (candidates points radius i (upFrom 0 i)) ++ facesOf points radius (upFrom (i + 1) (n - (i + 1)))
-  unfolding facesOf
-  of-more i n h = ap (facesOf points radius) (up-more i n h)
+  pub of-more : (i n : ℕ) → i < n → plainFacesFrom points radius (upFrom i (n - i)) ≡ facesAt points radius i (candidates points radius i (upFrom 0 i)) ++ plainFacesFrom points radius (upFrom (i + 1) (n - (i + 1)))
+  unfolding plainFacesFrom
+  of-more i n h = ap (plainFacesFrom points radius) (up-more i n h)
 
-  pub of-none : (i n : ℕ) → n ≤ i → facesOf points radius (upFrom i (n - i)) ≡ []
-  unfolding facesOf
-  of-none i n h = ap (facesOf points radius) (up-none i n h)
+  pub of-none : (i n : ℕ) → n ≤ i → plainFacesFrom points radius (upFrom i (n - i)) ≡ []
+  unfolding plainFacesFrom
+  of-none i n h = ap (plainFacesFrom points radius) (up-none i n h)
 
   -- ---- the whole
   pub plain-most : length (plainFaces points radius) ≤ 10000
   unfolding plainFaces
   plain-most =
-      let all : List Face = facesOf points radius (upFrom 0 (length points / 3)) in
+      let all : List Face = plainFacesFrom points radius (upFrom 0 (length points / 3)) in
       omega (arith, length-take 10000 all, min-le-left 10000 (length all))
 
-  few : (n : ℕ) → n < 3 → facesOf points radius (upFrom 0 n) ≡ []
-  unfolding facesOf facesAt facesOver candidates upFrom
+  few : (n : ℕ) → n < 3 → plainFacesFrom points radius (upFrom 0 n) ≡ []
+  unfolding plainFacesFrom facesAt facesOver candidates upFrom
   few zero h = refl
   few (suc zero) h = refl
   few (suc (suc zero)) h = two (candidate points radius 1 0)

@@ -15,7 +15,7 @@ use Rattle.lists.proofs.Bools.{either}
 use Rattle.lists.proofs.Counts.{any-false}
 use Rattle.patch.specs.Lay.{Face}
 use Rattle.patch.proofs.View.{written-none}
-use Rattle.plain.specs.Plain.{candidates, facesOver, facesAt, facesOf, plainFaces}
+use Rattle.plain.specs.Plain.{candidates, facesOver, facesAt, plainFacesFrom, plainFaces}
 use Rattle.plain.specs.Laid.{Holds, Lays}
 use Rattle.plain.specs.Listed.{Listed}
 use Rattle.plain.specs.Reached.{paired, plainReached}
@@ -95,13 +95,13 @@ module _ (points : List Float) (radius : Float) where
   bit-false true h = absurd (omega arith)
   bit-false false h = refl
 
-  none-paired : (is : List ℕ) → count (paired points radius) is ≡ 0 → facesOf points radius is ≡ []
-  unfolding facesOf paired
+  none-paired : (is : List ℕ) → count (paired points radius) is ≡ 0 → plainFacesFrom points radius is ≡ []
+  unfolding plainFacesFrom paired
   none-paired [] h = refl
   none-paired (i ∷ is) h =
       let js = candidates points radius i (upFrom 0 i) in
       let l = ltb-false 1 (length js) (bit-false (ltb 1 (length js)) (omega arith)) in
-      ap (λ (fs : List Face). fs ++ facesOf points radius is) (lonely i js l) ∙ none-paired is (omega arith)
+      ap (λ (fs : List Face). fs ++ plainFacesFrom points radius is) (lonely i js l) ∙ none-paired is (omega arith)
 
   pub plain-reached : 1 ≤ length (plainFaces points radius) → plainReached points radius ≡ true
   unfolding plainFaces plainReached

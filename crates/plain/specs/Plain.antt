@@ -49,10 +49,10 @@ facesAt points radius i [] = []
 facesAt points radius i (a ∷ bs) = facesOver points radius i a bs ++ facesAt points radius i bs
 
 -- those of some points i, in their order
-unfoldable pub facesOf : List Float → Float → List ℕ → List Face
-facesOf points radius [] = []
-facesOf points radius (i ∷ is) =
-    facesAt points radius i (candidates points radius i (upFrom 0 i)) ++ facesOf points radius is
+unfoldable pub plainFacesFrom : List Float → Float → List ℕ → List Face
+plainFacesFrom points radius [] = []
+plainFacesFrom points radius (i ∷ is) =
+    facesAt points radius i (candidates points radius i (upFrom 0 i)) ++ plainFacesFrom points radius is
 
 unfoldable pub plainFaces : List Float → Float → List Face
-plainFaces points radius = take 10000 (facesOf points radius (upFrom 0 (length points / 3)))
+plainFaces points radius = take 10000 (plainFacesFrom points radius (upFrom 0 (length points / 3)))

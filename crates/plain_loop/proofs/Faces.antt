@@ -16,7 +16,7 @@ use Rattle.triangle.specs.Quality.{circumradius}
 use Rattle.vector.specs.declared.Point3f.{Point3f}
 use Rattle.points.specs.Points.{pointAt}
 use Rattle.patch.specs.Lay.{Face, face}
-use Rattle.plain.specs.Plain.{candidate, candidates, sound, valid, facesOver, facesAt, facesOf, plainFaces}
+use Rattle.plain.specs.Plain.{candidate, candidates, sound, valid, facesOver, facesAt, plainFacesFrom, plainFaces}
 use Rattle.plain.proofs.Plain.{plain-few}
 use Rattle.plain_loop.specs.SimpleTriangulate.{maxTriangles, loop, nearby, tryThree, trySecond, tryFirst}
 use Rattle.plain_loop.specs.SimpleTriangulate.{simpleTriangulate, PlainLoop}
@@ -213,8 +213,8 @@ module _ (points : List Float) (radius : Float) where
   unfolding tryFirst ofPoint
   first i ts h = firsts i (nearby points radius i (upFrom 0 count)) ts (omega arith)
 
-  faces-from : (m k : ℕ) → k + m ≤ count → each ofPoint (upFrom k m) ≡ facesOf points radius (upFrom k m)
-  unfolding upFrom facesOf ofPoint
+  faces-from : (m k : ℕ) → k + m ≤ count → each ofPoint (upFrom k m) ≡ plainFacesFrom points radius (upFrom k m)
+  unfolding upFrom plainFacesFrom ofPoint
   faces-from zero k h = refl
   faces-from (suc m) k h =
       ap₂ (λ (l r : List Face). l ++ r) (candidates-are k count (omega arith)) (faces-from m (k + 1) (omega arith))
@@ -229,4 +229,4 @@ module _ (points : List Float) (radius : Float) where
       go false e =
           loop-is (tryFirst points radius) ofPoint first (upFrom 0 count) [] (omega arith)
           ∙ ap (take maxTriangles) (faces-from count 0 (omega arith))
-          ∙ ap (λ (most : ℕ). take most (facesOf points radius (upFrom 0 count))) limit-is
+          ∙ ap (λ (most : ℕ). take most (plainFacesFrom points radius (upFrom 0 count))) limit-is

@@ -14,7 +14,7 @@ use Rattle.sorting.specs.Sorted.{insert, insertAll, sorted, percentileOf}
 use Rattle.sorting.proofs.Insertion.{insert-length}
 use Rattle.settings.specs.declared.BallPivotingConfig.{BallPivotingConfig}
 use Rattle.grid.specs.declared.SpatialGrid.{SpatialGrid}
-use Rattle.radii.specs.Radii.{dedup, candidates, radiiFrom, densitiesFrom, stepOf, sampleCount, adaptiveRadii}
+use Rattle.radii.specs.Radii.{dedup, radiusCandidates, radiiFrom, densitiesFrom, stepOf, sampleCount, adaptiveRadii}
 use Rattle.radii.specs.Steps.{percentileRadius}
 
 -- ---- insertion of a list
@@ -79,8 +79,8 @@ radii-step f₀ f u rs at start k inside inv r =
 pub chosen : (c : BallPivotingConfig) (ds f₁ f₂ f₃ : List Float) (at : ℕ) → take (c .«percentile_count») (drop at f₁) ≡ sorted (map (percentileRadius ds) (take (c .«percentile_count») (c .«adaptive_percentiles»)))
     → Written f₁ f₂ at (c .«percentile_count» + 1) (insert (c .radius) (take (c .«percentile_count») (drop at f₁)))
     → take (c .«percentile_count» + 1 + c .«additional_count») (drop at f₃) ≡ insertAll (take (c .«percentile_count» + 1) (drop at f₂)) (take (c .«additional_count») (c .«additional_radii»))
-    → take (c .«percentile_count» + 1 + c .«additional_count») (drop at f₃) ≡ sorted (candidates c ds)
-unfolding candidates insertAll
+    → take (c .«percentile_count» + 1 + c .«additional_count») (drop at f₃) ≡ sorted (radiusCandidates c ds)
+unfolding radiusCandidates insertAll
 chosen c ds f₁ f₂ f₃ at e₁ e₂ e₃ =
     e₃
     ∙ ap (λ (l : List Float). insertAll l (take (c .«additional_count») (c .«additional_radii»))) (e₂ .inside ∙ ap (λ (l : List Float). insert (c .radius) l) e₁)
@@ -92,10 +92,10 @@ unfolding radiiFrom insertAll
 radii-none c f [] e = refl
 radii-none c f (d ∷ ds) e = absurd (omega (arith, ap length e, insert-count (insert d []) ds, insert-length (lt d) d []))
 
-pub radii-some : (c : BallPivotingConfig) (f ds : List Float) (count : ℕ) → 1 ≤ count → count ≤ length f → take count f ≡ sorted ds → dedup (sorted (candidates c (take count f))) ≡ radiiFrom c ds
+pub radii-some : (c : BallPivotingConfig) (f ds : List Float) (count : ℕ) → 1 ≤ count → count ≤ length f → take count f ≡ sorted ds → dedup (sorted (radiusCandidates c (take count f))) ≡ radiiFrom c ds
 unfolding radiiFrom insertAll
 radii-some c f [] count h long e = absurd (omega (arith, ap length e, length-take-le count f long))
-radii-some c f (d ∷ ds) count h long e = ap (λ (l : List Float). dedup (sorted (candidates c l))) e
+radii-some c f (d ∷ ds) count h long e = ap (λ (l : List Float). dedup (sorted (radiusCandidates c l))) e
 
 pub radii-off : (c : BallPivotingConfig) (g : SpatialGrid) (pts : List Float) (n : ℕ) → not (c .«adaptive_radius») ≡ true → [] ≡ adaptiveRadii c g pts n
 unfolding adaptiveRadii

@@ -65,15 +65,15 @@ dedup [] = []
 dedup (x ∷ xs) = x ∷ spaced x xs
 
 -- percentile radii, then the main radius, then the additional ones
-unfoldable pub candidates : BallPivotingConfig → List Float → List Float
-candidates c densities =
+unfoldable pub radiusCandidates : BallPivotingConfig → List Float → List Float
+radiusCandidates c densities =
     map (λ p. percentileOf densities p ⊗ f32 0x40000000) (take (c .«percentile_count») (c .«adaptive_percentiles»))
     ++ (c .radius ∷ take (c .«additional_count») (c .«additional_radii»))
 
 -- none where no sample has a neighbour
 unfoldable pub radiiFrom : BallPivotingConfig → List Float → List Float
 radiiFrom c [] = []
-radiiFrom c (d ∷ ds) = dedup (sorted (candidates c (sorted (d ∷ ds))))
+radiiFrom c (d ∷ ds) = dedup (sorted (radiusCandidates c (sorted (d ∷ ds))))
 
 unfoldable pub adaptiveRadii : BallPivotingConfig → SpatialGrid → List Float → ℕ → List Float
 adaptiveRadii c g pts n =

@@ -19,9 +19,9 @@ use Rattle.domain.proofs.Accepted.{accepted-reconstruct}
 use Rattle.sorting.specs.Sorted.{sorted, All, whole, percentileOf}
 use Rattle.spatial_hash.proofs.Squares.{Good}
 use Rattle.radii.specs.Radii.{distancesTo, total, average, nearOf, nearest, densitiesFrom, stepOf, sampleCount, dedup}
-use Rattle.radii.specs.Radii.{candidates, radiiFrom, adaptiveRadii}
+use Rattle.radii.specs.Radii.{radiusCandidates, radiiFrom, adaptiveRadii}
 use Rattle.radii.proofs.Rising.{sorted-rising}
-use Rattle.ball_pivoting.specs.Reconstruct.{pointCount, indexOf, radiiOf}
+use Rattle.ball_pivoting.specs.Reconstruct.{pointCount, spatialIndexOf, radiiOf}
 use Rattle.total_order.specs.TotalOrder.{totallySorted, Given}
 use Rattle.total_order.proofs.Order.{Fine}
 use Rattle.total_order.proofs.Fine.{far, fine-finite}
@@ -62,15 +62,15 @@ module _ (start : Float) (zero-start : (start ≡ f32 0) ⊎ (start ≡ neg (f32
     n = pointCount points
 
     densities-same : (step m i : ℕ) → i + m * step < n + step
-        → localDensities start c points step i m ≡ densitiesFrom c (indexOf c points) points n step i m
+        → localDensities start c points step i m ≡ densitiesFrom c (spatialIndexOf c points) points n step i m
     unfolding localDensities densitiesFrom distancesOf nearest
     densities-same step zero i h = refl
     densities-same step (suc m) i h =
         let l : i < n = omega arith in
-        let ds : List Float = distancesTo points i (nearOf c (indexOf c points) points n i) in
+        let ds : List Float = distancesTo points i (nearOf c (spatialIndexOf c points) points n i) in
         density-same (totallySorted ds) (sorted ds) (localDensities start c points step (i + step) m)
-        (sym (near-sorted c points n cloud settled given (indexOf c points) i l))
-        (nearest-fine c points n cloud settled given (indexOf c points) i l)
+        (sym (near-sorted c points n cloud settled given (spatialIndexOf c points) i l))
+        (nearest-fine c points n cloud settled given (spatialIndexOf c points) i l)
         ∙ ap (λ (later : List Float). cond (eqb (length (take 10 (sorted ds))) 0) later
         (average (take 10 (sorted ds)) ∷ later))
         (densities-same step m (i + step) (omega arith))
@@ -86,8 +86,8 @@ module _ (start : Float) (zero-start : (start ≡ f32 0) ⊎ (start ≡ neg (f32
         ap₂ (λ (k : ℕ) (rest : List Float). getD ds k (f32 0) ⊗ f32 0x40000000 ∷ rest)
         (place-same (length ds) p some few (r .0) (r .1)) (percentiles-same ds some few ps (a .1))
 
-    pushed-same : (ds : List Float) → 1 ≤ length ds → length ds ≤ 4096 → pushed start c points ds ≡ candidates c ds
-    unfolding pushed candidates
+    pushed-same : (ds : List Float) → 1 ≤ length ds → length ds ≤ 4096 → pushed start c points ds ≡ radiusCandidates c ds
+    unfolding pushed radiusCandidates
     pushed-same ds some few =
         ap (λ (rs : List Float). rs ++ (c .radius ∷ take (c .«additional_count») (c .«additional_radii»)))
         (percentiles-same ds some few (take (c .«percentile_count») (c .«adaptive_percentiles»))
@@ -106,19 +106,19 @@ module _ (start : Float) (zero-start : (start ≡ f32 0) ⊎ (start ≡ neg (f32
     chosen-same [] a few = refl
     chosen-same (d ∷ ds) a few =
         let xs : List Float = sorted (d ∷ ds) in
-        let fine = candidates-fine c points n cloud settled given (indexOf c points) xs
+        let fine = candidates-fine c points n cloud settled given (spatialIndexOf c points) xs
         (all-insert (Fine far) [] (d ∷ ds) tt a) in
         ap (λ (ys : List Float). dedupBy (totallySorted (pushed start c points ys)))
         (sym (fine-sorted far far-finite (d ∷ ds) a))
         ∙ ap (λ (ys : List Float). dedupBy (totallySorted ys))
         (pushed-same xs (omega (arith, sorted-length (d ∷ ds))) (omega (arith, sorted-length (d ∷ ds))))
-        ∙ ap dedupBy (sym (fine-sorted farther farther-finite (candidates c xs) fine))
-        ∙ spaced-same (candidates c xs) fine
+        ∙ ap dedupBy (sym (fine-sorted farther farther-finite (radiusCandidates c xs) fine))
+        ∙ spaced-same (radiusCandidates c xs) fine
 
     radii-same : computeAdaptiveRadii start c points ≡ radiiOf c points
     unfolding computeAdaptiveRadii radiiOf adaptiveRadii
     radii-same =
-        let g = indexOf c points in
+        let g = spatialIndexOf c points in
         let s = step-some c points n cloud settled given g in
         let k = div-mul-le-self (n + stepOf n - 1 - 0) (stepOf n) in
         let few : length (densitiesFrom c g points n (stepOf n) 0 (sampleCount n)) ≤ 4096 =

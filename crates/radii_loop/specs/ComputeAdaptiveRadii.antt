@@ -15,7 +15,7 @@ use Rattle.sorting.specs.Sorted.{whole}
 use Rattle.settings.specs.declared.BallPivotingConfig.{BallPivotingConfig}
 use Rattle.domain.specs.Refusals.{reconstructRefusal}
 use Rattle.radii.specs.Radii.{distancesTo, nearOf, total, stepOf, sampleCount}
-use Rattle.ball_pivoting.specs.Reconstruct.{pointCount, indexOf, radiiOf}
+use Rattle.ball_pivoting.specs.Reconstruct.{pointCount, spatialIndexOf, radiiOf}
 use Rattle.total_order.specs.TotalOrder.{totallySorted, Given}
 
 -- `abs`
@@ -40,7 +40,7 @@ dedupBy (b ∷ rest) = b ∷ spacedBy b rest
 module _ (start : Float) (c : BallPivotingConfig) (points : List Float) where
   -- `distances` of the sample i, sorted
   unfoldable pub distancesOf : ℕ → List Float
-  distancesOf i = totallySorted (distancesTo points i (nearOf c (indexOf c points) points (pointCount points) i))
+  distancesOf i = totallySorted (distancesTo points i (nearOf c (spatialIndexOf c points) points (pointCount points) i))
 
   -- `let k = 10.min(distances.len()); if k > 0 { .. distances.iter().take(k).sum::<f32>() / k as f32 .. }`, at m
   -- samples

@@ -25,8 +25,8 @@ firstOutside bound xs = leading (neg bound) bound xs / 3
 abbrev pub farthest : Float
 farthest = f32 0x461c4000
 
-abbrev pub largest : Float
-largest = f32 0x7f7fffff
+abbrev pub largestFinite : Float
+largestFinite = f32 0x7f7fffff
 
 -- a percentile, 0 to 1
 unfoldable pub percentileInside : Float → Bool
@@ -34,4 +34,4 @@ percentileInside p = inside (f32 0) (f32 0x3f800000) p
 
 -- the first point with a coordinate or a normal's component outside the domain; the number of points if there is none
 unfoldable pub firstBadPoint : List Float → List Float → ℕ
-firstBadPoint points normals = min (firstOutside farthest points) (firstOutside largest normals)
+firstBadPoint points normals = min (firstOutside farthest points) (firstOutside largestFinite normals)

@@ -24,7 +24,7 @@ use Rattle.grid.specs.declared.SpatialGrid.{SpatialGrid}
 use Rattle.grid.proofs.Near.{neighbors-below}
 use Rattle.lists.proofs.Bools.{and-both}
 use Rattle.spatial_hash.proofs.Squares.{Good, root-good, squared-good, distance-back}
-use Rattle.radii.specs.Radii.{distancesTo, average, nearOf, nearest, densitiesFrom, stepOf, sampleCount, spaced, dedup, candidates, radiiFrom, adaptiveRadii}
+use Rattle.radii.specs.Radii.{distancesTo, average, nearOf, nearest, densitiesFrom, stepOf, sampleCount, spaced, dedup, radiusCandidates, radiiFrom, adaptiveRadii}
 use Rattle.radii.proofs.Rising.{Number, Ascending, insert-ascending, sorted-good}
 use Rattle.radii.proofs.Densities.{average-number}
 use Rattle.decisions.proofs.Growth.{double-number}
@@ -142,8 +142,8 @@ module _ (c : BallPivotingConfig) (g : SpatialGrid) (pts : List Float) (n : ℕ)
     unfolding ofBits isNan
     zero-number = tt
 
-    candidates-number : (ds : List Float) → All Number ds → All Number (candidates c ds)
-    unfolding candidates percentileOf
+    candidates-number : (ds : List Float) → All Number ds → All Number (radiusCandidates c ds)
+    unfolding radiusCandidates percentileOf
     candidates-number ds a =
         let ps = take (c .«percentile_count») (c .«adaptive_percentiles») in
         all-append Number (map (λ p. percentileOf ds p ⊗ f32 0x40000000) ps) (c .radius ∷ take (c .«additional_count») (c .«additional_radii»))
@@ -154,7 +154,7 @@ module _ (c : BallPivotingConfig) (g : SpatialGrid) (pts : List Float) (n : ℕ)
     unfolding radiiFrom
     radii-at [] a = tt
     radii-at (d ∷ ds) a =
-        let all = candidates c (sorted (d ∷ ds)) in
+        let all = radiusCandidates c (sorted (d ∷ ds)) in
         dedup-rising (sorted all) (sorted-ascending all (candidates-number (sorted (d ∷ ds)) (sorted-ascending (d ∷ ds) a .1)) .0)
 
     pub radii-rising : Rising (adaptiveRadii c g pts n)

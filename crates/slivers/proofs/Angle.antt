@@ -10,7 +10,7 @@ use Rattle.numbers.specs.Rounded.{f32, _⊕_, _⊖_, _⊗_, _⊘_}
 use Rattle.numbers.specs.Root.{root}
 use Rattle.numbers.specs.Order.{clamp}
 use Rattle.numbers.specs.Bounds.{unsigned, Bounded}
-use Rattle.numbers.specs.Acos.{R, abs, cleared, acosHigh, acosInside, acos}
+use Rattle.numbers.specs.Acos.{R, abs, highPart, acosHigh, acosInside, acos}
 use Rattle.numbers.proofs.Above.{positive-signless, finite-under}
 use Rattle.numbers.proofs.OrderLaws.{le-left, le-right, le-refl, lt-le, le-trans, not-lt-le, le-not-lt, finite-number, unsigned-le, unsigned-number}
 use Rattle.numbers.proofs.SumOrder.{add-monotone, add-unsigned}
@@ -154,7 +154,7 @@ module _ (κ : Float) (f : T (fits binary32 κ)) (lo : T (le (f32 0x3f000000) κ
   abbrev S : Float
   S = root Z
 
-  known : Parts Z S (cleared S)
+  known : Parts Z S (highPart S)
   known = parts κ f lo hi
 
   Z-finite : T (finite Z)
@@ -229,7 +229,7 @@ module _ (κ : Float) (f : T (fits binary32 κ)) (lo : T (le (f32 0x3f000000) κ
     high-under b =
         let z = zOf v in
         let s = root z in
-        let d = cleared s in
+        let d = highPart s in
         let c = (z ⊖ d ⊗ d) ⊘ (s ⊕ d) in
         let p = parts v g from-half b in
         let fits-z = z-fits v g from-half b in

@@ -18,7 +18,7 @@ use lib.Ieee.Scale.{finite}
 use lib.Ieee.Positive.{positive, positive-finite, between, den, den-pos, value→cross}
 use Rattle.numbers.specs.Rounded.{f32, _⊕_, _⊖_, _⊗_, _⊘_}
 use Rattle.numbers.specs.Root.{root}
-use Rattle.numbers.specs.Acos.{cleared}
+use Rattle.numbers.specs.Acos.{highPart}
 use Rattle.numbers.proofs.OrderLaws.{plus, minus, le-not-lt, lt-le, le-trans, le-lt-trans, finite-number, unsigned-le}
 use Rattle.numbers.proofs.RoundedOrder.{rounds-le, rounds-own, nonnegative-minus, nonnegative-plus}
 use Rattle.numbers.proofs.RootMonotone.{root-above}
@@ -74,8 +74,8 @@ record Cleared (x : Float) (n : ℕ) : Type 0 where
   under : d ≤ n
   cut : n * 2048 ≤ d * 2049
 
-cleared-units : (s : Float) (n : ℕ) → T (fits binary32 s) → Units s n 136 149 → Cleared (cleared s) n
-unfolding cleared IsLe
+cleared-units : (s : Float) (n : ℕ) → T (fits binary32 s) → Units s n 136 149 → Cleared (highPart s) n
+unfolding highPart IsLe
 cleared-units s n f u =
     rw (is-false (isNan s) (finite-number s (positive-finite s (units-positive u))))
     (record {
@@ -198,12 +198,12 @@ one-value : HasValue (f32 0x3f800000) false (2 ^ 149) w
 unfolding ofBits
 one-value = (refl, refl)
 
-parts-of : (z : Float) → T (fits binary32 z) → T (le (f32 0x33000000) z) → T (le z (f32 0x3e800000)) → Parts z (root z) (cleared (root z))
+parts-of : (z : Float) → T (fits binary32 z) → T (le (f32 0x33000000) z) → T (le z (f32 0x3e800000)) → Parts z (root z) (highPart (root z))
 parts-of z f lo hi =
     let zu = between-units z (f32 0x33000000) (f32 0x3e800000) 124 147 f (unfold ofBits in (refl, refl)) (unfold ofBits in (refl, refl)) lo hi in
     let s = root z in
     let r = root-units 136 149 f (zu .1) tt in
-    let d = cleared s in
+    let d = highPart s in
     let e = cleared-units s (r .n) (root-above z f (above-zero z (units-positive (zu .1))) .1) (r .is) in
     let p = mul-units 121 149 (e .is) (e .is) tt in
     let y = mul-units 114 138 (zu .1) factor-units tt in
@@ -274,7 +274,7 @@ module _ (v : Float) (f : T (fits binary32 v)) (lo : T (le (f32 0x3f000000) v)) 
   pub z-fits : T (fits binary32 z)
   z-fits = mul-fits binary32 rest (f32 0x3f000000)
 
-  pub parts : Parts z (root z) (cleared (root z))
+  pub parts : Parts z (root z) (highPart (root z))
   parts = parts-of z z-fits z-low z-high
 
 -- z falls as v grows

@@ -16,7 +16,7 @@ use Rattle.words.specs.Chunks.{chunks}
 use Rattle.words.proofs.Chunks.{chunks-length}
 use Rattle.facets.specs.Format.{three, cornerAt, patchCorners}
 use Rattle.facets.specs.Known.{allBelow, Known}
-use Rattle.stl_file.specs.Answers.{judged}
+use Rattle.stl_file.specs.Answers.{stlOutcome}
 use Rattle.stl_file.proofs.RoundTrip.{up-length}
 use Rattle.stl_file.proofs.Normals.{Near, corner-near}
 
@@ -63,8 +63,8 @@ module _ (points : List Float) (faces : List ℕ) (threes : length points % 3 �
       ap (λ (m : ℕ). m / 3) all ∙ omega arith
 
   -- THE CORNERS ARE TAKEN AGAIN
-  pub again-accepted : (room : ℕ) → 84 + 50 * n ≤ room → judged (patchCorners points faces) (upFrom 0 (3 * n)) room ≡ record { answer = 0; detail = 0; length = 84 + 50 * n }
-  unfolding judged
+  pub again-accepted : (room : ℕ) → 84 + 50 * n ≤ room → stlOutcome (patchCorners points faces) (upFrom 0 (3 * n)) room ≡ record { answer = 0; detail = 0; length = 84 + 50 * n }
+  unfolding stlOutcome
   again-accepted room h =
       let p = corners-length in
       let f = up-length 0 (3 * n) in

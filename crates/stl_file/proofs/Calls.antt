@@ -13,7 +13,7 @@ use Rattle.lists.specs.Lists.{upFrom}
 use Rattle.ranges.specs.Range.{firstOutside, farthest}
 use Rattle.facets.specs.Format.{stl, count, corners, patchCorners}
 use Rattle.facets.specs.Known.{allBelow, Known}
-use Rattle.stl_file.specs.Answers.{notWritten, judged, Wrote, found, Got}
+use Rattle.stl_file.specs.Answers.{notWritten, stlOutcome, Wrote, found, Got}
 use Rattle.stl_file.specs.declared.StlWritten.{StlWritten}
 use Rattle.stl_file.specs.declared.StlRead.{StlRead}
 use Rattle.facets.proofs.Puts.{stl-length}
@@ -50,7 +50,7 @@ settled false false false false false false bad size h = (refl, refl, refl, refl
 
 module _ (points : List Float) (faces bytes after : List ℕ) (told : StlWritten) (w : Wrote points faces bytes told after) (good : told .answer ≡ 0) where
   pub accepted-patch : (length points % 3 ≡ 0) × (length faces / 3 ≤ 1000000) × (length points / 3 ≤ firstOutside farthest points) × Known points faces × (told .length ≡ 84 + 50 * (length faces / 3))
-  unfolding judged
+  unfolding stlOutcome
   accepted-patch =
       let is = w .answer-is in
       let n = length faces / 3 in

@@ -15,7 +15,7 @@ use Rattle.words.specs.Chunks.{chunks}
 use Rattle.words.proofs.Chunks.{chunks-length}
 use Rattle.facets.specs.Format.{stl, isFile, cornersOf, corners}
 use Rattle.facets.specs.Known.{allBelow, Known}
-use Rattle.stl_file.specs.Answers.{notWritten, judged, Wrote, notRead, found, Got}
+use Rattle.stl_file.specs.Answers.{notWritten, stlOutcome, Wrote, notRead, found, Got}
 use Rattle.stl_file.specs.declared.StlWritten.{StlWritten}
 use Rattle.stl_file.specs.declared.StlRead.{StlRead}
 use Rattle.facets.proofs.Puts.{stl-length, nine-length}
@@ -23,7 +23,7 @@ use Rattle.facets.proofs.Below.{below-known}
 
 -- ---- writing
 module _ (points : List Float) (faces bytes : List ℕ) (told : StlWritten) (held : (k : ℕ) → T (fits binary32 (getD points k nan))) where
-  refused : (a d : ℕ) → told ≡ notWritten a d → judged points faces (length bytes) ≡ notWritten a d → eqb a 0 ≡ false → Wrote points faces bytes told bytes
+  refused : (a d : ℕ) → told ≡ notWritten a d → stlOutcome points faces (length bytes) ≡ notWritten a d → eqb a 0 ≡ false → Wrote points faces bytes told bytes
   refused a d e j n = record {
     coordinates = held;
     answer-is = e ∙ sym j;
@@ -31,7 +31,7 @@ module _ (points : List Float) (faces bytes : List ℕ) (told : StlWritten) (hel
   }
 
   pub points-odd : told ≡ notWritten 2 0 → (length points % 3 ≡ 0 → ⊥) → Wrote points faces bytes told bytes
-  unfolding judged
+  unfolding stlOutcome
   points-odd e h = let t : eqb (length points % 3) 0 ≡ false = ne-eqb (length points % 3) 0 h in refused 2 0 e (rw t) refl
 
   module _ (whole : length points % 3 ≡ 0) where
@@ -39,7 +39,7 @@ module _ (points : List Float) (faces bytes : List ℕ) (told : StlWritten) (hel
     a = eq-eqb (length points % 3) 0 whole
 
     pub faces-odd : told ≡ notWritten 2 0 → (length faces % 3 ≡ 0 → ⊥) → Wrote points faces bytes told bytes
-    unfolding judged
+    unfolding stlOutcome
     faces-odd e h = let t : eqb (length faces % 3) 0 ≡ false = ne-eqb (length faces % 3) 0 h in refused 2 0 e (rw (a, t)) refl
 
     module _ (threes : length faces % 3 ≡ 0) where
@@ -47,7 +47,7 @@ module _ (points : List Float) (faces bytes : List ℕ) (told : StlWritten) (hel
       b = eq-eqb (length faces % 3) 0 threes
 
       pub many : told ≡ notWritten 3 0 → 1000000 < length faces / 3 → Wrote points faces bytes told bytes
-      unfolding judged
+      unfolding stlOutcome
       many e h = let t : ltb 1000000 (length faces / 3) ≡ true = lt-ltb 1000000 (length faces / 3) h in refused 3 0 e (rw (a, b, t)) refl
 
       module _ (few : length faces / 3 ≤ 1000000) (bad : ℕ) (first : bad ≡ firstOutside farthest points) where
@@ -55,7 +55,7 @@ module _ (points : List Float) (faces bytes : List ℕ) (told : StlWritten) (hel
         d = le-ltb 1000000 (length faces / 3) few
 
         pub outside : told ≡ notWritten 4 bad → bad < length points / 3 → Wrote points faces bytes told bytes
-        unfolding judged
+        unfolding stlOutcome
         outside e h =
             let t : ltb (firstOutside farthest points) (length points / 3) ≡ true = ap (λ (k : ℕ). ltb k (length points / 3)) (sym first) ∙ lt-ltb bad (length points / 3) h in
             refused 4 bad e (rw (a, b, d, t, sym first)) refl
@@ -65,7 +65,7 @@ module _ (points : List Float) (faces bytes : List ℕ) (told : StlWritten) (hel
           f = ap (λ (k : ℕ). ltb k (length points / 3)) (sym first) ∙ le-ltb bad (length points / 3) inside
 
           pub missing : told ≡ notWritten 14 0 → not named ≡ true → Wrote points faces bytes told bytes
-          unfolding judged
+          unfolding stlOutcome
           missing e h = let t : allBelow (length points / 3) faces ≡ false = sym test ∙ not-true named h in refused 14 0 e (rw (a, b, d, f, t)) refl
 
           module _ (all : not named ≡ false) where
@@ -76,12 +76,12 @@ module _ (points : List Float) (faces bytes : List ℕ) (told : StlWritten) (hel
             names = below-known points faces g
 
             pub short : told ≡ notWritten 13 0 → length bytes < 84 + 50 * (length faces / 3) → Wrote points faces bytes told bytes
-            unfolding judged
+            unfolding stlOutcome
             short e h = let t : ltb (length bytes) (84 + 50 * (length faces / 3)) ≡ true = lt-ltb (length bytes) (84 + 50 * (length faces / 3)) h in refused 13 0 e (rw (a, b, d, f, g, t)) refl
 
             pub written : (after : List ℕ) → 84 + 50 * (length faces / 3) ≤ length bytes → told ≡ record { answer = 0; detail = 0; length = 84 + 50 * (length faces / 3) }
                 → after ≡ sets bytes 0 (stl points faces) → Wrote points faces bytes told after
-            unfolding judged
+            unfolding stlOutcome
             written after h e p =
                 let n = length faces / 3 in
                 let t : ltb (length bytes) (84 + 50 * n) ≡ false = le-ltb (length bytes) (84 + 50 * n) h in

@@ -19,9 +19,9 @@ abbrev pub notWritten : ℕ → ℕ → StlWritten
 notWritten answer detail = record { answer = answer; detail = detail; length = 0 }
 
 -- the checks in order, the first that fails tells; `room` is the output's length
-unfoldable pub judged : List Float → List ℕ → ℕ → StlWritten
+unfoldable pub stlOutcome : List Float → List ℕ → ℕ → StlWritten
 unfolding allBelow
-judged points faces room =
+stlOutcome points faces room =
     cond (not (eqb (length points % 3) 0)) (notWritten wrongLengths 0)
     (cond (not (eqb (length faces % 3) 0)) (notWritten wrongLengths 0)
     (cond (ltb 1000000 (length faces / 3)) (notWritten tooManyPoints 0)
@@ -35,7 +35,7 @@ judged points faces room =
 -- of what it held, or at a refusal what it held
 pub record Wrote (points : List Float) (faces bytes : List ℕ) (told : StlWritten) (after : List ℕ) : Type 0 where
   pub coordinates : (k : ℕ) → T (fits binary32 (getD points k nan))
-  pub answer-is : told ≡ judged points faces (length bytes)
+  pub answer-is : told ≡ stlOutcome points faces (length bytes)
   pub after-is : after ≡ cond (eqb (told .answer) 0) (stl points faces ++ drop (told .length) bytes) bytes
 
 -- ---- reading

@@ -12,7 +12,7 @@ use Rattle.vector.specs.Vector.{distance}
 use Rattle.points.specs.Points.{pointAt}
 use Rattle.domain.specs.Accepted.{Cloud}
 use Rattle.sorting.specs.Sorted.{sorted, All}
-use Rattle.estimate.specs.Estimate.{nearer, nearestFrom, leastDistance, leastDistances, stepOf, sampleCount}
+use Rattle.estimate.specs.Estimate.{nearer, nearestFrom, leastDistance, leastDistances, estimateStep, estimateSamples}
 use Rattle.total_order.specs.TotalOrder.{totallySorted}
 use Rattle.total_order.proofs.Order.{Fine}
 use Rattle.total_order.proofs.Fine.{far, apart-fine}
@@ -64,10 +64,10 @@ module _ (points : List Float) (n : ℕ) (cloud : Cloud n points) where
       go false e l r = r
 
   abbrev samples : List Float
-  samples = leastDistances points n (stepOf n) 0 (sampleCount n)
+  samples = leastDistances points n (estimateStep n) 0 (estimateSamples n)
 
   pub samples-sorted : sorted samples ≡ totallySorted samples
   samples-sorted =
-      let s : 1 ≤ stepOf n = omega arith in
-      let k = div-mul-le-self (n + stepOf n - 1 - 0) (stepOf n) in
-      fine-sorted far far-finite samples (leasts-fine (stepOf n) (sampleCount n) 0 (omega (arith, k, s, cloud .some)))
+      let s : 1 ≤ estimateStep n = omega arith in
+      let k = div-mul-le-self (n + estimateStep n - 1 - 0) (estimateStep n) in
+      fine-sorted far far-finite samples (leasts-fine (estimateStep n) (estimateSamples n) 0 (omega (arith, k, s, cloud .some)))

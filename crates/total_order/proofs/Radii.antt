@@ -32,7 +32,7 @@ use Rattle.lists.proofs.Members.{below-first, below-rest}
 use Rattle.grid.specs.declared.SpatialGrid.{SpatialGrid}
 use Rattle.grid.proofs.Near.{neighbors-below}
 use Rattle.radii.specs.Radii.{distancesTo, average, nearOf, nearest, densitiesFrom, stepOf, sampleCount, spaced, dedup}
-use Rattle.radii.specs.Radii.{candidates, radiiFrom, adaptiveRadii}
+use Rattle.radii.specs.Radii.{radiusCandidates, radiiFrom, adaptiveRadii}
 use Rattle.total_order.specs.TotalOrder.{totallySorted, Given}
 use Rattle.total_order.proofs.Order.{Plain, Fine, insert-keeps, sorted-total}
 use Rattle.total_order.proofs.Fine.{far, fine-finite, apart-fine, average-fine}
@@ -221,8 +221,8 @@ module _ (c : BallPivotingConfig) (points : List Float) (n : ℕ) (cloud : Cloud
   pub densities-sorted : sorted densities ≡ totallySorted densities
   densities-sorted = fine-sorted far (plain-tops .0) densities all-fine
 
-  pub candidates-fine : (ds : List Float) → All (Fine far) ds → All (Fine farther) (candidates c ds)
-  unfolding candidates
+  pub candidates-fine : (ds : List Float) → All (Fine far) ds → All (Fine farther) (radiusCandidates c ds)
+  unfolding radiusCandidates
   candidates-fine ds a =
       let ps : List Float = take (c .«percentile_count») (c .«adaptive_percentiles») in
       all-append (Fine farther) (map (λ (p : Float). percentileOf ds p ⊗ two) ps)
@@ -243,14 +243,14 @@ module _ (c : BallPivotingConfig) (points : List Float) (n : ℕ) (cloud : Cloud
   unfolding radiiFrom
   radii-at-fine [] a = tt
   radii-at-fine (d ∷ ds) a =
-      all-dedup (Fine farther) (sorted (candidates c (sorted (d ∷ ds))))
-      (all-insert (Fine farther) [] (candidates c (sorted (d ∷ ds))) tt
+      all-dedup (Fine farther) (sorted (radiusCandidates c (sorted (d ∷ ds))))
+      (all-insert (Fine farther) [] (radiusCandidates c (sorted (d ∷ ds))) tt
       (candidates-fine (sorted (d ∷ ds)) (all-insert (Fine far) [] (d ∷ ds) tt a)))
 
   -- the radii before those too near each other are dropped
-  pub candidates-sorted : sorted (candidates c (sorted densities)) ≡ totallySorted (candidates c (sorted densities))
+  pub candidates-sorted : sorted (radiusCandidates c (sorted densities)) ≡ totallySorted (radiusCandidates c (sorted densities))
   candidates-sorted =
-      fine-sorted farther (plain-tops .1) (candidates c (sorted densities))
+      fine-sorted farther (plain-tops .1) (radiusCandidates c (sorted densities))
       (candidates-fine (sorted densities) (all-insert (Fine far) [] densities tt all-fine))
 
   pub radii-fine : All (Fine farther) (adaptiveRadii c g points n)

@@ -11,10 +11,10 @@ use Rattle.sorting.specs.Insertion.{insertBefore}
 use Rattle.sorting.specs.Sorted.{sorted}
 use Rattle.settings.specs.declared.BallPivotingConfig.{BallPivotingConfig}
 use Rattle.domain.specs.Refusals.{estimateRefusal, reconstructRefusal}
-use Rattle.radii.specs.Radii.{distancesTo, nearOf, densitiesFrom, stepOf, sampleCount, candidates}
+use Rattle.radii.specs.Radii.{distancesTo, nearOf, densitiesFrom, stepOf, sampleCount, radiusCandidates}
 use Rattle.estimate.specs.Estimate.{leastDistances}
 use Rattle.estimate.specs.Estimate as estimate
-use Rattle.ball_pivoting.specs.Reconstruct.{pointCount, indexOf}
+use Rattle.ball_pivoting.specs.Reconstruct.{pointCount, spatialIndexOf}
 
 -- the bit patterns in the total order, numbered from 0 up: those with a sign bit run downwards, below all others
 unfoldable pub rank : ℕ → ℕ
@@ -46,7 +46,7 @@ pub record Given (c : BallPivotingConfig) : Type 0 where
 abbrev pub densitiesOf : BallPivotingConfig → List Float → List Float
 densitiesOf c points =
     let n = pointCount points in
-    densitiesFrom c (indexOf c points) points n (stepOf n) 0 (sampleCount n)
+    densitiesFrom c (spatialIndexOf c points) points n (stepOf n) 0 (sampleCount n)
 
 -- `distances` of the estimate, before they are sorted
 abbrev pub samplesOf : List Float → List Float
@@ -57,9 +57,9 @@ samplesOf points =
 -- what `compute_adaptive_radii` sorts: the distances of each sample, the densities, and the radii
 pub record RadiiAlike (c : BallPivotingConfig) (points : List Float) : Type 0 where
   pub distances : (i : ℕ) → i < pointCount points
-      → SortsAlike (distancesTo points i (nearOf c (indexOf c points) points (pointCount points) i))
+      → SortsAlike (distancesTo points i (nearOf c (spatialIndexOf c points) points (pointCount points) i))
   pub densities : SortsAlike (densitiesOf c points)
-  pub radii : SortsAlike (candidates c (sorted (densitiesOf c points)))
+  pub radii : SortsAlike (radiusCandidates c (sorted (densitiesOf c points)))
 
 -- The claims, for every accepted cloud: `radii-alike` proves the first, `estimate-alike` the second.
 abbrev pub RadiiSorted : Type 0

@@ -13,7 +13,7 @@ use lib.Ieee.Bits.{ofBits-toBits, ofBits-fits}
 use borrow.Author.Tests.{le-leb, lt-leb}
 use Rattle.numbers.specs.Rounded.{f32, _⊕_, _⊖_, _⊗_, _⊘_}
 use Rattle.numbers.specs.Root.{root}
-use Rattle.numbers.specs.Acos.{R, abs, cleared, acosMiddle, acosLow, acosHigh, acosInside, acos}
+use Rattle.numbers.specs.Acos.{R, abs, highPart, acosMiddle, acosLow, acosHigh, acosInside, acos}
 use Rattle.numbers.proofs.OrderLaws.{not-lt-le, le-trans, lt-le}
 use Rattle.numbers.proofs.SumOrder.{sub-nonnegative}
 use Rattle.spatial_hash.proofs.Squares.{root-good}
@@ -105,8 +105,8 @@ signed-minus (fin true m e) h u = u
 signed-minus (fin false m e) h u = true≢false h
 
 -- the low bits cleared
-cleared-held : (s : Float) → T (fits binary32 s) → T (unsigned s) → Held (cleared s)
-unfolding cleared
+cleared-held : (s : Float) → T (fits binary32 s) → T (unsigned s) → Held (highPart s)
+unfolding highPart
 cleared-held s f u = go (isNan s)
   where
     b : ℕ
@@ -154,7 +154,7 @@ high-held v f g l =
     let u : Float = one ⊖ v in
     let z : Float = u ⊗ f32 0x3f000000 in
     let s : Float = root z in
-    let d : Float = cleared s in
+    let d : Float = highPart s in
     let c : Float = (z ⊖ d ⊗ d) ⊘ (s ⊕ d) in
     let w : Float = R z ⊗ s ⊕ c in
     let positive = clear-unsigned u (sub-nonnegative one v one-finite g l)

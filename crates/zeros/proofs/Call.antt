@@ -21,7 +21,7 @@ use Rattle.patch.specs.Search.{Floats, searching}
 use Rattle.patch.specs.Frontier.{popOf}
 use Rattle.decisions.specs.Decisions.{reach, apart, qualityAt, isClose, accepts, middle, around, pivotable, scoreAt}
 use Rattle.decisions.specs.Decisions.{floatsOf}
-use Rattle.ball_pivoting.specs.Reconstruct.{pointCount, indexOf, sceneOf, radiiOf, laidOf, Found, laid, foundAt, found}
+use Rattle.ball_pivoting.specs.Reconstruct.{pointCount, spatialIndexOf, sceneOf, radiiOf, laidOf, Found, laid, foundAt, found}
 use Rattle.ball_pivoting.specs.Reconstruct.{refused, delivered}
 use Rattle.ball_pivoting.specs.Unsplit.{reconstructedUnsplit}
 use Rattle.zeros.specs.Zeros.{UpToZeros}
@@ -38,8 +38,8 @@ module _ (mins : ℕ → Float → Float → Float) (m M : Float → Float → F
       → Alike (leastFromBy mins pts (inf false) at (pointCount pts)) (leastFrom pts (inf false) at (pointCount pts))
   least-at at = least-alike mins each pts (inf false) (inf false) at (pointCount pts) (inl refl)
 
-  cells-same : (p : Point3f) → cellOf (indexBy mins m M c pts) p ≡ cellOf (indexOf c pts) p
-  unfolding cellOf indexBy boundsBy indexOf boundsMin
+  cells-same : (p : Point3f) → cellOf (indexBy mins m M c pts) p ≡ cellOf (spatialIndexOf c pts) p
+  unfolding cellOf indexBy boundsBy spatialIndexOf boundsMin
   cells-same p =
       let size : Float = c .radius ⊗ c .«spatial_cell_factor» in
       let x = cell-alike size (p .x) _ _ (least-at 0) in
@@ -47,14 +47,14 @@ module _ (mins : ℕ → Float → Float → Float) (m M : Float → Float → F
       let z = cell-alike size (p .z) _ _ (least-at 2) in
       λ i. record { x = x i; y = y i; z = z i }
 
-  size-same : indexBy mins m M c pts .«cell_size» ≡ indexOf c pts .«cell_size»
-  unfolding indexBy indexOf
+  size-same : indexBy mins m M c pts .«cell_size» ≡ spatialIndexOf c pts .«cell_size»
+  unfolding indexBy spatialIndexOf
   size-same = refl
 
   around-same : (p : Point3f) (r : Float) → around (sceneBy mins m M c pts) pts p r ≡ around (sceneOf c pts) pts p r
   unfolding around sceneBy sceneOf
   around-same p r =
-      neighbors-same (indexBy mins m M c pts) (indexOf c pts) size-same cells-same pts (c .«use_spatial_index»)
+      neighbors-same (indexBy mins m M c pts) (spatialIndexOf c pts) size-same cells-same pts (c .«use_spatial_index»)
       (pointCount pts) p r
 
   at-same : (i j k : ℕ) → qualityAtBy mins m M c pts i j k ≡ qualityAt pts i j k
@@ -88,7 +88,7 @@ module _ (mins : ℕ → Float → Float → Float) (m M : Float → Float → F
 
   radii-same : radiiBy mins m M c pts ≡ radiiOf c pts
   unfolding radiiBy radiiOf
-  radii-same = adaptive-same (indexBy mins m M c pts) (indexOf c pts) size-same cells-same pts c (pointCount pts)
+  radii-same = adaptive-same (indexBy mins m M c pts) (spatialIndexOf c pts) size-same cells-same pts c (pointCount pts)
 
   laid-same : laidBy mins m M c pts ≡ laidOf c pts
   unfolding laidBy laidOf

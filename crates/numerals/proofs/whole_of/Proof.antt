@@ -5,14 +5,14 @@ use native.Mathlib.Nat.{sub-self}
 use native.Mathlib.Omega.{arith}
 use borrow.Author.Needs.{needs}
 use lib.ListN.{take, drop}
-use Rattle.numerals.specs.Format.{digits, whole}
+use Rattle.numerals.specs.Format.{digits, digitsValue}
 use Rattle.numerals.proofs.Bytes.{Digit, next-digit, grow, small}
 use Rattle.numerals.proofs.whole_of.Statement.{statement}
 use Rattle.numerals.proofs.whole_of.Tie as tie
 
 abbrev Inv-loop : tie.InvT-loop
 Inv-loop s at end v₀ i₀ v i =
-    (at ≤ i) × (i ≤ end) × (end - i ≤ digits (drop i s)) × (whole v (take (end - i) (drop i s)) ≡ whole 0 (take (end - at) (drop at s))) × (v < 10 ^ (i - at))
+    (at ≤ i) × (i ≤ end) × (end - i ≤ digits (drop i s)) × (digitsValue v (take (end - i) (drop i s)) ≡ digitsValue 0 (take (end - at) (drop at s))) × (v < 10 ^ (i - at))
 
 abbrev μ-loop : tie.MeasureT-loop
 μ-loop s at end v₀ i₀ v i = end - i
@@ -56,7 +56,7 @@ loop-again c =
     (search needs, search needs, d .rest, sym (d .same) ∙ i .3, grow _ _ _ _ (c .before .before .loop .inv .0) (i .4) (d .high))
 
 returns : tie.Need-returns Inv-loop μ-loop
-unfolding whole
+unfolding digitsValue
 returns c =
     let i = c .before .loop .inv in
     let none : c .before .before .args .end - c .before .loop .i ≡ 0 = omega arith in

@@ -4,7 +4,7 @@ use lib.ListN.{length}
 use mathlib.Core.Path.{_≡_, refl, ap}
 use Prim.Native.Nat.{_-_, _/_, _≤_}
 use Rattle.plain.proofs.Plain.{up-start, of-more, of-none}
-use Rattle.plain.specs.Plain.{facesOf, plainFaces}
+use Rattle.plain.specs.Plain.{plainFacesFrom, plainFaces}
 use Rattle.plain.specs.Listed.{Limited}
 use Rattle.plain.specs.Reached.{plainReached}
 use Rattle.plain.proofs.Laid.{Leads, leads-start, leads-step, leads-end, lays-whole}
@@ -16,7 +16,7 @@ use Rattle.plain.proofs.simple_triangulate.Tie as tie
 abbrev Inv-loop : tie.InvT-loop
 Inv-loop points radius w₀ lengths₀ faces₀ n limits laid₀ judged₀ i₀ w lengths faces laid judged i = (i ≤ n) × (n ≡ length points / 3) × (laid ≤ 10000) × (length w ≡ length w₀) × (length lengths ≡ length lengths₀) × (length faces ≡ length faces₀)
     × Limited radius limits
-    × Leads (facesOf points radius (upFrom 0 (length points / 3))) faces₀ 0 (facesOf points radius (upFrom i (n - i))) faces laid
+    × Leads (plainFacesFrom points radius (upFrom 0 (length points / 3))) faces₀ 0 (plainFacesFrom points radius (upFrom i (n - i))) faces laid
     × Tracking points radius faces₀ n i faces laid judged
 
 abbrev μ-loop : tie.MeasureT-loop
@@ -28,7 +28,7 @@ limits-of-requires c κs = search needs
 loop-holds : tie.Need-loop-holds Inv-loop μ-loop
 loop-holds c =
     let a = c .before .before .before .before .before .args in
-    (search needs, refl, search needs, refl, refl, refl, c .limits-of .ensures, leads-start _ _ (ap (facesOf (a .points .now) (a .radius)) (up-start (length (a .points .now) / 3))), track-start (a .points .now) (a .radius))
+    (search needs, refl, search needs, refl, refl, refl, c .limits-of .ensures, leads-start _ _ (ap (plainFacesFrom (a .points .now) (a .radius)) (up-start (length (a .points .now) / 3))), track-start (a .points .now) (a .radius))
 
 faces-at-requires : tie.Need-faces-at-requires Inv-loop μ-loop
 faces-at-requires c κs = search needs

@@ -8,14 +8,14 @@ use lib.Ieee.{binary32, toBits}
 use lib.Ieee.Bits.{nanBits-above}
 use borrow.Author.Tests.{le-ltb}
 use borrow.Author.Needs.{needs}
-use Rattle.numbers.specs.Acos.{cleared}
+use Rattle.numbers.specs.Acos.{highPart}
 use Rattle.numbers.proofs.Compare.{is-nan}
 use Rattle.numbers.proofs.RootSpecial.{not-self, pattern-lt, pattern-le}
 use Rattle.arc_cosine.proofs.arc.clear_low.Statement.{statement}
 use Rattle.arc_cosine.proofs.arc.clear_low.Tie as tie
 
 returns : tie.Need-returns
-unfolding cleared
+unfolding highPart
 returns c = rw (is-nan, c .if1 .taken)
 
 float-to-bits-b : tie.Need-float-to-bits-b
@@ -33,7 +33,7 @@ float-from-bits-result c =
     subst (λ (t : Bool). T (not t)) (sym e) tt
 
 returns-2 : tie.Need-returns-2
-unfolding cleared
+unfolding highPart
 returns-2 c = rw (is-nan, c .if1 .left)
 
 pub clear-low-spec : {M : Type 1} → statement M

@@ -1,7 +1,7 @@
 -- The index is the definition's, and the slice is ready for the searches. Assumes nothing.
 use mathlib.Core.Path.{refl}
 use native.Mathlib.Omega.{arith}
-use Rattle.ball_pivoting.specs.Reconstruct.{indexOf, sceneOf}
+use Rattle.ball_pivoting.specs.Reconstruct.{spatialIndexOf, sceneOf}
 use Rattle.ball_pivoting.proofs.Found.{all-searchable}
 use borrow.Author.Needs.{needs}
 use Rattle.ball_pivoting.proofs.paths.index_points.Statement.{statement}
@@ -19,7 +19,7 @@ same-length : tie.Need-same-length
 same-length c = search needs
 
 returns : tie.Need-returns
-unfolding indexOf sceneOf
+unfolding spatialIndexOf sceneOf
 returns c = (cc, all-searchable refl (c .before .before .before .before .before .before .before .before .before .before .before .before .pre) (c .before .before .before .before .before .before .before .build-spatial-grid .ensures .1) (c .before .before .build .ensures))
 
 pub index-points-spec : {M : Type 1} → statement M

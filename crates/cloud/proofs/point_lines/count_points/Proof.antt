@@ -5,7 +5,7 @@ use borrow.Author.Needs.{needs}
 use lib.ListN.{length, drop}
 use mathlib.Core.Path.{_≡_}
 use Rattle.numerals.specs.Format.{parsed}
-use Rattle.cloud_lines.specs.Format.{point}
+use Rattle.cloud_lines.specs.Format.{pointFields}
 use Rattle.cloud_lines.specs.declared.line.Point.{Point}
 use Rattle.cloud.proofs.Lines.{Counting, counting-start, counting-end, counting-wrong, counting-next}
 use Rattle.cloud_lines.proofs.Bare.{skipped, skipped-not}
@@ -20,8 +20,8 @@ abbrev μ-loop : tie.MeasureT-loop
 μ-loop s from count₀ at₀ count at = length s - at
 
 -- the line that was skipped
-line : (c : tie.Else1 Inv-loop μ-loop) → (p : Point) × (point (drop (c .before .before .before .loop .at) (c .before .before .before .before .before .args .s .now)) ≡ parsed p (drop (c .before .skip-point .result) (c .before .before .before .before .before .args .s .now)))
-line c = let s = c .before .before .before .before .before .args .s .now in skipped s _ (point (drop (c .before .before .before .loop .at) s)) (c .before .skip-point .ensures) (c .if1 .left)
+line : (c : tie.Else1 Inv-loop μ-loop) → (p : Point) × (pointFields (drop (c .before .before .before .loop .at) (c .before .before .before .before .before .args .s .now)) ≡ parsed p (drop (c .before .skip-point .result) (c .before .before .before .before .before .args .s .now)))
+line c = let s = c .before .before .before .before .before .args .s .now in skipped s _ (pointFields (drop (c .before .before .before .loop .at) s)) (c .before .skip-point .ensures) (c .if1 .left)
 
 loop-holds : tie.Need-loop-holds Inv-loop μ-loop
 loop-holds c = counting-start _ _

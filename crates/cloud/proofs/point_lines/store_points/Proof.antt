@@ -5,7 +5,7 @@ use native.Mathlib.Omega.{arith}
 use borrow.Author.Needs.{needs}
 use lib.ListN.{length, drop}
 use Rattle.numerals.specs.Format.{parsed}
-use Rattle.cloud_lines.specs.Format.{point}
+use Rattle.cloud_lines.specs.Format.{pointFields}
 use Rattle.cloud.specs.Ready.{Fitting}
 use Rattle.cloud_lines.proofs.Means.{step-got, step-not}
 use Rattle.cloud_lines.proofs.Shorter.{point-shorter}
@@ -21,7 +21,7 @@ abbrev μ-loop : tie.MeasureT-loop
 μ-loop s from points₀ normals₀ at₀ i₀ points normals at i = length s - at
 
 -- the line that was read
-read : (c : tie.After-read Inv-loop μ-loop) → point (drop (c .before .before .before .before .loop .at) (c .before .before .before .before .before .before .before .before .args .s .now)) ≡ parsed (c .read .given .0 .0) (drop (c .before .before .line-of .result .at) (c .before .before .before .before .before .before .before .before .args .s .now))
+read : (c : tie.After-read Inv-loop μ-loop) → pointFields (drop (c .before .before .before .before .loop .at) (c .before .before .before .before .before .before .before .before .args .s .now)) ≡ parsed (c .read .given .0 .0) (drop (c .before .before .line-of .result .at) (c .before .before .before .before .before .before .before .before .args .s .now))
 read c = step-got (c .before .before .before .before .before .before .before .before .args .s .now) (c .before .before .before .before .loop .at) _ _ _ (c .before .before .line-of .ensures) (c .read .given .1)
 
 -- there is room for it

@@ -5,7 +5,7 @@ use borrow.Author.Needs.{needs}
 use lib.ListN.{drop}
 use Rattle.cloud_lines.specs.Answers.{pointMeans, pointEnd}
 use Rattle.numerals.specs.Format.{parsed, then}
-use Rattle.cloud_lines.specs.Format.{triple, point}
+use Rattle.cloud_lines.specs.Format.{triple, pointFields}
 use Rattle.cloud_lines.proofs.Means.{triple-got, triple-not, triple-within}
 use Rattle.cloud_lines.proofs.line.point_at.Statement.{statement}
 use Rattle.cloud_lines.proofs.line.point_at.Tie as tie
@@ -27,7 +27,7 @@ enum-told : tie.Need-enum-told
 enum-told c = search needs
 
 returns : tie.Need-returns
-unfolding pointMeans pointEnd point then
+unfolding pointMeans pointEnd pointFields then
 returns c = (rw (triple-not (c .before .before .before .before .args .s .now) _ _ (c .before .before .triple-at .ensures .0) (c .enum-told .given .1)), omega arith)
 
 triple-at-requires-2 : tie.Need-triple-at-requires-2
@@ -40,11 +40,11 @@ enum-told-2 : tie.Need-enum-told-2
 enum-told-2 c = search needs
 
 returns-2 : tie.Need-returns-2
-unfolding pointMeans pointEnd point then
+unfolding pointMeans pointEnd pointFields then
 returns-2 c = (rw (position-read (c .before .before .before .before), triple-not (c .before .before .before .before .before .before .before .before .args .s .now) _ _ (c .before .before .triple-at2 .ensures .0) (c .enum-told2 .given .1)), omega arith)
 
 returns-3 : tie.Need-returns-3
-unfolding pointMeans pointEnd point then
+unfolding pointMeans pointEnd pointFields then
 returns-3 c = (rw (position-read (c .before .before .before .before .before), normal-read (c .before)), triple-within _ _ _ _ (c .before .before .before .triple-at2 .ensures .1) (c .before .normal .given .1))
 
 pub point-at-spec : {M : Type 1} → statement M

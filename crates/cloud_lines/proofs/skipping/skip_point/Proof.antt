@@ -2,7 +2,7 @@
 use mathlib.Core.Path.{_∙_}
 use borrow.Author.Needs.{needs}
 use lib.ListN.{drop}
-use Rattle.cloud_lines.specs.Format.{triple, point}
+use Rattle.cloud_lines.specs.Format.{triple, pointFields}
 use Rattle.cloud_lines.proofs.Bare.{then-none, then-some, bare-then}
 use Rattle.cloud_lines.proofs.skipping.skip_point.Statement.{statement}
 use Rattle.cloud_lines.proofs.skipping.skip_point.Tie as tie
@@ -11,14 +11,14 @@ skip-triple-requires : tie.Need-skip-triple-requires
 skip-triple-requires c κs = search needs
 
 returns : tie.Need-returns
-unfolding point
+unfolding pointFields
 returns c = let a = c .before .before .before .args in then-none (a .s .now) _ (triple 44 (drop (a .at) (a .s .now))) _ (c .before .skip-triple .ensures) (c .if1 .taken)
 
 skip-triple-requires-2 : tie.Need-skip-triple-requires-2
 skip-triple-requires-2 c κs = search needs
 
 returns-2 : tie.Need-returns-2
-unfolding point
+unfolding pointFields
 returns-2 c =
     let b = c .before in
     let a = b .before .before .before .args in
