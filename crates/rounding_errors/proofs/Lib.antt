@@ -2,3 +2,4 @@
 pub mod Near
 pub mod Rounding
 pub mod Operations
+pub mod Signed
