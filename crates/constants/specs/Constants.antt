@@ -69,6 +69,10 @@ pub record Constants : Type 0 where
   pub low-limit : f32 0x35800000 ≡ decimal 1 (2 ^ 20)
   -- the least square of an edge there, see `long_edges`
   pub low-edge : f32 0x2b800000 ≡ decimal 1 (2 ^ 40)
+  -- the squares of two ratios of edges, and what the larger takes off the limit, see `cosines`
+  pub ratio-square : f32 0x43800000 ≡ decimal 256 1
+  pub far-ratio-square : f32 0x47800000 ≡ decimal 65536 1
+  pub far-margin : f32 0x39f00000 ≡ decimal 240 (2 ^ 19)
   -- about 1e-12, and the next f32: squares of the plain path's cross product, see `plain`
   pub thin : f32 0x2b8cbccd ≡ decimal 9223373 (2 ^ 63)
   pub thin-next : f32 0x2b8cbcce ≡ decimal 9223374 (2 ^ 63)
