@@ -1,5 +1,6 @@
 // Radii that are known to have no seed: in a flat cloud, or after a search in vain at a larger one.
 use decisions::Scene;
+use seedless::Site;
 use spatial_hash::Hash;
 ghost use mathlib.Core.Path.{_≡_};
 ghost use mathlib.Core.Bool.{true};
@@ -84,7 +85,13 @@ fn ask_at(
         return in_vain(radius);
     }
     let limits = filters::limits_of(s, largest);
-    if seedless::is_exhausted(s, points, w, largest, hash, limits, purse) {
+    let wide = Site {
+        scene: s,
+        hash: hash,
+        radius: largest,
+        limits: limits,
+    };
+    if seedless::is_exhausted(wide, points, w, purse) {
         return largest;
     }
     in_vain(radius)

@@ -2,6 +2,7 @@
 mod triples;
 
 use decisions::Scene;
+use seedless::Site;
 use spatial_hash::Hash;
 ghost use mathlib.Core.Path.{_≡_};
 ghost use mathlib.Core.Bool.{true};
@@ -50,7 +51,13 @@ pub fn find_seed_triangle(
         return nothing_found(0);
     }
     let limits = filters::limits_of(s, radius);
-    triples::find_from(s, points, w, radius, hash, limits)
+    let site = Site {
+        scene: s,
+        hash: hash,
+        radius: radius,
+        limits: limits,
+    };
+    triples::find_from(site, points, w)
 }
 
 // Nothing, with so much left.

@@ -3,7 +3,7 @@ use crate::Search;
 use crate::Seed;
 use decisions::Scene;
 use filters::Limits;
-use spatial_hash::Hash;
+use seedless::Site;
 ghost use mathlib.Core.Path.{_≡_};
 ghost use mathlib.Core.Bool.{true};
 ghost use mathlib.Core.Option.{none};
@@ -66,26 +66,20 @@ fn is_third(
 }
 
 // The seed of i, j and the first third point among the listed neighbours.
-fn find_third(
-    s: Scene,
-    points: &[f32],
-    w: &[u32],
-    count: usize,
-    radius: f32,
-    limits: Limits,
-    i: usize,
-    j: usize,
-) -> Seed
-    requires { ⌜ Held s (now points) (now w) × Listed s (now w) count × (i < s .n) × (j < s .n)
-        × Judged s (now points) radius limits × (isClose (now points) radius i j ≡ true) ⌝ }
+fn find_third(p: Site, points: &[f32], w: &[u32], count: usize, i: usize, j: usize) -> Seed
+    requires { ⌜ Held (p .scene) (now points) (now w) × Listed (p .scene) (now w) count × (i < p .scene .n)
+        × (j < p .scene .n) × Judged (p .scene) (now points) (p .radius) (p .limits)
+        × (isClose (now points) (p .radius) i j ≡ true) ⌝ }
     ensures { λ r. ⌜ r
-        ≡ seedFound (thirdOf (floatsOf s (now (points .entry))) radius (usedIn s (now (w .entry))) i j
-        (listed s (now (w .entry)) count)) ⌝ }
+        ≡ seedFound (thirdOf (floatsOf (p .scene) (now (points .entry))) (p .radius)
+        (usedIn (p .scene) (now (w .entry))) i j (listed (p .scene) (now (w .entry)) count)) ⌝ }
 {
+    let s = p.scene;
+    let limits = p.limits;
     let mut m: usize = 0;
     while m < count {
         let k = nearby::listed_point(s, w, count, m);
-        if is_third(s, points, w, radius, limits, i, j, k) {
+        if is_third(s, points, w, p.radius, limits, i, j, k) {
             return Seed::Triangle(i, j, k);
         }
         m += 1;
@@ -94,48 +88,32 @@ fn find_third(
 }
 
 // What the point j gives as the second one: the seed with the first third point, or nothing.
-fn try_second(
-    s: Scene,
-    points: &[f32],
-    w: &[u32],
-    count: usize,
-    radius: f32,
-    limits: Limits,
-    i: usize,
-    j: usize,
-) -> Seed
-    requires { ⌜ Held s (now points) (now w) × Listed s (now w) count × (i < s .n) × (j < s .n)
-        × Judged s (now points) radius limits ⌝ }
+fn try_second(p: Site, points: &[f32], w: &[u32], count: usize, i: usize, j: usize) -> Seed
+    requires { ⌜ Held (p .scene) (now points) (now w) × Listed (p .scene) (now w) count × (i < p .scene .n)
+        × (j < p .scene .n) × Judged (p .scene) (now points) (p .radius) (p .limits) ⌝ }
     ensures { λ r. ⌜ r
-        ≡ seedFound (withSecond (floatsOf s (now (points .entry))) radius (usedIn s (now (w .entry))) i
-        (listed s (now (w .entry)) count) j) ⌝ }
+        ≡ seedFound (withSecond (floatsOf (p .scene) (now (points .entry))) (p .radius)
+        (usedIn (p .scene) (now (w .entry))) i (listed (p .scene) (now (w .entry)) count) j) ⌝ }
 {
-    if !is_second(s, points, w, radius, i, j) {
+    if !is_second(p.scene, points, w, p.radius, i, j) {
         return Seed::Nothing;
     }
-    find_third(s, points, w, count, radius, limits, i, j)
+    find_third(p, points, w, count, i, j)
 }
 
 // The seed of i and the first second point that has a third one, both among the listed neighbours.
-fn find_second(
-    s: Scene,
-    points: &[f32],
-    w: &[u32],
-    count: usize,
-    radius: f32,
-    limits: Limits,
-    i: usize,
-) -> Seed
-    requires { ⌜ Held s (now points) (now w) × Listed s (now w) count × (i < s .n)
-        × Judged s (now points) radius limits ⌝ }
+fn find_second(p: Site, points: &[f32], w: &[u32], count: usize, i: usize) -> Seed
+    requires { ⌜ Held (p .scene) (now points) (now w) × Listed (p .scene) (now w) count × (i < p .scene .n)
+        × Judged (p .scene) (now points) (p .radius) (p .limits) ⌝ }
     ensures { λ r. ⌜ r
-        ≡ seedFound (secondOf (floatsOf s (now (points .entry))) radius (usedIn s (now (w .entry))) i
-        (listed s (now (w .entry)) count) (listed s (now (w .entry)) count)) ⌝ }
+        ≡ seedFound (secondOf (floatsOf (p .scene) (now (points .entry))) (p .radius)
+        (usedIn (p .scene) (now (w .entry))) i (listed (p .scene) (now (w .entry)) count)
+        (listed (p .scene) (now (w .entry)) count)) ⌝ }
 {
     let mut m: usize = 0;
     while m < count {
-        let j = nearby::listed_point(s, w, count, m);
-        let found = try_second(s, points, w, count, radius, limits, i, j);
+        let j = nearby::listed_point(p.scene, w, count, m);
+        let found = try_second(p, points, w, count, i, j);
         if let Seed::Triangle(a, b, c) = found {
             return Seed::Triangle(a, b, c);
         }
@@ -145,50 +123,39 @@ fn find_second(
 }
 
 // What the unused point i gives as the first one.
-fn try_first(
-    s: Scene,
-    points: &[f32],
-    w: &mut [u32],
-    radius: f32,
-    i: usize,
-    hash: Hash,
-    limits: Limits,
-) -> Seed
-    requires { ⌜ Held s (now points) (now w) × Indexed (s .grid) (now points) (s .n) (now w)
-        × Hashed hash (now points) (s .n) (now w) × (i < s .n) × Limiting s radius limits ⌝ }
+fn try_first(p: Site, points: &[f32], w: &mut [u32], i: usize) -> Seed
+    requires { ⌜ Held (p .scene) (now points) (now w) × Indexed (p .scene .grid) (now points) (p .scene .n) (now w)
+        × Hashed (p .hash) (now points) (p .scene .n) (now w) × (i < p .scene .n)
+        × Limiting (p .scene) (p .radius) (p .limits) ⌝ }
     ensures { λ r. ⌜ (r
-        ≡ seedFound (withFirst (floatsOf s (now (points .entry))) radius (usedIn s (now (w .entry))) i))
-        × Kept s (now (w .entry)) (now (w .exit)) ⌝ }
+        ≡ seedFound (withFirst (floatsOf (p .scene) (now (points .entry))) (p .radius)
+        (usedIn (p .scene) (now (w .entry))) i))
+        × Kept (p .scene) (now (w .entry)) (now (w .exit)) ⌝ }
 {
+    let s = p.scene;
     let place = points::point_at(points, i);
-    let f = nearby::filter_of(s, place, place, radius * 2.0);
-    let found = nearby::gather_near(s, points, w, f, radius * 2.002, hash);
+    let f = nearby::filter_of(s, place, place, p.radius * 2.0);
+    let found = nearby::gather_near(s, points, w, f, p.radius * 2.002, p.hash);
     let count = nearby::narrow(s, points, w, f, found);
-    find_second(s, points, w, count, radius, limits, i)
+    find_second(p, points, w, count, i)
 }
 
 // The same, where it may be known that it gives nothing.
-fn try_unless_seedless(
-    s: Scene,
-    points: &[f32],
-    w: &mut [u32],
-    radius: f32,
-    i: usize,
-    hash: Hash,
-    limits: Limits,
-    seedless: bool,
-) -> Seed
-    requires { ⌜ Held s (now points) (now w) × Indexed (s .grid) (now points) (s .n) (now w)
-        × Hashed hash (now points) (s .n) (now w) × (i < s .n) × Limiting s radius limits
-        × (seedless ≡ true → withFirst (floatsOf s (now points)) radius (usedIn s (now w)) i ≡ none) ⌝ }
+fn try_unless_seedless(p: Site, points: &[f32], w: &mut [u32], i: usize, seedless: bool) -> Seed
+    requires { ⌜ Held (p .scene) (now points) (now w) × Indexed (p .scene .grid) (now points) (p .scene .n) (now w)
+        × Hashed (p .hash) (now points) (p .scene .n) (now w) × (i < p .scene .n)
+        × Limiting (p .scene) (p .radius) (p .limits)
+        × (seedless ≡ true
+        → withFirst (floatsOf (p .scene) (now points)) (p .radius) (usedIn (p .scene) (now w)) i ≡ none) ⌝ }
     ensures { λ r. ⌜ (r
-        ≡ seedFound (withFirst (floatsOf s (now (points .entry))) radius (usedIn s (now (w .entry))) i))
-        × Kept s (now (w .entry)) (now (w .exit)) ⌝ }
+        ≡ seedFound (withFirst (floatsOf (p .scene) (now (points .entry))) (p .radius)
+        (usedIn (p .scene) (now (w .entry))) i))
+        × Kept (p .scene) (now (w .entry)) (now (w .exit)) ⌝ }
 {
     if seedless {
         return Seed::Nothing;
     }
-    try_first(s, points, w, radius, i, hash, limits)
+    try_first(p, points, w, i)
 }
 
 // Where the points begin that are known with point i, which is the last of them if it is known.
@@ -204,20 +171,15 @@ fn known_from(lo: usize, i: usize, seedless: bool) -> usize
 
 // The first seed; only the first 1,000 unused points are tried as i. No three points make a seed of which one is from
 // lo to i, whichever comes first.
-pub fn find_from(
-    s: Scene,
-    points: &[f32],
-    w: &mut [u32],
-    radius: f32,
-    hash: Hash,
-    limits: Limits,
-) -> Search
-    requires { ⌜ Held s (now points) (now w) × Indexed (s .grid) (now points) (s .n) (now w)
-        × Hashed hash (now points) (s .n) (now w) × Limiting s radius limits ⌝ }
+pub fn find_from(p: Site, points: &[f32], w: &mut [u32]) -> Search
+    requires { ⌜ Held (p .scene) (now points) (now w) × Indexed (p .scene .grid) (now points) (p .scene .n) (now w)
+        × Hashed (p .hash) (now points) (p .scene .n) (now w) × Limiting (p .scene) (p .radius) (p .limits) ⌝ }
     ensures { λ r. ⌜ (r .seed
-        ≡ seedFound (firstOf (floatsOf s (now (points .entry))) radius (usedIn s (now (w .entry))) (upFrom 0 (s .n))
-        1000)) × Kept s (now (w .entry)) (now (w .exit)) ⌝ }
+        ≡ seedFound (firstOf (floatsOf (p .scene) (now (points .entry))) (p .radius)
+        (usedIn (p .scene) (now (w .entry))) (upFrom 0 (p .scene .n)) 1000))
+        × Kept (p .scene) (now (w .entry)) (now (w .exit)) ⌝ }
 {
+    let s = p.scene;
     let n = s.n;
     let mut left: usize = 1000;
     let mut purse: usize = 0;
@@ -231,8 +193,8 @@ pub fn find_from(
             i += 1;
             continue;
         }
-        let check = seedless::check_first(s, points, w, radius, lo, i, hash, limits, purse);
-        let found = try_unless_seedless(s, points, w, radius, i, hash, limits, check.seedless);
+        let check = seedless::check_first(p, points, w, lo, i, purse);
+        let found = try_unless_seedless(p, points, w, i, check.seedless);
         if let Seed::Triangle(a, b, c) = found {
             return Search {
                 seed: Seed::Triangle(a, b, c),

@@ -18,30 +18,38 @@ ghost use Rattle.three_points.specs.Judged.{Judged};
 ghost use Rattle.seedless.specs.Seedless.{SeedlessAfter, AllSeedless, SeedlessFrom, SeedlessBetween};
 ghost use Rattle.seedless.specs.Seedless.{isOther, isLeft, Left, AllLeftSeedless};
 
+// Where seeds are looked for: the scene, the hash of its unused points, a radius, and the limits at that radius.
+pub struct Site {
+    pub scene: Scene,
+    pub hash: Hash,
+    pub radius: f32,
+    pub limits: Limits,
+}
+
 // What is left of a purse once it is told that points i and j make no seed with any of the listed points from a place
 // on; 0 if that was not told.
 fn pay_beside(
-    s: Scene,
+    p: Site,
     points: &[f32],
     w: &[u32],
     count: usize,
-    radius: f32,
-    limits: Limits,
     i: usize,
     j: usize,
     from: usize,
     purse: usize,
 ) -> usize
-    requires { ⌜ Held s (now points) (now w) × Listed s (now w) count × (i < s .n) × (j < s .n)
-        × Judged s (now points) radius limits ⌝ }
+    requires { ⌜ Held (p .scene) (now points) (now w) × Listed (p .scene) (now w) count × (i < p .scene .n)
+        × (j < p .scene .n) × Judged (p .scene) (now points) (p .radius) (p .limits) ⌝ }
     ensures { λ r. ⌜ (0 < r
-        → SeedlessAfter s (now (points .entry)) radius (now (w .entry)) count i j from) ⌝ }
+        → SeedlessAfter (p .scene) (now (points .entry)) (p .radius) (now (w .entry)) count i j from) ⌝ }
 {
+    let s = p.scene;
+    let limits = p.limits;
     let mut left = purse;
     let mut m = from;
     while m < count {
         let k = nearby::listed_point(s, w, count, m);
-        let price = three_points::price_of(s, points, radius, limits, i, j, k);
+        let price = three_points::price_of(s, points, p.radius, limits, i, j, k);
         if price == 0 {
             return 0;
         }
@@ -55,27 +63,18 @@ fn pay_beside(
 }
 
 // The same once it is told that no two of the listed points make a seed with point i.
-fn pay_all(
-    s: Scene,
-    points: &[f32],
-    w: &[u32],
-    count: usize,
-    radius: f32,
-    limits: Limits,
-    i: usize,
-    purse: usize,
-) -> usize
-    requires { ⌜ Held s (now points) (now w) × Listed s (now w) count × (i < s .n)
-        × Judged s (now points) radius limits ⌝ }
+fn pay_all(p: Site, points: &[f32], w: &[u32], count: usize, i: usize, purse: usize) -> usize
+    requires { ⌜ Held (p .scene) (now points) (now w) × Listed (p .scene) (now w) count × (i < p .scene .n)
+        × Judged (p .scene) (now points) (p .radius) (p .limits) ⌝ }
     ensures { λ r. ⌜ (0 < r
-        → AllSeedless s (now (points .entry)) radius (now (w .entry)) count i) ⌝ }
+        → AllSeedless (p .scene) (now (points .entry)) (p .radius) (now (w .entry)) count i) ⌝ }
 {
     let mut left = purse;
     let mut m: usize = 0;
     while m < count {
-        let j = nearby::listed_point(s, w, count, m);
+        let j = nearby::listed_point(p.scene, w, count, m);
         m += 1;
-        left = pay_beside(s, points, w, count, radius, limits, i, j, m, left);
+        left = pay_beside(p, points, w, count, i, j, m, left);
         if left == 0 {
             return 0;
         }
@@ -182,51 +181,49 @@ pub struct Checked {
 // What is left of a purse once it is told that no two of the `found` points that are unused and come after point i or
 // before point lo make a seed with it; 0 if that was not told.
 fn pay_found(
-    s: Scene,
+    p: Site,
     points: &[f32],
     w: &mut [u32],
     found: usize,
-    radius: f32,
     lo: usize,
     i: usize,
-    limits: Limits,
     purse: usize,
 ) -> usize
-    requires { ⌜ Held s (now points) (now w) × Listed s (now w) found × (i < s .n)
-        × Judged s (now points) radius limits ⌝ }
-    ensures { λ r. ⌜ (0 < r → AllLeftSeedless s (now (points .entry)) radius lo i (now (w .entry)) found)
-        × Kept s (now (w .entry)) (now (w .exit)) ⌝ }
+    requires { ⌜ Held (p .scene) (now points) (now w) × Listed (p .scene) (now w) found × (i < p .scene .n)
+        × Judged (p .scene) (now points) (p .radius) (p .limits) ⌝ }
+    ensures { λ r. ⌜ (0 < r
+        → AllLeftSeedless (p .scene) (now (points .entry)) (p .radius) lo i (now (w .entry)) found)
+        × Kept (p .scene) (now (w .entry)) (now (w .exit)) ⌝ }
 {
-    let count = keep_left(s, w, found, lo, i);
-    pay_all(s, points, w, count, radius, limits, i, purse)
+    let count = keep_left(p.scene, w, found, lo, i);
+    pay_all(p, points, w, count, i, purse)
 }
 
 // Whether no two unused points after point i or before point lo make a seed with it, if that is paid for.
 pub fn check_first(
-    s: Scene,
+    p: Site,
     points: &[f32],
     w: &mut [u32],
-    radius: f32,
     lo: usize,
     i: usize,
-    hash: Hash,
-    limits: Limits,
     purse: usize,
 ) -> Checked
-    requires { ⌜ Held s (now points) (now w) × Hashed hash (now points) (s .n) (now w) × (i < s .n)
-        × Limiting s radius limits ⌝ }
+    requires { ⌜ Held (p .scene) (now points) (now w) × Hashed (p .hash) (now points) (p .scene .n) (now w)
+        × (i < p .scene .n) × Limiting (p .scene) (p .radius) (p .limits) ⌝ }
     ensures { λ r. ⌜ (r .seedless ≡ true
-        → SeedlessFrom s (now (points .entry)) radius (usedIn s (now (w .entry))) lo i)
-        × Kept s (now (w .entry)) (now (w .exit)) ⌝ }
+        → SeedlessFrom (p .scene) (now (points .entry)) (p .radius) (usedIn (p .scene) (now (w .entry))) lo i)
+        × Kept (p .scene) (now (w .entry)) (now (w .exit)) ⌝ }
 {
+    let s = p.scene;
+    let limits = p.limits;
     let place = points::point_at(points, i);
     let found = spatial_hash::gather_within(
         points,
         w,
         s.n,
-        hash,
+        p.hash,
         place,
-        radius * 2.002,
+        p.radius * 2.002,
         limits.far,
     );
     let near = count_near(s, points, w, found, limits.far);
@@ -238,7 +235,7 @@ pub fn check_first(
             purse: added(purse, work),
         };
     }
-    let left = pay_found(s, points, w, found, radius, lo, i, limits, purse);
+    let left = pay_found(p, points, w, found, lo, i, purse);
     if left == 0 {
         return Checked {
             seedless: false,
@@ -253,22 +250,15 @@ pub fn check_first(
 
 // What is left of a purse once it is told that no two unused points after point i make a seed with it, if it is unused;
 // 0 if that was not told.
-fn pay_unused(
-    s: Scene,
-    points: &[f32],
-    w: &mut [u32],
-    radius: f32,
-    i: usize,
-    hash: Hash,
-    limits: Limits,
-    purse: usize,
-) -> usize
-    requires { ⌜ Held s (now points) (now w) × Hashed hash (now points) (s .n) (now w) × (i < s .n)
-        × Limiting s radius limits ⌝ }
-    ensures { λ r. ⌜ (0 < r → unused (usedIn s (now (w .entry))) i ≡ true
-        → SeedlessFrom s (now (points .entry)) radius (usedIn s (now (w .entry))) 0 i)
-        × Kept s (now (w .entry)) (now (w .exit)) ⌝ }
+fn pay_unused(p: Site, points: &[f32], w: &mut [u32], i: usize, purse: usize) -> usize
+    requires { ⌜ Held (p .scene) (now points) (now w) × Hashed (p .hash) (now points) (p .scene .n) (now w)
+        × (i < p .scene .n) × Limiting (p .scene) (p .radius) (p .limits) ⌝ }
+    ensures { λ r. ⌜ (0 < r → unused (usedIn (p .scene) (now (w .entry))) i ≡ true
+        → SeedlessFrom (p .scene) (now (points .entry)) (p .radius) (usedIn (p .scene) (now (w .entry))) 0 i)
+        × Kept (p .scene) (now (w .entry)) (now (w .exit)) ⌝ }
 {
+    let s = p.scene;
+    let limits = p.limits;
     if !nearby::is_unused(s, w, i) {
         return purse;
     }
@@ -277,12 +267,12 @@ fn pay_unused(
         points,
         w,
         s.n,
-        hash,
+        p.hash,
         place,
-        radius * 2.002,
+        p.radius * 2.002,
         limits.far,
     );
-    pay_found(s, points, w, found, radius, 0, i, limits, purse)
+    pay_found(p, points, w, found, 0, i, purse)
 }
 
 // Whether what is left after a point will do for so many more, each of which costs less than the one before; if nothing
@@ -301,24 +291,18 @@ fn is_enough(before: usize, left: usize, more: usize) -> bool
 }
 
 // Whether no three unused points make a seed at a radius, whichever of them comes first, if that is paid for.
-pub fn is_exhausted(
-    s: Scene,
-    points: &[f32],
-    w: &mut [u32],
-    radius: f32,
-    hash: Hash,
-    limits: Limits,
-    purse: usize,
-) -> bool
-    requires { ⌜ Held s (now points) (now w) × Hashed hash (now points) (s .n) (now w) × Limiting s radius limits ⌝ }
-    ensures { λ r. ⌜ (r ≡ true → SeedlessBetween s (now (points .entry)) radius (usedIn s (now (w .entry))) 0 (s .n))
-        × Kept s (now (w .entry)) (now (w .exit)) ⌝ }
+pub fn is_exhausted(p: Site, points: &[f32], w: &mut [u32], purse: usize) -> bool
+    requires { ⌜ Held (p .scene) (now points) (now w) × Hashed (p .hash) (now points) (p .scene .n) (now w)
+        × Limiting (p .scene) (p .radius) (p .limits) ⌝ }
+    ensures { λ r. ⌜ (r ≡ true → SeedlessBetween (p .scene) (now (points .entry)) (p .radius)
+        (usedIn (p .scene) (now (w .entry))) 0 (p .scene .n))
+        × Kept (p .scene) (now (w .entry)) (now (w .exit)) ⌝ }
 {
-    let n = s.n;
+    let n = p.scene.n;
     let mut left = purse;
     let mut i: usize = 0;
     while i < n {
-        let rest = pay_unused(s, points, w, radius, i, hash, limits, left);
+        let rest = pay_unused(p, points, w, i, left);
         if !is_enough(left, rest, n - i) {
             return false;
         }

@@ -16,19 +16,19 @@ point-at-requires : tie.Need-point-at-requires
 point-at-requires c κs = search needs
 
 gather-within-requires : tie.Need-gather-within-requires
-gather-within-requires c κs = (c .before .before .before .before .pre .1 .linked, subst Finite (sym (c .before .point-at .ensures)) (c .before .before .before .before .pre .1 .linked .ready .numbers (c .before .before .before .before .args .i) (c .before .before .before .before .pre .2)))
+gather-within-requires c κs = (c .before .before .before .before .before .before .before .pre .1 .linked, subst Finite (sym (c .before .before .point-at .ensures)) (c .before .before .before .before .before .before .before .pre .1 .linked .ready .numbers (c .before .before .before .before .before .before .before .args .i) (c .before .before .before .before .before .before .before .pre .2)))
 
 count-near-requires : tie.Need-count-near-requires
 count-near-requires c κs =
     let g = c .before .before .before .gather-within in
-    let held = held-kept (g .last .1 .0) (c .before .before .before .before .before .before .before .before .pre .0) (g .kept .1 .0) in
+    let held = held-kept (g .last .1 .0) (c .before .before .before .before .before .before .before .before .before .before .before .pre .0) (g .kept .1 .0) in
     (held, below-listed (held .work-long) (g .ensures .most) (g .ensures .surrounds .below))
 
 work-of-requires : tie.Need-work-of-requires
-work-of-requires c κs = let g = c .before .before .before .before .gather-within in (omega (arith, g .ensures .most, c .before .before .before .before .before .before .before .before .before .pre .0 .few), omega (arith, c .count-near .ensures, g .ensures .most, c .before .before .before .before .before .before .before .before .before .pre .0 .few))
+work-of-requires c κs = let g = c .before .before .before .before .gather-within in (omega (arith, g .ensures .most, c .before .before .before .before .before .before .before .before .before .before .before .before .pre .0 .few), omega (arith, c .count-near .ensures, g .ensures .most, c .before .before .before .before .before .before .before .before .before .before .before .before .pre .0 .few))
 
 least-purse-requires : tie.Need-least-purse-requires
-least-purse-requires c κs = let g = c .before .before .before .before .before .gather-within in omega (arith, g .ensures .most, c .before .before .before .before .before .before .before .before .before .before .pre .0 .few)
+least-purse-requires c κs = let g = c .before .before .before .before .before .gather-within in omega (arith, g .ensures .most, c .before .before .before .before .before .before .before .before .before .before .before .before .before .pre .0 .few)
 
 added-requires : tie.Need-added-requires
 added-requires c κs = search needs
@@ -37,19 +37,19 @@ same-length : tie.Need-same-length
 same-length c = search needs
 
 returns : tie.Need-returns
-returns c = (λ h. absurd (true-not-false h refl), near-kept {s = c .before .before .before .before .before .before .before .before .before .before .before .before .before .args .s} (c .before .before .before .before .before .before .before .before .gather-within .ensures))
+returns c = (λ h. absurd (true-not-false h refl), near-kept {s = c .before .before .before .before .before .before .before .before .before .before .before .before .before .before .before .before .args .p .scene} (c .before .before .before .before .before .before .before .before .gather-within .ensures))
 
 pay-found-requires : tie.Need-pay-found-requires
 pay-found-requires c κs =
     let g = c .before .before .before .before .before .before .before .before .gather-within in
-    let held = held-kept (g .last .1 .0) (c .before .before .before .before .before .before .before .before .before .before .before .before .before .pre .0) (g .kept .1 .0) in
-    (held, below-listed (held .work-long) (g .ensures .most) (g .ensures .surrounds .below), c .before .before .before .before .before .before .before .before .before .before .before .before .before .pre .2, record { numbers = c .before .before .before .before .before .before .before .before .before .before .before .before .before .pre .1 .linked .ready .numbers; limits = c .before .before .before .before .before .before .before .before .before .before .before .before .before .pre .3 })
+    let held = held-kept (g .last .1 .0) (c .before .before .before .before .before .before .before .before .before .before .before .before .before .before .before .before .pre .0) (g .kept .1 .0) in
+    (held, below-listed (held .work-long) (g .ensures .most) (g .ensures .surrounds .below), c .before .before .before .before .before .before .before .before .before .before .before .before .before .before .before .before .pre .2, record { numbers = c .before .before .before .before .before .before .before .before .before .before .before .before .before .before .before .before .pre .1 .linked .ready .numbers; limits = c .before .before .before .before .before .before .before .before .before .before .before .before .before .before .before .before .pre .3 })
 
 same-length-2 : tie.Need-same-length-2
 same-length-2 c = c .before .before .before .pay-found .kept .1 .1 .0 ∙ c .before .before .before .before .before .before .before .before .before .before .before .before .gather-within .kept .1 .0
 
 returns-2 : tie.Need-returns-2
-returns-2 c = (λ h. absurd (true-not-false h refl), kept-on (near-kept {s = c .before .before .before .before .before .before .before .before .before .before .before .before .before .before .before .before .before .args .s} (c .before .before .before .before .before .before .before .before .before .before .before .before .gather-within .ensures)) (c .before .before .before .pay-found .ensures .1))
+returns-2 c = (λ h. absurd (true-not-false h refl), kept-on (near-kept {s = c .before .before .before .before .before .before .before .before .before .before .before .before .before .before .before .before .before .before .before .before .args .p .scene} (c .before .before .before .before .before .before .before .before .before .before .before .before .gather-within .ensures)) (c .before .before .before .pay-found .ensures .1))
 
 added-requires-2 : tie.Need-added-requires-2
 added-requires-2 c κs = search needs
@@ -59,14 +59,14 @@ same-length-3 c = c .before .before .before .before .pay-found .kept .1 .1 .0 �
 
 returns-3 : tie.Need-returns-3
 returns-3 c =
-    let a = c .before .before .before .before .before .before .before .before .before .before .before .before .before .before .before .before .before .before .args in
-    let p = c .before .before .before .before .before .before .before .before .before .before .before .before .before .before .before .point-at in
+    let a = c .before .before .before .before .before .before .before .before .before .before .before .before .before .before .before .before .before .before .before .before .before .args in
+    let p = c .before .before .before .before .before .before .before .before .before .before .before .before .before .before .before .before .point-at in
     let g = c .before .before .before .before .before .before .before .before .before .before .before .before .before .gather-within in
     let f = c .before .before .before .before .pay-found in
     let ne = c .before .if2 .left in
-    let near = subst (λ (q : Point3f). Near (a .points .now) (a .s .n) q (a .limits .far) (a .w .now) (g .last .1 .0) (g .result)) (p .ensures) (g .ensures) in
-    let kept = near-kept {s = a .s} near in (
-      λ _. seedless-from (a .lo) (a .i) (g .result) (record { numbers = c .before .before .before .before .before .before .before .before .before .before .before .before .before .before .before .before .before .before .pre .1 .linked .ready .numbers; limits = c .before .before .before .before .before .before .before .before .before .before .before .before .before .before .before .before .before .before .pre .3 }) kept (λ k i free t. near .surrounds .complete k i (c .before .before .before .before .before .before .before .before .before .before .before .before .before .before .before .before .before .before .pre .1 .unused-in k i free) t) (f .ensures .0 (omega arith)),
+    let near = subst (λ (q : Point3f). Near (a .points .now) (a .p .scene .n) q (a .p .limits .far) (a .w .now) (g .last .1 .0) (g .result)) (p .ensures) (g .ensures) in
+    let kept = near-kept {s = a .p .scene} near in (
+      λ _. seedless-from (a .lo) (a .i) (g .result) (record { numbers = c .before .before .before .before .before .before .before .before .before .before .before .before .before .before .before .before .before .before .before .before .before .pre .1 .linked .ready .numbers; limits = c .before .before .before .before .before .before .before .before .before .before .before .before .before .before .before .before .before .before .before .before .before .pre .3 }) kept (λ k i free t. near .surrounds .complete k i (c .before .before .before .before .before .before .before .before .before .before .before .before .before .before .before .before .before .before .before .before .before .pre .1 .unused-in k i free) t) (f .ensures .0 (omega arith)),
       kept-on kept (f .ensures .1),
     )
 

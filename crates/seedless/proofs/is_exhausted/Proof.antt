@@ -11,10 +11,10 @@ use Rattle.seedless.proofs.is_exhausted.Statement.{statement}
 use Rattle.seedless.proofs.is_exhausted.Tie as tie
 
 abbrev Inv-loop : tie.InvT-loop
-Inv-loop s points w₀ radius hash limits purse n left₀ i₀ w left i = Exhausting s points radius hash w₀ w i
+Inv-loop p points w₀ purse n left₀ i₀ w left i = Exhausting (p .scene) points (p .radius) (p .hash) w₀ w i
 
 abbrev μ-loop : tie.MeasureT-loop
-μ-loop s points w₀ radius hash limits purse n left₀ i₀ w left i = s .n - i
+μ-loop p points w₀ purse n left₀ i₀ w left i = p .scene .n - i
 
 loop-holds : tie.Need-loop-holds Inv-loop μ-loop
 loop-holds c = exhaust-start (c .before .before .pre .0) (c .before .before .pre .1)

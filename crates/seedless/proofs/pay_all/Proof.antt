@@ -10,26 +10,24 @@ use Rattle.seedless.proofs.pay_all.Statement.{statement}
 use Rattle.seedless.proofs.pay_all.Tie as tie
 
 abbrev Inv-loop : tie.InvT-loop
-Inv-loop s points w count radius limits i purse left₀ m₀ left m = (x : ℕ) → x < m → SeedlessAfter s points radius w count i (nth s w x) (x + 1)
+Inv-loop p points w count i purse left₀ m₀ left m = (x : ℕ) → x < m → SeedlessAfter (p .scene) points (p .radius) w count i (nth (p .scene) w x) (x + 1)
 
 abbrev μ-loop : tie.MeasureT-loop
-μ-loop s points w count radius limits i purse left₀ m₀ left m = count - m
+μ-loop p points w count i purse left₀ m₀ left m = count - m
 
 loop-holds : tie.Need-loop-holds Inv-loop μ-loop
 loop-holds c = λ x h. absurd (omega arith)
 
 listed-point-requires : tie.Need-listed-point-requires Inv-loop μ-loop
 listed-point-requires c κs =
-    let a = c .before .before .before .before in
-    (a .pre .0 .few, a .pre .0 .work-long, a .pre .1, c .loop-test .taken)
+    (c .before .before .before .before .pre .0 .few, c .before .before .before .before .pre .0 .work-long, c .before .before .before .before .pre .1, c .loop-test .taken)
 
 add-m : tie.Need-add-m Inv-loop μ-loop
 add-m c = search needs
 
 pay-beside-requires : tie.Need-pay-beside-requires Inv-loop μ-loop
 pay-beside-requires c κs =
-    let a = c .before .before .before .before .before in
-    (a .pre .0, a .pre .1, a .pre .2, c .listed-point .ensures .1, a .pre .3)
+    (c .before .before .before .before .before .pre .0, c .before .before .before .before .before .pre .1, c .before .before .before .before .before .pre .2, c .listed-point .ensures .1, c .before .before .before .before .before .pre .3)
 
 returns : tie.Need-returns Inv-loop μ-loop
 returns c = λ h. absurd (omega arith)
@@ -40,11 +38,10 @@ loop-less c = search needs
 loop-again : tie.Need-loop-again Inv-loop μ-loop
 loop-again c =
     let t = c .before .pay-beside in
-    let p = c .before .before in
-    let l = p .before .before .loop in
-    let a = p .before .before .before .before .before .args in
+    let l = c .before .before .before .before .loop in
+    let a = c .before .before .before .before .before .before .before .args in
     let ne = c .if1 .left in
-    below-next (l .inv) (subst (λ (j : ℕ). SeedlessAfter (a .s) (a .points .now) (a .radius) (a .w .now) (a .count) (a .i) j (l .m + 1)) (p .listed-point .ensures .0) (t .ensures (omega arith)))
+    below-next (l .inv) (subst (λ (j : ℕ). SeedlessAfter (a .p .scene) (a .points .now) (a .p .radius) (a .w .now) (a .count) (a .i) j (l .m + 1)) (c .before .before .listed-point .ensures .0) (t .ensures (omega arith)))
 
 returns-2 : tie.Need-returns-2 Inv-loop μ-loop
 returns-2 c = λ h m b. c .before .loop .inv m (omega (arith, c .loop-test .left))

@@ -15,13 +15,13 @@ use Rattle.seed.proofs.triples.find_from.Statement.{statement}
 use Rattle.seed.proofs.triples.find_from.Tie as tie
 
 abbrev Inv-loop : tie.InvT-loop
-Inv-loop s points w₀ radius hash limits n left₀ purse₀ lo₀ i₀ w left purse lo i = Seeking s points radius hash w₀ w left i × (lo ≤ i) × SeedlessBetween s points radius (usedIn s w₀) lo i
+Inv-loop p points w₀ s n left₀ purse₀ lo₀ i₀ w left purse lo i = Seeking (p .scene) points (p .radius) (p .hash) w₀ w left i × (lo ≤ i) × SeedlessBetween (p .scene) points (p .radius) (usedIn (p .scene) w₀) lo i
 
 abbrev μ-loop : tie.MeasureT-loop
-μ-loop s points w₀ radius hash limits n left₀ purse₀ lo₀ i₀ w left purse lo i = s .n - i
+μ-loop p points w₀ s n left₀ purse₀ lo₀ i₀ w left purse lo i = p .scene .n - i
 
 loop-holds : tie.Need-loop-holds Inv-loop μ-loop
-loop-holds c = (seek-start (c .before .before .pre .0) (c .before .before .pre .1) (c .before .before .pre .2), omega arith, λ x h. absurd (omega arith))
+loop-holds c = (seek-start (c .before .before .before .pre .0) (c .before .before .before .pre .1) (c .before .before .before .pre .2), omega arith, λ x h. absurd (omega arith))
 
 nothing-found-requires : tie.Need-nothing-found-requires Inv-loop μ-loop
 nothing-found-requires c κs = search needs
@@ -47,15 +47,15 @@ loop-again : tie.Need-loop-again Inv-loop μ-loop
 loop-again c =
     let u = c .before .is-unused in
     let l = c .before .before .before .before .before .loop in
-    let a = c .before .before .before .before .before .before .before .before .args in
+    let a = c .before .before .before .before .before .before .before .before .before .args in
     let used = sym (u .ensures) ∙ not-true (u .result) (c .if2 .taken) in (
       seek-used (l .inv .0) (c .before .before .before .before .loop-test .taken) (c .before .before .before .if1 .left) used,
       omega (arith, l .inv .1),
-      seedless-used (usedIn (a .s) (a .w .now)) (l .inv .2) (unused-back {s = a .s} (l .i) (l .inv .0 .kept) used),
+      seedless-used (usedIn (a .p .scene) (a .w .now)) (l .inv .2) (unused-back {s = a .p .scene} (l .i) (l .inv .0 .kept) used),
     )
 
 check-first-requires : tie.Need-check-first-requires Inv-loop μ-loop
-check-first-requires c κs = let l = c .before .before .before .before .before .before .loop in (l .inv .0 .held, l .inv .0 .hashed, c .before .before .before .before .before .loop-test .taken, c .before .before .before .before .before .before .before .before .before .pre .3)
+check-first-requires c κs = let l = c .before .before .before .before .before .before .loop in (l .inv .0 .held, l .inv .0 .hashed, c .before .before .before .before .before .loop-test .taken, c .before .before .before .before .before .before .before .before .before .before .pre .3)
 
 try-unless-seedless-requires : tie.Need-try-unless-seedless-requires Inv-loop μ-loop
 try-unless-seedless-requires c κs =
@@ -64,8 +64,8 @@ try-unless-seedless-requires c κs =
     let t = c .before .before .before .check-first in
     let k = seek-kept (l .inv .0) (t .last .1 .1 .0) (t .ensures .1) (t .kept .1 .1 .0) in
     let inside = c .before .before .before .before .before .before .before .before .before .loop-test .taken in
-    let free = unused-kept {s = c .before .before .before .before .before .before .before .before .before .before .before .before .before .args .s} (l .i) (t .ensures .1) (sym (u .ensures) ∙ not-false (u .result) (c .before .before .before .before .before .if2 .left)) in
-    (k .held, k .indexed, k .hashed, inside, c .before .before .before .before .before .before .before .before .before .before .before .before .before .pre .3, λ h. seek-seedless k inside (l .inv .1) free (seedless-next {w₀ = c .before .before .before .before .before .before .before .before .before .before .before .before .before .args .w .now} (l .inv .2) (l .inv .0 .kept) (t .ensures .0 h)))
+    let free = unused-kept {s = c .before .before .before .before .before .before .before .before .before .before .before .before .before .before .args .p .scene} (l .i) (t .ensures .1) (sym (u .ensures) ∙ not-false (u .result) (c .before .before .before .before .before .if2 .left)) in
+    (k .held, k .indexed, k .hashed, inside, c .before .before .before .before .before .before .before .before .before .before .before .before .before .before .pre .3, λ h. seek-seedless k inside (l .inv .1) free (seedless-next {w₀ = c .before .before .before .before .before .before .before .before .before .before .before .before .before .before .args .w .now} (l .inv .2) (l .inv .0 .kept) (t .ensures .0 h)))
 
 enum-known-found : tie.Need-enum-known-found Inv-loop μ-loop
 enum-known-found c = search needs
@@ -80,7 +80,7 @@ returns-2 c =
     let t = c .before .before .before .before .before .before .before .before .before .check-first in
     let f = c .before .before .before .before .before .try-unless-seedless in
     let k = seek-kept (l .inv .0) (t .last .1 .1 .0) (t .ensures .1) (t .kept .1 .1 .0) in
-    let free = unused-kept {s = c .before .before .before .before .before .before .before .before .before .before .before .before .before .before .before .before .before .before .before .args .s} (l .i) (t .ensures .1) (sym (u .ensures) ∙ not-false (u .result) (c .before .before .before .before .before .before .before .before .before .before .before .if2 .left)) in (
+    let free = unused-kept {s = c .before .before .before .before .before .before .before .before .before .before .before .before .before .before .before .before .before .before .before .before .args .p .scene} (l .i) (t .ensures .1) (sym (u .ensures) ∙ not-false (u .result) (c .before .before .before .before .before .before .before .before .before .before .before .if2 .left)) in (
       seek-hit k (c .before .before .before .before .before .before .before .before .before .before .before .before .before .before .before .loop-test .taken) (c .before .before .before .before .before .before .before .before .before .before .before .before .before .before .if1 .left) free (f .ensures .0) (c .before .found .given .1),
       kept-on (k .kept) (f .ensures .1),
     )
@@ -108,10 +108,10 @@ loop-again-2 c =
     let f = c .before .before .before .before .before .try-unless-seedless in
     let m = c .known-from in
     let k = seek-kept (l .inv .0) (t .last .1 .1 .0) (t .ensures .1) (t .kept .1 .1 .0) in
-    let free = unused-kept {s = c .before .before .before .before .before .before .before .before .before .before .before .before .before .before .before .before .before .before .before .args .s} (l .i) (t .ensures .1) (sym (u .ensures) ∙ not-false (u .result) (c .before .before .before .before .before .before .before .before .before .before .before .if2 .left)) in (
+    let free = unused-kept {s = c .before .before .before .before .before .before .before .before .before .before .before .before .before .before .before .before .before .before .before .before .args .p .scene} (l .i) (t .ensures .1) (sym (u .ensures) ∙ not-false (u .result) (c .before .before .before .before .before .before .before .before .before .before .before .if2 .left)) in (
       seek-miss k (f .last .1 .1 .0) (c .before .before .before .before .before .before .before .before .before .before .before .before .before .before .before .loop-test .taken) (c .before .before .before .before .before .before .before .before .before .before .before .before .before .before .if1 .left) free (f .ensures .0) (c .before .enum-told .given .1) (f .ensures .1) (f .kept .1 .1 .0),
       m .ensures .inside,
-      seedless-on {w₀ = c .before .before .before .before .before .before .before .before .before .before .before .before .before .before .before .before .before .before .before .args .w .now} (l .inv .2) (l .inv .0 .kept) (t .ensures .0) (m .ensures),
+      seedless-on {w₀ = c .before .before .before .before .before .before .before .before .before .before .before .before .before .before .before .before .before .before .before .before .args .w .now} (l .inv .2) (l .inv .0 .kept) (t .ensures .0) (m .ensures),
     )
 
 nothing-found-requires-2 : tie.Need-nothing-found-requires-2 Inv-loop μ-loop

@@ -6,23 +6,21 @@ use Rattle.seed.proofs.triples.find_second.Statement.{statement}
 use Rattle.seed.proofs.triples.find_second.Tie as tie
 
 abbrev Inv-loop : tie.InvT-loop
-Inv-loop s points w count radius limits i m₀ m = Second s points radius w count i m
+Inv-loop p points w count i m₀ m = Second (p .scene) points (p .radius) w count i m
 
 abbrev μ-loop : tie.MeasureT-loop
-μ-loop s points w count radius limits i m₀ m = count - m
+μ-loop p points w count i m₀ m = count - m
 
 loop-holds : tie.Need-loop-holds Inv-loop μ-loop
-loop-holds c = let a = c .before .before in second-start (a .pre .0) (a .pre .1)
+loop-holds c = second-start (c .before .before .pre .0) (c .before .before .pre .1)
 
 listed-point-requires : tie.Need-listed-point-requires Inv-loop μ-loop
 listed-point-requires c κs =
-    let a = c .before .before .before .before in
-    (a .pre .0 .few, a .pre .0 .work-long, a .pre .1, c .loop-test .taken)
+    (c .before .before .before .before .pre .0 .few, c .before .before .before .before .pre .0 .work-long, c .before .before .before .before .pre .1, c .loop-test .taken)
 
 try-second-requires : tie.Need-try-second-requires Inv-loop μ-loop
 try-second-requires c κs =
-    let a = c .before .before .before .before .before in
-    (a .pre .0, a .pre .1, a .pre .2, c .listed-point .ensures .1, a .pre .3)
+    (c .before .before .before .before .before .pre .0, c .before .before .before .before .before .pre .1, c .before .before .before .before .before .pre .2, c .listed-point .ensures .1, c .before .before .before .before .before .pre .3)
 
 enum-known-found : tie.Need-enum-known-found Inv-loop μ-loop
 enum-known-found c = search needs

@@ -6,18 +6,17 @@ use Rattle.seed.proofs.triples.find_third.Statement.{statement}
 use Rattle.seed.proofs.triples.find_third.Tie as tie
 
 abbrev Inv-loop : tie.InvT-loop
-Inv-loop s points w count radius limits i j m₀ m = Third s points radius w count i j m
+Inv-loop p points w count i j s limits m₀ m = Third (p .scene) points (p .radius) w count i j m
 
 abbrev μ-loop : tie.MeasureT-loop
-μ-loop s points w count radius limits i j m₀ m = count - m
+μ-loop p points w count i j s limits m₀ m = count - m
 
 loop-holds : tie.Need-loop-holds Inv-loop μ-loop
-loop-holds c = let a = c .before .before in third-start (a .pre .0) (a .pre .1)
+loop-holds c = third-start (c .before .before .before .before .pre .0) (c .before .before .before .before .pre .1)
 
 listed-point-requires : tie.Need-listed-point-requires Inv-loop μ-loop
 listed-point-requires c κs =
-    let a = c .before .before .before .before in
-    (a .pre .0 .few, a .pre .0 .work-long, a .pre .1, c .loop-test .taken)
+    (c .before .before .before .before .before .before .pre .0 .few, c .before .before .before .before .before .before .pre .0 .work-long, c .before .before .before .before .before .before .pre .1, c .loop-test .taken)
 
 is-third-requires : tie.Need-is-third-requires Inv-loop μ-loop
 is-third-requires c κs = let h = c .listed-point .ensures .1 in search needs

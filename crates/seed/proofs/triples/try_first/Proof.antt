@@ -17,35 +17,31 @@ filter-of-requires c κs = search needs
 
 gather-near-requires : tie.Need-gather-near-requires
 gather-near-requires c κs =
-    let a = c .before .before .before .before .before in
-    (a .pre .2, subst Finite (sym (c .before .filter-of .ensures .center-is ∙ c .before .before .point-at .ensures)) (a .pre .2 .linked .ready .numbers (a .args .i) (a .pre .3)))
+    (c .before .before .before .before .before .before .before .before .pre .2, subst Finite (sym (c .before .before .filter-of .ensures .center-is ∙ c .before .before .before .before .point-at .ensures)) (c .before .before .before .before .before .before .before .before .pre .2 .linked .ready .numbers (c .before .before .before .before .before .before .before .before .args .i) (c .before .before .before .before .before .before .before .before .pre .3)))
 
 narrow-requires : tie.Need-narrow-requires
 narrow-requires c κs =
-    let a = c .before .before .before .before .before .before .before .before .before in
     let g = c .before .before .before .gather-near in
-    let h = held-kept (g .last .1 .1 .0) (a .pre .0) (g .kept .1 .1 .0) in
-    (h, cells-kept (a .args .s .grid) (a .args .points .now) (a .args .s .n) (a .args .w .now) (g .last .1 .1 .0) (a .pre .1 .cells) (g .ensures .kept .before), collected-listed (h .work-long) (g .ensures))
+    let h = held-kept (g .last .1 .1 .0) (c .before .before .before .before .before .before .before .before .before .before .before .before .pre .0) (g .kept .1 .1 .0) in
+    (h, cells-kept (c .before .before .before .before .before .before .before .before .before .before .before .before .args .p .scene .grid) (c .before .before .before .before .before .before .before .before .before .before .before .before .args .points .now) (c .before .before .before .before .before .before .before .before .before .before .before .before .args .p .scene .n) (c .before .before .before .before .before .before .before .before .before .before .before .before .args .w .now) (g .last .1 .1 .0) (c .before .before .before .before .before .before .before .before .before .before .before .before .pre .1 .cells) (g .ensures .kept .before), collected-listed (h .work-long) (g .ensures))
 
 find-second-requires : tie.Need-find-second-requires
 find-second-requires c κs =
-    let a = c .before .before .before .before .before .before .before .before .before .before .before .before .before in
     let g = c .before .before .before .before .before .before .before .gather-near in
     let n = c .before .before .before .narrow in
-    let h = held-kept (n .last .1 .1 .0) (a .pre .0) (n .kept .1 .1 .0 ∙ g .kept .1 .1 .0) in
-    (h, listed-points (h .work-long) (sought (c .before .before .before .before .before .before .before .before .before .before .point-at .ensures) (c .before .before .before .before .before .before .before .before .before .filter-of .ensures) (g .ensures) (n .ensures)), a .pre .3, record { numbers = a .pre .2 .linked .ready .numbers; limits = a .pre .4 })
+    let h = held-kept (n .last .1 .1 .0) (c .before .before .before .before .before .before .before .before .before .before .before .before .before .before .before .before .pre .0) (n .kept .1 .1 .0 ∙ g .kept .1 .1 .0) in
+    (h, listed-points (h .work-long) (sought (c .before .before .before .before .before .before .before .before .before .before .before .before .point-at .ensures) (c .before .before .before .before .before .before .before .before .before .before .filter-of .ensures) (g .ensures) (n .ensures)), c .before .before .before .before .before .before .before .before .before .before .before .before .before .before .before .before .pre .3, record { numbers = c .before .before .before .before .before .before .before .before .before .before .before .before .before .before .before .before .pre .2 .linked .ready .numbers; limits = c .before .before .before .before .before .before .before .before .before .before .before .before .before .before .before .before .pre .4 })
 
 same-length : tie.Need-same-length
 same-length c = search needs
 
 returns : tie.Need-returns
 returns c =
-    let a = c .before .before .before .before .before .before .before .before .before .before .before .before .before .before in
-    let p = c .before .before .before .before .before .before .before .before .before .before .before .point-at in
+    let p = c .before .before .before .before .before .before .before .before .before .before .before .before .before .point-at in
     let g = c .before .before .before .before .before .before .before .before .gather-near in
     let n = c .before .before .before .before .narrow in (
       c .find-second .ensures
-          ∙ ap seedFound (with-first (a .args .s) (a .args .points .now) (a .args .radius) (a .args .w .now) (n .last .1 .1 .0) (n .result) (a .args .i) (p .result) (p .ensures) (sought (p .ensures) (c .before .before .before .before .before .before .before .before .before .before .filter-of .ensures) (g .ensures) (n .ensures))),
+          ∙ ap seedFound (with-first (c .before .before .before .before .before .before .before .before .before .before .before .before .before .before .before .before .before .args .p .scene) (c .before .before .before .before .before .before .before .before .before .before .before .before .before .before .before .before .before .args .points .now) (c .before .before .before .before .before .before .before .before .before .before .before .before .before .before .before .before .before .args .p .radius) (c .before .before .before .before .before .before .before .before .before .before .before .before .before .before .before .before .before .args .w .now) (n .last .1 .1 .0) (n .result) (c .before .before .before .before .before .before .before .before .before .before .before .before .before .before .before .before .before .args .i) (p .result) (p .ensures) (sought (p .ensures) (c .before .before .before .before .before .before .before .before .before .before .before .filter-of .ensures) (g .ensures) (n .ensures))),
       kept-on (g .ensures .kept) (n .ensures .kept),
     )
 

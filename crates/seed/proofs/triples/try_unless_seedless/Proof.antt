@@ -7,7 +7,7 @@ use Rattle.seed.proofs.triples.try_unless_seedless.Statement.{statement
 use Rattle.seed.proofs.triples.try_unless_seedless.Tie as tie
 
 returns : tie.Need-returns
-returns c = let a = c .before .before .before in (sym (ap seedFound (a .pre .5 (c .if1 .taken))), kept-self (a .args .s) (a .args .w .now))
+returns c = (sym (ap seedFound (c .before .before .before .pre .5 (c .if1 .taken))), kept-self (c .before .before .before .args .p .scene) (c .before .before .before .args .w .now))
 
 try-first-requires : tie.Need-try-first-requires
 try-first-requires c κs = search needs
