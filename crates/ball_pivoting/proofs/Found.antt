@@ -1,16 +1,14 @@
 -- What the two paths find is what the definition finds. Assumes nothing.
-use Prim.Native.Nat.{ℕ, _-_, _*_, _≤_, _<_}
+use Prim.Native.Nat.{ℕ, _-_, _≤_, _<_}
 use mathlib.Core.Path.{_≡_, refl, sym, ap, _∙_, subst}
 use mathlib.Core.Bool.{true}
 use mathlib.Core.List.{List, [], _∷_}
 use native.Mathlib.Omega.{arith}
 use lib.ListN.{length, take, getD}
-use lib.Seq.{take-take}
 use lib.Ieee.{Float, nan}
 use Rattle.settings.specs.declared.BallPivotingConfig.{BallPivotingConfig}
 use Rattle.settings.specs.Settled.{Settled}
 use Rattle.grid.specs.Index.{Indexed}
-use Rattle.grid.proofs.Near.{indexed-kept}
 use Rattle.lists.specs.Lists.{any}
 use Rattle.patch.specs.Lay.{State, patch, blank}
 use Rattle.patch.specs.Frontier.{popOf}
@@ -34,6 +32,7 @@ use Rattle.radii.specs.declared.Radii.{Radii}
 use Rattle.origins.specs.Following.{marksFrom}
 use Rattle.laying.specs.Laying.{AllSearchable, rulesOf}
 use Rattle.laying.proofs.Claim.{laid-shape, laid-few}
+use Rattle.cell_sizes.proofs.Anew.{indexed-built}
 use Rattle.plain.specs.Reached.{plainReached}
 use Rattle.plain.proofs.Plain.{plain-most}
 use Rattle.reaching.specs.Reaching.{reaches}
@@ -60,15 +59,12 @@ touched-inside c pts x t =
 -- ---- the points are indexed and hashed
 
 pub all-searchable : {s : Scene} {hash : Hash} {pts : List Float} {w u v : List ℕ} → s .n ≡ pointCount pts → Sized pts w → Indexed (s .grid) pts (s .n) u → Built hash pts (s .n) u v → AllSearchable s hash pts v
-all-searchable {s = s} {u = u} {v = v} e z x b = record {
+all-searchable e z x b = record {
   some = omega (arith, z .some);
   held = record { few = x .few; points-long = omega (arith, z .threes); work-long = omega (arith, x .room, b .length-same) };
-  indexed = indexed-kept v x (b .length-same) (take-fewer u v (b .before));
+  indexed = indexed-built x b;
   hashed = b .hashed;
 }
-  where
-    take-fewer : (u v : List ℕ) → take (9 * s .n) v ≡ take (9 * s .n) u → take (4 * s .n) v ≡ take (4 * s .n) u
-    take-fewer u v q = let h : 4 * s .n ≤ 9 * s .n = omega arith in sym (take-take (4 * s .n) (9 * s .n) v h) ∙ ap (take (4 * s .n)) q ∙ take-take (4 * s .n) (9 * s .n) u h
 
 -- ---- the radii
 

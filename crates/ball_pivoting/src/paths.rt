@@ -60,7 +60,8 @@ fn index_points(points: &[f32], settings: BallPivotingConfig, words: &mut [u32])
     }
 }
 
-// What is known of the cloud before a face is laid.
+// What is known of the cloud before a face is laid. A sparse cloud is hashed again for the samples, and once more for
+// the laying.
 pub fn survey(
     points: &[f32],
     settings: BallPivotingConfig,
@@ -74,16 +75,21 @@ pub fn survey(
 {
     let site = index_points(points, settings, words);
     let scene = site.scene;
-    let hash = site.hash;
+    let narrow = site.hash;
+    let sparse = cell_sizes::is_sparse(scene, points, settings, narrow, words);
+    let wide_size = cell_sizes::size_for_samples(settings);
+    let wide = cell_sizes::rehash(scene, points, narrow, words, sparse, wide_size);
     let radii = radii::compute_adaptive_radii(
         points,
         scene.n,
         settings,
         scene.grid,
-        hash,
+        wide,
         words,
         floats,
     );
+    let size = cell_sizes::size_for_laying(radii, settings.radius);
+    let hash = cell_sizes::rehash(scene, points, wide, words, sparse, size);
     Surveyed {
         scene: scene,
         hash: hash,

@@ -312,6 +312,14 @@ fn take_roots(f: &mut [f32], at: usize, count: usize)
     }
 }
 
+// Until a sample has ten distances its tenth is none, so that the next one looks further.
+fn clear_tenth(f: &mut [f32], n: usize)
+    requires { ⌜ (n ≤ 4096) × (radiiAt n ≤ length (now f)) ⌝ }
+    ensures { λ _. ⌜ take (leastAt n) (now (f .exit)) ≡ take (leastAt n) (now (f .entry)) ⌝ }
+{
+    f[n + 9] = 1.0 / 0.0;
+}
+
 // A guess at how far the cells of a place's neighbours reach.
 fn reach_of(grid: SpatialGrid, around: Around) -> f32 {
     if around.indexed {
@@ -348,13 +356,14 @@ pub fn find_nearest(
         tenth: guess,
         last: reach_of(grid, around),
     };
+    clear_tenth(f, n);
     let kept = find_squares(points, n, hash, grid, around, i, far, w, f);
     take_roots(f, n, kept);
     kept
 }
 
-// A guess for the next sample: a little more than the tenth distance of the last one that had ten. It grows slowly,
-// since a look too wide costs more than one too narrow.
+// A guess for the next sample: a little more than the tenth distance of the last one, or than its guess if it had fewer
+// than ten. It grows slowly, since a look too wide costs more than one too narrow.
 pub fn guess_after(f: &[f32], n: usize, guess: f32) -> f32
     requires { ⌜ (n ≤ 4096) × (radiiAt n ≤ length (now f)) ⌝ }
 {
