@@ -25,8 +25,11 @@ pub record NotAfter (r z : Near) : Type 0 where
 abbrev at : Float → ℕ → Near
 at d n = record { distance = d; number = n }
 
-itself : (z : Near) → Length (z .distance) → NotAfter z z
+pub itself : (z : Near) → Length (z .distance) → NotAfter z z
 itself z l = record { near = le-refl (z .distance) (number l); low = λ _. omega arith }
+
+pub strictly : (r z : Near) → T (lt (r .distance) (z .distance)) → NotAfter r z
+strictly r z h = record { near = lt-le _ _ h; low = λ k. absurd (le-not-lt _ _ k h) }
 
 chain : (r c z : Near) → NotAfter r c → NotAfter c z → NotAfter r z
 chain r c z a b = record {
@@ -59,13 +62,13 @@ module _ (best : Near) (d : Float) (n : ℕ) (lb : Length (best .distance)) (ld 
   cases : (x y z : Bool) → lt d (best .distance) ≡ x → lt (best .distance) d ≡ y → ltb n (best .number) ≡ z → Step best (at d n) (cond x (at d n) (cond y best (cond z (at d n) best)))
   cases true y z e f g = record {
     one-of = inr refl;
-    first = record { near = lt-le _ _ (true-T _ e); low = λ h. absurd (le-not-lt _ _ h (true-T _ e)) };
+    first = strictly (at d n) best (true-T _ e);
     second = itself (at d n) ld;
   }
   cases false true z e f g = record {
     one-of = inl refl;
     first = itself best lb;
-    second = record { near = lt-le _ _ (true-T _ f); low = λ h. absurd (le-not-lt _ _ h (true-T _ f)) };
+    second = strictly best (at d n) (true-T _ f);
   }
   cases false false true e f g = record {
     one-of = inr refl;
@@ -118,6 +121,10 @@ found key (x ∷ xs) good best l =
       before = chain r c best (f .before) (s .first);
       least = in-cases (λ (v : ℕ). NotAfter r (at (key v) v)) x xs (chain r c (at (key x) x) (f .before) (s .second)) (f .least);
     }
+
+-- there is one such
+pub only-found : (key : ℕ → Float) (xs : List ℕ) (best r t : Near) → Found key xs best r → Found key xs best t → r ≡ t
+only-found key xs best r t a b = same r t (a .size) (b .size) (after key xs xs best r t a b (λ v i. i)) (after key xs xs best t r b a (λ v i. i))
 
 -- lists with the same elements give the same
 pub any-order : (key : ℕ → Float) (xs ys : List ℕ) → ((v : ℕ) → In v xs → Length (key v)) → (best : Near) → Length (best .distance) → ((v : ℕ) → In v xs → In v ys) → ((v : ℕ) → In v ys → In v xs)

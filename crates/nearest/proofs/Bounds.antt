@@ -1,22 +1,23 @@
 -- No point of a box has a smaller square than the box, by monotone rounding. Assumes nothing.
 use mathlib.Core.Path.{_≡_, refl, ap, _∙_, subst, subst⁻¹}
 use mathlib.Core.Bool.{Bool, true, false, cond, not}
+use mathlib.Core.Logic.{_⊎_, inl, inr, ⊎-elim}
 use mathlib.Core.List.{List}
 use Prim.Native.Nat.{ℕ, _+_, _<_}
 use native.Mathlib.Omega.{arith}
 use lib.Dec.{T}
-use lib.Ieee.{Float, binary32, lt, le, isNan, mul, ofBits, nanBits}
+use lib.Ieee.{Float, binary32, lt, le, nanBits}
 use lib.Ieee.Scale.{finite}
 use lib.ListN.{length, getD}
-use Rattle.numbers.specs.Rounded.{_⊕_, _⊖_, _⊗_, f32}
-use Rattle.numbers.proofs.OrderLaws.{le-trans, not-lt-le, unsigned-le, unsigned-number}
+use Rattle.numbers.specs.Rounded.{_⊕_, _⊖_, _⊗_}
+use Rattle.numbers.proofs.OrderLaws.{finite-number, lt-le, le-refl, le-trans, le-or-lt, le-not-lt, not-lt-le, unsigned-number}
 use Rattle.numbers.specs.Bounds.{unsigned}
-use Rattle.numbers.proofs.SumOrder.{add-commutative, add-unsigned, add-monotone-left, sub-monotone, sub-antitone, sub-number}
-use Rattle.numbers.proofs.ProductOrder.{square-unsigned, square-monotone, square-turned}
+use Rattle.numbers.proofs.SumOrder.{add-commutative, add-unsigned, add-monotone-left, sub-number}
+use Rattle.numbers.proofs.ProductOrder.{square-unsigned, square-turned, square-beyond}
 use Rattle.vector.specs.Vector.{Finite, point, magnitudeSquared, squared}
 use Rattle.vector.specs.declared.Point3f.{Point3f}
 use Rattle.vector.proofs.Distances.{square, squared-is}
-use Rattle.nearest.specs.Boxes.{wordAt, greater, gap, reachOf, Between, Inside, Six}
+use Rattle.nearest.specs.Boxes.{wordAt, greater, lesser, gap, reachOf, Between, Inside, Six}
 
 -- ---- the box's distance, from what was read
 pub reach-is : (words : List ℕ) (at : ℕ) (spot : Point3f) {x y z r : Float} {q : Point3f}
@@ -28,55 +29,42 @@ reach-is words at spot ex ey ez eq er = er ∙ ap magnitudeSquared (eq ∙ (λ i
 pub gap-is : (v : Float) {a b lo hi r : Float} → a ≡ lo → b ≡ hi → r ≡ gap v a b → r ≡ gap v lo hi
 gap-is v ea eb er = er ∙ (λ i. gap v (ea i) (eb i))
 
-pub gap-of : (v lo hi : Float) {a b : Float} → a ≡ greater (lo ⊖ v) (v ⊖ hi) → b ≡ greater a (f32 0) → b ≡ gap v lo hi
+pub gap-of : (v lo hi : Float) {a b : Float} → a ≡ greater lo v → b ≡ lesser a hi → v ⊖ b ≡ gap v lo hi
 unfolding gap
-gap-of v lo hi ea eb = eb ∙ ap (λ (z : Float). greater z (f32 0)) ea
+gap-of v lo hi ea eb = ap (λ (z : Float). v ⊖ z) (eb ∙ ap (λ (z : Float). lesser z hi) ea)
 
 -- ---- on one axis
-not-T : (b : Bool) → b ≡ false → T (not b)
-not-T b e = subst⁻¹ (λ (z : Bool). T (not z)) e tt
-
 module _ (v lo hi p : Float) (f : T (finite v)) (b : Between lo hi p) where
-  -- a number that is no farther than the point, and its square
+  -- the square of a number that is no farther than the point
   record Within (g : Float) : Type 0 where
     sign : T (unsigned (g ⊗ g))
     least : T (le (g ⊗ g) (square p v))
 
-  none : Within (f32 0)
-  unfolding mul ofBits
-  none = record { sign = tt; least = unsigned-le (square p v) (square-unsigned (p ⊖ v) (sub-number p v (b .v-finite) f)) }
-
-  below-lo : T (le (f32 0) (lo ⊖ v)) → Within (lo ⊖ v)
-  below-lo z = record {
-    sign = square-unsigned (lo ⊖ v) (sub-number lo v (b .lo-finite) f);
-    least = square-monotone (lo ⊖ v) (p ⊖ v) z (sub-monotone lo p v (b .lo-finite) (b .v-finite) f (b .above));
+  -- a number between v and the point
+  between : (h : Float) → T (finite h) → (T (le v h) × T (le h p)) ⊎ (T (le h v) × T (le p h)) → Within (v ⊖ h)
+  between h k o = record {
+    sign = square-unsigned (v ⊖ h) (sub-number v h f k);
+    least = subst (λ (s : Float). T (le s (square p v))) (square-turned h v) (square-beyond v h p f k (b .v-finite) o);
   }
 
-  above-hi : T (le (f32 0) (v ⊖ hi)) → Within (v ⊖ hi)
-  above-hi z = record {
-    sign = square-unsigned (v ⊖ hi) (sub-number v hi f (b .hi-finite));
-    least = subst (λ (s : Float). T (le ((v ⊖ hi) ⊗ (v ⊖ hi)) s)) (square-turned v p) (square-monotone (v ⊖ hi) (v ⊖ p) z (sub-antitone p hi v (b .v-finite) (b .hi-finite) f (b .below)));
-  }
+  not-above : (x y : Float) → T (finite x) → T (finite y) → lt x y ≡ false → T (le y x)
+  not-above x y g h e = not-lt-le x y (finite-number x g) (finite-number y h) (subst⁻¹ (λ (z : Bool). T (not z)) e tt)
 
-  zero-below : (x : Float) → T (not (isNan x)) → lt x (f32 0) ≡ false → T (le (f32 0) x)
-  zero-below x n e = not-lt-le x (f32 0) n (unfold isNan ofBits in tt) (not-T (lt x (f32 0)) e)
+  itself : T (le v v)
+  itself = le-refl v (finite-number v f)
 
-  first-cases : (x : Bool) → lt (lo ⊖ v) (f32 0) ≡ x → Within (cond x (f32 0) (lo ⊖ v))
-  first-cases true e = none
-  first-cases false e = below-lo (zero-below (lo ⊖ v) (sub-number lo v (b .lo-finite) f) e)
+  within : Within (v ⊖ v)
+  within = between v f (⊎-elim (λ o. inl (itself, o)) (λ o. inr (itself, lt-le p v o)) (le-or-lt v p (finite-number v f) (finite-number p (b .v-finite))))
 
-  second-cases : (x : Bool) → lt (v ⊖ hi) (f32 0) ≡ x → Within (cond x (f32 0) (v ⊖ hi))
-  second-cases true e = none
-  second-cases false e = above-hi (zero-below (v ⊖ hi) (sub-number v hi f (b .hi-finite)) e)
-
-  gap-cases : (x : Bool) → Within (greater (cond x (v ⊖ hi) (lo ⊖ v)) (f32 0))
-  unfolding greater
-  gap-cases true = second-cases (lt (v ⊖ hi) (f32 0)) refl
-  gap-cases false = first-cases (lt (lo ⊖ v) (f32 0)) refl
+  cases : (x y : Bool) → lt lo v ≡ x → lt hi (cond x v lo) ≡ y → Within (v ⊖ cond y hi (cond x v lo))
+  cases true true e g = between hi (b .hi-finite) (inr (lt-le hi v (subst⁻¹ T g tt), b .below))
+  cases true false e g = within
+  cases false true e g = absurd (le-not-lt lo hi (le-trans lo p hi (b .above) (b .below)) (subst⁻¹ T g tt))
+  cases false false e g = between lo (b .lo-finite) (inl (not-above lo v (b .lo-finite) f e, b .above))
 
   on-axis : Within (gap v lo hi)
-  unfolding gap greater
-  on-axis = gap-cases (lt (lo ⊖ v) (v ⊖ hi))
+  unfolding gap greater lesser
+  on-axis = cases (lt lo v) (lt hi (cond (lt lo v) v lo)) refl refl
 
 -- ---- the three together
 square-sign : (x y : Float) → T (finite x) → T (finite y) → T (unsigned (square x y))

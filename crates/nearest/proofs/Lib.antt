@@ -5,3 +5,4 @@ pub mod Margin
 pub mod Bounds
 pub mod AnyOrder
 pub mod Scanning
+pub mod Settling

@@ -6,7 +6,7 @@ use Prim.Native.Nat.{ℕ, suc, _+_, _-_, _*_, _/_, _≤_, _<_}
 use native.Mathlib.Nat.{le-of-eq}
 use native.Mathlib.Omega.{arith}
 use lib.Dec.{T, ltb, eqb}
-use lib.Ieee.{Float, binary32, fits, lt}
+use lib.Ieee.{Float, binary32, fits, lt, le}
 use lib.ListN.{length, getD, take, drop, take-append-drop, length-drop, drop-of-length-le}
 use lib.Seq.{drop-cons, take-all, length-take-le}
 use Rattle.lists.specs.Lists.{count}
@@ -24,6 +24,7 @@ use Rattle.nearest.specs.declared.Best.{Best}
 use Rattle.nearest.specs.Scan.{Near, lengthTo}
 use Rattle.nearest.specs.Parts.{closer, scanned, Length, nearOf, Limited, Keeps}
 use Rattle.nearest.specs.Boxes.{reachOf, boxesBelow, secondAt, Known, Held, Boxed, leaf, node, Ready}
+use Rattle.nearest.specs.Least.{Few}
 use Rattle.nearest.proofs.Lengths.{distance-length}
 use Rattle.nearest.proofs.Bounds.{reach-least, inside-finite}
 use Rattle.nearest.proofs.AnyOrder.{found, any-order}
@@ -32,7 +33,7 @@ true-of : (b : Bool) → T b → b ≡ true
 true-of true h = refl
 true-of false h = absurd h
 
-false-of : (b : Bool) → (T b → ⊥) → b ≡ false
+pub false-of : (b : Bool) → (T b → ⊥) → b ≡ false
 false-of true h = absurd (h tt)
 false-of false h = refl
 
@@ -147,6 +148,15 @@ unfolding scanned
 all-kept key [] best h = refl
 all-kept key (x ∷ xs) best h = all-kept key xs best (λ v i. h v (omega (arith, i))) ∙ ap (λ (z : Near). scanned key xs z) (sym (kept best (key x) x (h x (in-head x xs))))
 
+-- a number above the limit that no square is below
+pub beyond : (points : List Float) (spot : Point3f) (xs : List ℕ) (best : Best) → Limited best → (q : Float) → lt (best .limit) q ≡ true
+    → ((v : ℕ) → In v xs → T (le q (squared (pointAt points v) spot))) → Keeps best (scanned (lengthTo points spot) xs (nearOf best))
+beyond points spot xs best lim q e h = record {
+  found-is = all-kept (lengthTo points spot) xs (nearOf best)
+      (λ v i. farther best (pointAt points v) spot lim (lt-le-trans (best .limit) q (squared (pointAt points v) spot) (subst⁻¹ T e tt) (h v i)));
+  limited = lim;
+}
+
 -- ---- the boxes
 pub held : {points : List Float} {words xs : List ℕ} {at width : ℕ} → Boxed points words xs at width → Held points words xs at
 held (leaf h k) = k
@@ -160,6 +170,9 @@ second-boxed : {points : List Float} {words xs : List ℕ} {at width : ℕ} → 
 second-boxed (leaf h k) l = absurd (omega arith)
 second-boxed (node h k a b) l = b
 
+pub lengths : {points : List Float} {spot : Point3f} {xs : List ℕ} → Few points spot xs → (v : ℕ) → In v xs → Length (lengthTo points spot v)
+lengths {points} {spot} f v i = distance-length (pointAt points v) spot (f .all-finite v i) (f .spot-finite)
+
 -- ---- the search of a part
 module _ {points : List Float} {spot : Point3f} {words : List ℕ} {at width : ℕ} {square : Float} {xs : List ℕ} {best : Best} (r : Ready points spot words at width square xs best) where
   abbrev key : ℕ → Float
@@ -168,16 +181,15 @@ module _ {points : List Float} {spot : Point3f} {words : List ℕ} {at width : �
   pub here : Held points words xs at
   here = held (r .boxed)
 
+  pub few-here : Few points spot xs
+  few-here = record { spot-finite = r .spot-finite; all-finite = λ v i. inside-finite words at spot (pointAt points v) (r .spot-finite) (here .inside v i) }
+
   good : (v : ℕ) → In v xs → Length (key v)
-  good v i = distance-length (pointAt points v) spot (inside-finite words at spot (pointAt points v) (r .spot-finite) (here .inside v i)) (r .spot-finite)
+  good = lengths few-here
 
   pub left-out : lt (best .limit) square ≡ true → Keeps best (scanned key xs (nearOf best))
-  left-out e = record {
-    found-is = all-kept key xs (nearOf best) (λ v i. farther best (pointAt points v) spot (r .best-limit)
-        (lt-le-trans (best .limit) (reachOf words at spot) (squared (pointAt points v) spot) (subst⁻¹ T (ap (λ (z : Float). lt (best .limit) z) (sym (r .square-is)) ∙ e) tt)
-        (reach-least words at spot (pointAt points v) (r .spot-finite) (here .inside v i))));
-    limited = r .best-limit;
-  }
+  left-out e = beyond points spot xs best (r .best-limit) (reachOf words at spot) (ap (λ (z : Float). lt (best .limit) z) (sym (r .square-is)) ∙ e)
+      (λ v i. reach-least words at spot (pointAt points v) (r .spot-finite) (here .inside v i))
 
   -- the halves' boxes
   pub first-held : 8 < length xs → Held points words (take (length xs / 2) xs) (at + 6)

@@ -8,7 +8,7 @@ use lib.Ieee.{Float, binary32, lt, le, ofBits, nanBits}
 use lib.Ieee.Scale.{finite}
 use lib.ListN.{length, getD, take, drop}
 use Rattle.lists.specs.Members.{In}
-use Rattle.numbers.specs.Rounded.{_⊖_, f32}
+use Rattle.numbers.specs.Rounded.{_⊖_}
 use Rattle.numbers.specs.Root.{root}
 use Rattle.vector.specs.Vector.{Finite, point, magnitudeSquared}
 use Rattle.vector.specs.declared.Point3f.{Point3f}
@@ -23,12 +23,15 @@ wordAt words k = ofBits binary32 (getD words k 0)
 unfoldable pub greater : Float → Float → Float
 greater a b = cond (lt a b) b a
 
--- how far v is outside of lo to hi, 0 within
-unfoldable pub gap : Float → Float → Float → Float
-unfolding greater
-gap v lo hi = greater (greater (lo ⊖ v) (v ⊖ hi)) (f32 0)
+unfoldable pub lesser : Float → Float → Float
+lesser a b = cond (lt b a) b a
 
--- how far the spot is, on each axis, outside of the box at a word: three least coordinates, then three greatest
+-- how far v is from the nearest number between lo and hi, below zero where it is less
+unfoldable pub gap : Float → Float → Float → Float
+unfolding greater lesser
+gap v lo hi = v ⊖ lesser (greater lo v) hi
+
+-- how far the spot is, on each axis, from the box at a word: three least coordinates, then three greatest
 abbrev pub gaps : List ℕ → ℕ → Point3f → Point3f
 gaps words at spot =
     point (gap (spot .x) (wordAt words at) (wordAt words (at + 3)))

@@ -2,3 +2,4 @@
 pub mod Scan
 pub mod Parts
 pub mod Boxes
+pub mod Least

@@ -11,8 +11,9 @@ ghost use Rattle.numbers.specs.Root.{root};
 ghost use Rattle.bounds.specs.Within.{Limit};
 ghost use Rattle.vector.specs.Vector.{point, distance};
 ghost use Rattle.nearest.specs.Scan.{lengthTo};
-ghost use Rattle.nearest.specs.Parts.{closer, scanned, nearOf, Limited, Keeps};
-ghost use Rattle.nearest.specs.Boxes.{wordAt, greater, gap, reachOf, boxesBelow, Six, Known, Ready};
+ghost use Rattle.nearest.specs.Parts.{closer, scanned, Length, nearOf, Limited, Keeps};
+ghost use Rattle.nearest.specs.Boxes.{wordAt, greater, lesser, gap, reachOf, boxesBelow, Six, Known, Ready};
+ghost use Rattle.nearest.specs.Least.{squareTo, nearerNumber, nextLeast, TwoLeast, Few};
 
 // The nearest point so far, by its square. A square above the limit has a root above this one's, so that few points
 // need a root.
@@ -22,10 +23,26 @@ pub struct Best {
     pub limit: f32,
 }
 
+// The two least squares so far, and the number of the least one's point.
+struct Least {
+    first: f32,
+    second: f32,
+    number: u32,
+}
+
 fn greater(a: f32, b: f32) -> f32
     ensures { λ r. ⌜ r ≡ greater a b ⌝ }
 {
     if a < b {
+        return b;
+    }
+    a
+}
+
+fn lesser(a: f32, b: f32) -> f32
+    ensures { λ r. ⌜ r ≡ lesser a b ⌝ }
+{
+    if b < a {
         return b;
     }
     a
@@ -102,11 +119,78 @@ fn scan(points: &[f32], spot: Point3f, order: &[u32], best: Best) -> Best
     found
 }
 
-// How far v is outside of lo to hi, 0 within.
+// The least one's number, after one more square.
+fn nearer_number(least: Least, square: f32, number: u32) -> u32
+    ensures { λ r. ⌜ r ≡ nearerNumber least square number ⌝ }
+{
+    if square < least.first {
+        return number;
+    }
+    least.number
+}
+
+// The two least squares after one more. No branch has to be foretold.
+fn next_least(least: Least, square: f32, number: u32) -> Least
+    ensures { λ r. ⌜ r ≡ nextLeast least square number ⌝ }
+{
+    Least {
+        first: lesser(least.first, square),
+        second: lesser(least.second, greater(least.first, square)),
+        number: nearer_number(least, square, number),
+    }
+}
+
+// The two least squares of a list's points.
+fn two_least(points: &[f32], spot: Point3f, order: &[u32]) -> Least
+    requires { ⌜ Known (now points) (now order) ⌝ }
+    requires { ⌜ Few (now points) spot (now order) ⌝ }
+    ensures { λ r. ⌜ TwoLeast (squareTo (now (points .entry)) spot) (now (order .entry)) r ⌝ }
+{
+    let mut least = Least {
+        first: 3.4028235e38,
+        second: 3.4028235e38,
+        number: 0,
+    };
+    let mut i: usize = 0;
+    while i < order.len() {
+        let number = order[i];
+        let p = points::point_at(points, number as usize);
+        let square = vector::distance_squared(p, spot);
+        least = next_least(least, square, number);
+        i += 1;
+    }
+    least
+}
+
+// The same as `scan`. Where the least square is clearly below all others it settles who is nearest.
+fn scan_leaf(points: &[f32], spot: Point3f, order: &[u32], best: Best) -> Best
+    requires { ⌜ Limited best × Length (root (best .square)) ⌝ }
+    requires { ⌜ Known (now points) (now order) × Few (now points) spot (now order) ⌝ }
+    ensures { λ r. ⌜ Keeps r (scanned (lengthTo (now (points .entry)) spot) (now (order .entry)) (nearOf best)) ⌝ }
+{
+    let least = two_least(points, spot, order);
+    let first = least.first;
+    if best.limit < first {
+        return best;
+    }
+    let limit = limit_of(first);
+    if limit < least.second {
+        if limit < best.square {
+            return Best {
+                square: first,
+                number: least.number,
+                limit: limit,
+            };
+        }
+    }
+    scan(points, spot, order, best)
+}
+
+// How far v is from the nearest number between lo and hi, below zero where it is less.
 fn gap(v: f32, lo: f32, hi: f32) -> f32
     ensures { λ r. ⌜ r ≡ gap v lo hi ⌝ }
 {
-    greater(greater(lo - v, v - hi), 0.0)
+    v - lesser(greater(lo, v), hi)
 }
 
 // The coordinate whose bits a word has.
@@ -166,13 +250,13 @@ pub fn search(
     let spot = Point3f { x, y, z };
     let n = order.len();
     if n <= 8 {
-        return scan(points, spot, order, best);
+        return scan_leaf(points, spot, order, best);
     }
     let half = n / 2;
     let wide = width / 2;
     let first = at + 6;
-    let next = first + 6 * boxes_below(wide, half);
     let a = reach(words, first, spot);
+    let next = first + 6 * boxes_below(wide, half);
     let b = reach(words, next, spot);
     if b < a {
         let near = search(points, x, y, z, words, next, wide, b, &order[half..], best);

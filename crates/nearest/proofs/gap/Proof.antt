@@ -5,15 +5,16 @@ use Rattle.nearest.proofs.gap.Tie as tie
 use Rattle.nearest.proofs.gap.Reads as reads
 use Rattle.nearest.proofs.gap.Lts as lts
 use Rattle.nearest.proofs.greater.Reads as greater-reads
+use Rattle.nearest.proofs.lesser.Reads as lesser-reads
 
 greater-requires : tie.Need-greater-requires
 greater-requires c κs = search needs
 
-greater-requires-2 : tie.Need-greater-requires-2
-greater-requires-2 c κs = search needs
+lesser-requires : tie.Need-lesser-requires
+lesser-requires c κs = search needs
 
 returns : tie.Need-returns
-returns c = gap-of (c .before .before .args .v) (c .before .before .args .lo) (c .before .before .args .hi) (c .before .greater .ensures) (c .greater2 .ensures)
+returns c = gap-of (c .before .before .args .v) (c .before .before .args .lo) (c .before .before .args .hi) (c .before .greater .ensures) (c .lesser .ensures)
 
 pub gap-spec : {M : Type 1} → statement M
-gap-spec = tie.close (tie.spec greater-requires greater-requires-2 returns)
+gap-spec = tie.close (tie.spec greater-requires lesser-requires returns)
