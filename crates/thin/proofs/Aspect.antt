@@ -116,6 +116,24 @@ passed-less h p = record {
   near = near-trans (near-le (mul-le-mul-right (2 ^ 149 * 2 ^ 149 * 2 ^ 149) (mul-le-mul h h))) (p .near);
 }
 
+-- of longer edges
+pub passed-longer : {A B C D E F X t : ℕ} → A ≤ D → B ≤ E → C ≤ F → Passed A B C X t → Passed D E F X t
+passed-longer {A} {B} {C} {D} {E} {F} {X} {t} d e f p = record {
+  l = p .l;
+  m = p .m;
+  n = p .n;
+  l-first = omega (arith, p .l-first, d);
+  l-second = omega (arith, p .l-second, e);
+  m-first = omega (arith, p .m-first, e);
+  m-second = omega (arith, p .m-second, f);
+  n-first = omega (arith, p .n-first, f);
+  n-second = omega (arith, p .n-second, d);
+  near = near-trans (p .near) (near-le (mul-le-mul (mul-le-mul (le-refl t) (sums (p .l + p .m + p .n))) (mul-le-mul (mul-le-mul d e) f)));
+}
+  where
+    sums : (k : ℕ) → A + B + C + 2 * k ≤ D + E + F + 2 * k
+    sums k = omega (arith, d, e, f)
+
 -- in another order
 pub passed-turned : {A B C X t : ℕ} → Passed A B C X t → Passed B C A X t
 passed-turned {A} {B} {C} {X} {t} p = record {

@@ -1,4 +1,4 @@
--- The limit is one (`limit-is`, `no-limit`), and a triangle that passes the test is thin in each order of its lengths, and with every cross product that is no longer (`thin-up-to`). Assumes nothing.
+-- The limit is one (`limit-is`, `no-limit`), and a triangle that passes the test is thin in each order of its lengths, with every cross product that is no longer, and with longer edges (`thin-up-to`). Assumes nothing.
 use mathlib.Core.Logic.{inl, inr}
 use mathlib.Core.Path.{_≡_, refl, sym, ap, subst}
 use Prim.Native.Nat.{ℕ, zero, suc, _+_, _*_, _^_, _≤_, _<_}
@@ -9,21 +9,21 @@ use mathlib.Core.Bool.{Bool, true, false, not}
 use lib.Dec.{T, leb→le}
 use lib.Pow.{pow-pos}
 use lib.Ieee.{Float, nan, inf, fin, binary32, up, down, neg, mul, lt, le, fits, isNan, ofBits}
-use lib.Ieee.Fits.{and-l, and-r}
+use lib.Ieee.Fits.{and-i, and-l, and-r}
 use lib.Ieee.Order.{le-of-values}
 use lib.Ieee.Positive.{num, den, value→cross}
 use Rattle.numbers.specs.Rounded.{f32, _⊗_}
 use Rattle.numbers.specs.Root.{root}
-use Rattle.numbers.proofs.OrderLaws.{le-left, lt-le, le-or-lt, le-not-lt, not-lt-le, le-trans, unsigned-le}
+use Rattle.numbers.proofs.OrderLaws.{le-left, le-refl, lt-le, le-or-lt, le-not-lt, not-lt-le, le-trans, unsigned-le}
 use Rattle.quality.specs.Measures.{half, one, tiny}
 use Rattle.area_bounds.specs.AreaBound.{AreaLimit}
 use Rattle.area_bounds.proofs.AreaBound as area
-use Rattle.thin.specs.Thin.{between, isPlain, spread, Quartered, ThinLimit, Thin, AllThin, ThinUpTo}
+use Rattle.thin.specs.Thin.{between, isPlain, spread, Quartered, ThinLimit, Thin, AllThin, LongerThan, ThinUpTo}
 use Rattle.rounding_errors.proofs.Near.{Near, near-eq, near-trans, near-mul, near-add, near-self, near-more, near-times, near-cancel, near-within}
 use Rattle.rounding_errors.proofs.Rounding.{Units}
 use Rattle.rounding_errors.proofs.Operations.{between-units, units-le, minimum-units, mul-units, add-units}
 use Rattle.thin.proofs.Squares.{test-near}
-use Rattle.thin.proofs.Aspect.{two-units, four-units, bound-units, times-below, Passed, passed-less, passed-turned, passed-swapped, Edge, Cross, aspect-below, flat-below, none-below}
+use Rattle.thin.proofs.Aspect.{two-units, four-units, bound-units, times-below, Passed, passed-less, passed-longer, passed-turned, passed-swapped, Edge, Cross, aspect-below, flat-below, none-below}
 
 -- ---- the limit
 
@@ -209,33 +209,55 @@ thin-of a b c y t ea eb ec f l h (measured ey g) = record {
       aspect-below a b c y t α ea eb ec ey (u .1) (passed-less g (h (u .0) (u .1))) k;
 }
 
-all-thin : (a b c x t : Float) → T (fits binary32 a) → T (fits binary32 b) → T (fits binary32 c) → T (fits binary32 x) → T (fits binary32 t) → T (le (f32 0x35800000) t) → T (isPlain a b c x)
-    → T (le (x ⊗ x) (t ⊗ spread a b c ⊗ (a ⊗ b ⊗ c))) → (y : Float) → T (fits binary32 y) → T (not (lt x y)) → AllThin t a b c y
-unfolding isPlain between ofBits
-all-thin a b c x t fa fb fc fx f l p h y fy g =
-    let p1 = and-r (between a (f32 0x32800000) (f32 0x4c800000)) _ p in
-    let p2 = and-r (between b (f32 0x32800000) (f32 0x4c800000)) _ p1 in
-    let px = and-r (between c (f32 0x32800000) (f32 0x4c800000)) _ p2 in
-    let ea = edge a fa (and-l (between a (f32 0x32800000) (f32 0x4c800000)) _ p) in
-    let eb = edge b fb (and-l (between b (f32 0x32800000) (f32 0x4c800000)) _ p1) in
-    let ec = edge c fc (and-l (between c (f32 0x32800000) (f32 0x4c800000)) _ p2) in
-    let hi = and-r (le (f32 0x21800000) x) (le x (f32 0x5d800000)) px in
-    let ux = between-units x (f32 0x21800000) (f32 0x5d800000) 89 209 fx (refl, refl) (refl, refl) (and-l (le (f32 0x21800000) x) (le x (f32 0x5d800000)) px) hi in
-    let abc : Passes t ea eb ec (ux .0) = λ q u. test-passed a b c x t ea eb ec (ux .1) u h in
-    let k = kind x y (ux .1) hi fy g in
-    record {
-      abc = thin-of a b c y t ea eb ec f l abc k;
-      acb = thin-of a c b y t ea ec eb f l (λ q u. passed-swapped (passed-turned (passed-turned (abc q u)))) k;
-      bac = thin-of b a c y t eb ea ec f l (λ q u. passed-swapped (abc q u)) k;
-      bca = thin-of b c a y t eb ec ea f l (λ q u. passed-turned (abc q u)) k;
-      cab = thin-of c a b y t ec ea eb f l (λ q u. passed-turned (passed-turned (abc q u))) k;
-      cba = thin-of c b a y t ec eb ea f l (λ q u. passed-swapped (passed-turned (abc q u))) k;
-    }
+-- a longer edge is in the range too
+longer-edge : (a u : Float) → T (le (f32 0x32800000) a) → LongerThan a u → Edge u
+unfolding between
+longer-edge a u l g = edge u (g .held) (and-i (le (f32 0x32800000) u) (le u (f32 0x4c800000)) (le-trans (f32 0x32800000) a u l (g .above)) (g .high))
 
-pub thin-up-to : (a b c x t : Float) → T (fits binary32 a) → T (fits binary32 b) → T (fits binary32 c) → T (fits binary32 x) → T (fits binary32 t) → T (le (f32 0x35800000) t) → T (isPlain a b c x)
-    → T (le (x ⊗ x) (t ⊗ spread a b c ⊗ (a ⊗ b ⊗ c))) → ThinUpTo t a b c x
-thin-up-to a b c x t fa fb fc fx f l p h = let k = all-thin a b c x t fa fb fc fx f l p h in record { own = k x fx (self (lt x x) refl); less = k }
-  where
-    self : (v : Bool) → lt x x ≡ v → T (not v)
-    self true e = let g : T (lt x x) = rw e tt in absurd (le-not-lt x x (lt-le x x g) g)
-    self false e = tt
+longer-units : {a u : Float} (e : Edge a) (d : Edge u) → LongerThan a u → e .n ≤ d .n
+longer-units e d g = units-le (e .is) (d .is) (g .above)
+
+module _ (a b c x t : Float) (fa : T (fits binary32 a)) (fb : T (fits binary32 b)) (fc : T (fits binary32 c)) (fx : T (fits binary32 x)) (f : T (fits binary32 t)) (l : T (le (f32 0x35800000) t)) (p : T (isPlain a b c x))
+    (h : T (le (x ⊗ x) (t ⊗ spread a b c ⊗ (a ⊗ b ⊗ c)))) where
+  in-range : T (between a (f32 0x32800000) (f32 0x4c800000)) × T (between b (f32 0x32800000) (f32 0x4c800000)) × T (between c (f32 0x32800000) (f32 0x4c800000)) × T (between x (f32 0x21800000) (f32 0x5d800000))
+  unfolding isPlain
+  in-range =
+      let p1 = and-r (between a (f32 0x32800000) (f32 0x4c800000)) _ p in
+      let p2 = and-r (between b (f32 0x32800000) (f32 0x4c800000)) _ p1 in
+      (and-l (between a (f32 0x32800000) (f32 0x4c800000)) _ p, and-l (between b (f32 0x32800000) (f32 0x4c800000)) _ p1, and-l (between c (f32 0x32800000) (f32 0x4c800000)) _ p2, and-r (between c (f32 0x32800000) (f32 0x4c800000)) _ p2)
+
+  all-thin : (u v w y : Float) → LongerThan a u → LongerThan b v → LongerThan c w → T (fits binary32 y) → T (not (lt x y)) → AllThin t u v w y
+  unfolding between ofBits
+  all-thin u v w y gu gv gw fy g =
+      let ea = edge a fa (in-range .0) in
+      let eb = edge b fb (in-range .1) in
+      let ec = edge c fc (in-range .2) in
+      let eu = longer-edge a u (and-l (le (f32 0x32800000) a) _ (in-range .0)) gu in
+      let ev = longer-edge b v (and-l (le (f32 0x32800000) b) _ (in-range .1)) gv in
+      let ew = longer-edge c w (and-l (le (f32 0x32800000) c) _ (in-range .2)) gw in
+      let hi = and-r (le (f32 0x21800000) x) (le x (f32 0x5d800000)) (in-range .3) in
+      let ux = between-units x (f32 0x21800000) (f32 0x5d800000) 89 209 fx (refl, refl) (refl, refl) (and-l (le (f32 0x21800000) x) (le x (f32 0x5d800000)) (in-range .3)) hi in
+      let uvw : Passes t eu ev ew (ux .0) = λ q z. passed-longer (longer-units ea eu gu) (longer-units eb ev gv) (longer-units ec ew gw) (test-passed a b c x t ea eb ec (ux .1) z h) in
+      let k = kind x y (ux .1) hi fy g in
+      record {
+        abc = thin-of u v w y t eu ev ew f l uvw k;
+        acb = thin-of u w v y t eu ew ev f l (λ q z. passed-swapped (passed-turned (passed-turned (uvw q z)))) k;
+        bac = thin-of v u w y t ev eu ew f l (λ q z. passed-swapped (uvw q z)) k;
+        bca = thin-of v w u y t ev ew eu f l (λ q z. passed-turned (uvw q z)) k;
+        cab = thin-of w u v y t ew eu ev f l (λ q z. passed-turned (passed-turned (uvw q z))) k;
+        cba = thin-of w v u y t ew ev eu f l (λ q z. passed-swapped (passed-turned (uvw q z))) k;
+      }
+
+  -- no longer than itself
+  own-length : (z : Float) → T (fits binary32 z) → T (between z (f32 0x32800000) (f32 0x4c800000)) → LongerThan z z
+  unfolding between
+  own-length z g r = let hi = and-r (le (f32 0x32800000) z) (le z (f32 0x4c800000)) r in record { held = g; above = le-refl z (le-left z (f32 0x4c800000) hi); high = hi }
+
+  pub thin-up-to : ThinUpTo t a b c x
+  thin-up-to =
+      let k : (y : Float) → T (fits binary32 y) → T (not (lt x y)) → AllThin t a b c y = λ y. all-thin a b c y (own-length a fa (in-range .0)) (own-length b fb (in-range .1)) (own-length c fc (in-range .2)) in
+      record { own = k x fx (self (lt x x) refl); less = k; longer = all-thin }
+    where
+      self : (v : Bool) → lt x x ≡ v → T (not v)
+      self true e = let g : T (lt x x) = rw e tt in absurd (le-not-lt x x (lt-le x x g) g)
+      self false e = tt

@@ -51,7 +51,15 @@ pub record AllThin (limit a b c cross : Float) : Type 0 where
   pub cab : Thin limit c a b cross
   pub cba : Thin limit c b a cross
 
--- the same, and with any other cross product whose square is not above that
+-- an f32 that is the square of a length up to 2 ^ 13, and not below a
+pub record LongerThan (a u : Float) : Type 0 where
+  pub held : T (fits binary32 u)
+  pub above : T (le a u)
+  pub high : T (le u (f32 0x4c800000))
+
+-- the same, and with any other cross product whose square is not above that, also with longer edges
 pub record ThinUpTo (limit a b c cross : Float) : Type 0 where
   pub own : AllThin limit a b c cross
   pub less : (x : Float) → T (fits binary32 x) → T (not (lt cross x)) → AllThin limit a b c x
+  pub longer : (u v w x : Float) → LongerThan a u → LongerThan b v → LongerThan c w
+      → T (fits binary32 x) → T (not (lt cross x)) → AllThin limit u v w x
