@@ -1,12 +1,13 @@
 -- What is known of all triangles with a point in each of three boxes. Definitions only.
 use lib.Dec.{T}
-use lib.Ieee.{le}
+use lib.Ieee.{Float, binary32, le, fits}
 use Rattle.vector.specs.Vector.{Finite}
 use Rattle.vector.specs.declared.Point3f.{Point3f}
 use Rattle.bounds.specs.declared.Bounds.{Bounds}
 use Rattle.bounds.specs.declared.Interval.{Interval}
 use Rattle.bounds.specs.Within.{within}
 use Rattle.area_bounds.specs.AreaBound.{crossSquared}
+use Rattle.thin.specs.Thin.{AllThin}
 use Rattle.intervals.specs.Enclosed.{Holds, differencesOf, ModerateBox, Magnitudes}
 use Rattle.filters.specs.declared.Limits.{Limits}
 use Rattle.filters.specs.Refused.{RefusedThroughout}
@@ -33,10 +34,16 @@ pub record AreasOf (p q t : Bounds) (r : Interval) : Type 0 where
       → (a b c : Point3f) → Points p q t a b c
       → Holds r (crossSquared a b c) × Holds r (crossSquared b a c) × Holds r (crossSquared c a b)
 
--- limits refuse all triangles with such squares: with an area that is too small or too large
+-- all triangles with such squares are too thin for a limit, with areas whose square is up to x
+pub record ThinBy (limit : Float) (e : Edges) (x : Float) : Type 0 where
+  pub all : (a b c y : Float) → T (fits binary32 a) → T (fits binary32 b) → T (fits binary32 c) → T (fits binary32 y)
+      → Holds (e .pq) a → Holds (e .pt) b → Holds (e .qt) c → T (le y x) → AllThin limit a b c y
+
+-- limits refuse all triangles with such squares: with an area that is too small or too large, or by being too thin
 pub data RefusedBy (l : Limits) (e : Edges) (a : Interval) : Type 0 where
   small-areas : T (le (a .hi) (l .small)) → RefusedBy l e a
   large-areas : T (le (l .large) (a .lo)) → RefusedBy l e a
+  thin-edges : ThinBy (l .thin) e (a .hi) → RefusedBy l e a
 
 -- limits refuse the triangles of p with a point of q and one of t, whichever of them comes first
 pub record RefusedWithin (l : Limits) (p : Point3f) (q t : Bounds) : Type 0 where

@@ -7,7 +7,7 @@ use vector::Point3f;
 ghost use mathlib.Core.Path.{_≡_};
 ghost use mathlib.Core.Bool.{true};
 ghost use Rattle.intervals.specs.Enclosed.{differencesOf, CrossSquares};
-ghost use Rattle.box_filters.specs.RefusedWithin.{EdgesOf, AreasOf, RefusedBy, RefusedWithin};
+ghost use Rattle.box_filters.specs.RefusedWithin.{EdgesOf, AreasOf, ThinBy, RefusedBy, RefusedWithin};
 
 // The squares of the lengths of three edges: of those between points of p and q, of p and t, and of q and t.
 pub struct Edges {
@@ -42,6 +42,18 @@ pub fn areas_of(p: Bounds, q: Bounds, t: Bounds, x: Interval) -> Interval
     intervals::joined(x, intervals::joined(y, z))
 }
 
+// Whether all triangles with such edges and areas are too thin: the longer the edges and the less the area, the
+// thinner they are.
+fn are_thin(e: Edges, area: f32, limit: f32) -> bool
+    ensures { λ r. ⌜ (r ≡ true → ThinBy limit e area) ⌝ }
+{
+    if !filters::are_at_most(e.pq.hi, e.pt.hi, e.qt.hi, 67108864.0) {
+        return false;
+    }
+    let most = numbers::max(area, 0.00000000000000000086736174);
+    thin::is_thin(e.pq.lo, e.pt.lo, e.qt.lo, most, limit)
+}
+
 // Whether limits refuse all triangles with such edges and areas.
 fn refuses(l: Limits, e: Edges, area: Interval) -> bool
     ensures { λ r. ⌜ (r ≡ true → RefusedBy l e area) ⌝ }
@@ -49,7 +61,10 @@ fn refuses(l: Limits, e: Edges, area: Interval) -> bool
     if area.hi <= l.small {
         return true;
     }
-    area.lo >= l.large
+    if area.lo >= l.large {
+        return true;
+    }
+    are_thin(e, area.hi, l.thin)
 }
 
 // Whether the limits refuse every triangle of p, a point of q and a point of t, whichever of them comes first. The

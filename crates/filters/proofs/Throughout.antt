@@ -12,13 +12,13 @@ use Rattle.vector.specs.declared.Point3f.{Point3f}
 use Rattle.vector.proofs.Distances.{squared-turned}
 use Rattle.area_bounds.specs.AreaBound.{crossSquared}
 use Rattle.area_bounds.proofs.AreaBound.{magnitude-fits}
-use Rattle.thin.specs.Thin.{ThinUpTo}
+use Rattle.thin.specs.Thin.{AllThin, ThinUpTo}
 use Rattle.filters.specs.declared.Limits.{Limits}
 use Rattle.filters.specs.Refused.{small, large, thin, RefusedThroughout, each}
 
 -- ---- the largest of three is below none of them, not-a-numbers among them
 
-not-below : (x y : Float) → (T (not (isNan y)) → T (le y x)) → T (not (lt x y))
+pub not-below : (x y : Float) → (T (not (isNan y)) → T (le y x)) → T (not (lt x y))
 not-below x y h = go (lt x y) refl
   where
     go : (b : Bool) → lt x y ≡ b → T (not b)
@@ -37,9 +37,17 @@ module _ (a b c : Float) where
 
 -- ---- the ways of refusing
 
-cross-fits : (p q t : Point3f) → T (fits binary32 (crossSquared p q t))
+pub cross-fits : (p q t : Point3f) → T (fits binary32 (crossSquared p q t))
 unfolding crossSquared
 cross-fits p q t = magnitude-fits (cross (difference q p) (difference t p))
+
+-- too thin with each area
+pub each-thin : {l : Limits} {p q t : Point3f} → AllThin (l .thin) (squared p q) (squared p t) (squared q t) (crossSquared p q t) → AllThin (l .thin) (squared p q) (squared p t) (squared q t) (crossSquared q p t)
+    → AllThin (l .thin) (squared p q) (squared p t) (squared q t) (crossSquared t p q) → RefusedThroughout l p q t
+each-thin {p = p} {q = q} {t = t} i j k =
+    each (thin i)
+    (thin (rw (squared-turned q p) (record { abc = j .acb; acb = j .abc; bac = j .cab; bca = j .cba; cab = j .bac; cba = j .bca })))
+    (thin (rw (squared-turned t p, squared-turned t q) (record { abc = k .bca; acb = k .bac; bac = k .cba; bca = k .cab; cab = k .abc; cba = k .acb })))
 
 module _ {l : Limits} {p q t : Point3f} {a b c : Float} (ea : a ≡ crossSquared p q t) (eb : b ≡ crossSquared q p t) (ec : c ≡ crossSquared t p q) where
   pub small-throughout : T (le a (l .small) && (le b (l .small) && le c (l .small))) → RefusedThroughout l p q t
@@ -54,9 +62,6 @@ module _ {l : Limits} {p q t : Point3f} {a b c : Float} (ea : a ≡ crossSquared
 
   pub thin-throughout : {x y z m : Float} → x ≡ squared p q → y ≡ squared p t → z ≡ squared q t → m ≡ maximum (maximum a b) c → ThinUpTo (l .thin) x y z m → RefusedThroughout l p q t
   thin-throughout {x} {y} {z} {m} ex ey ez em h =
-      let i = h .less (crossSquared p q t) (cross-fits p q t) (rw (em, ← ea) (largest-first a b c)) in
-      let j = h .less (crossSquared q p t) (cross-fits q p t) (rw (em, ← eb) (largest-second a b c)) in
-      let k = h .less (crossSquared t p q) (cross-fits t p q) (rw (em, ← ec) (largest-third a b c)) in
-      each (thin (rw (← ex, ← ey, ← ez) i))
-      (thin (rw (squared-turned q p, ← ex, ← ey, ← ez) (record { abc = j .acb; acb = j .abc; bac = j .cab; bca = j .cba; cab = j .bac; cba = j .bca })))
-      (thin (rw (squared-turned t p, squared-turned t q, ← ex, ← ey, ← ez) (record { abc = k .bca; acb = k .bac; bac = k .cba; bca = k .cab; cab = k .abc; cba = k .acb })))
+      each-thin (rw (← ex, ← ey, ← ez) (h .less (crossSquared p q t) (cross-fits p q t) (rw (em, ← ea) (largest-first a b c))))
+      (rw (← ex, ← ey, ← ez) (h .less (crossSquared q p t) (cross-fits q p t) (rw (em, ← eb) (largest-second a b c))))
+      (rw (← ex, ← ey, ← ez) (h .less (crossSquared t p q) (cross-fits t p q) (rw (em, ← ec) (largest-third a b c))))
