@@ -1,4 +1,4 @@
--- What passes the test has a cosine of at least every bound that the limit is for (`narrow-is`), and the angle is the arc cosine of that cosine (`angle-is`). Assumes nothing.
+-- What passes the test has a cosine of at least every bound that the limit is for (`narrow-is`). Assumes nothing.
 use mathlib.Core.Path.{_≡_, refl, sym, ap, _∙_, subst}
 use mathlib.Core.Logic.{_⊎_, inl, inr}
 use Prim.Native.Nat.{ℕ, _+_, _*_, _^_, _≤_, _<_}
@@ -8,33 +8,26 @@ use native.Mathlib.Bridge.{IsLe, le-by-compare}
 use mathlib.Core.Bool.{Bool, true, false, _||_, cond}
 use lib.Dec.{T}
 use lib.Pow.{pow-pos}
-use lib.Ieee.{Float, binary32, neg, le, fits, ofBits}
+use lib.Ieee.{Float, binary32, le, fits, ofBits}
 use lib.Ieee.Fits.{and-i, and-l, and-r}
 use lib.Ieee.Scale.{finite}
 use lib.Ieee.Positive.{positive-finite}
 use Rattle.numbers.specs.Rounded.{f32, _⊖_, _⊗_}
 use Rattle.numbers.specs.Root.{root}
-use Rattle.numbers.specs.Order.{clamp}
-use Rattle.numbers.specs.Acos.{acos}
 use Rattle.numbers.proofs.OrderLaws as order
 use Rattle.vector.specs.Vector.{difference, cross, squared}
 use Rattle.vector.specs.declared.Point3f.{Point3f}
 use Rattle.vector.proofs.Distances.{squared-turned, magnitude-nonnegative}
-use Rattle.quality.specs.Measures.{one, angle}
 use Rattle.area_bounds.specs.AreaBound.{crossSquared}
 use Rattle.rounding_errors.proofs.Near.{Near, near-le, near-eq, near-trans, near-mul, near-times, near-cancel, near-within}
 use Rattle.rounding_errors.proofs.Rounding.{Units, units-positive}
 use Rattle.rounding_errors.proofs.Operations.{units-le, mul-units}
 use Rattle.rounding_errors.proofs.Signed.{units-order}
-use Rattle.cosines.specs.Cosine.{cosineOf, isPlain, arePlain, isNear, limitAt, isShort, isSmall, Margin, NarrowLimit, Coordinates, interval, AtLeast, Narrow}
+use Rattle.cosines.specs.Cosine.{isPlain, arePlain, isNear, limitAt, isShort, isSmall, Margin, NarrowLimit, Coordinates, interval, AtLeast, Narrow}
 use Rattle.cosines.proofs.Points.{Square, plain-units, finite-between, Exactly, exact-of}
 use Rattle.cosines.proofs.Chain.{cross-small, edge-below, edges-sum, third-below}
 use Rattle.cosines.proofs.Lengths.{Flat, flat-swapped, cosine-above}
 use Rattle.cosines.proofs.Limit.{limit-units, wide-limit}
-
-pub angle-is : (a b c : Float) → angle a b c ≡ acos (clamp (cosineOf a b c) (neg one) one)
-unfolding angle cosineOf
-angle-is a b c = refl
 
 -- ---- the test's products over whole numbers
 
@@ -263,6 +256,6 @@ narrow-is al ah cl ch bl bh cr limit fa fc plain short small = record {
       let ea = squared-turned p q in
       let ec = squared-turned p t in
       subst (λ (x : Float). AtLeast κ (root (squared q t)) (root x) (root (squared p t))) (sym ea) (subst (λ (x : Float). AtLeast κ (root (squared q t)) (root (squared q p)) (root x)) (sym ec)
-      (narrow-at κ cr al ah cl ch bl bh fa fc plain short p q t P Q R (subst (λ (x : Float). T (le al x)) ea (ia .above)) (subst (λ (x : Float). T (le x ah)) ea (ia .below))
-      (subst (λ (x : Float). T (le cl x)) ec (ic .above)) (subst (λ (x : Float). T (le x ch)) ec (ic .below)) (ib .above) (ib .below) h limit N small));
+      (narrow-at κ cr al ah cl ch bl bh fa fc plain short p q t P Q R (subst (λ (x : Float). T (le al x)) ea (ia .least)) (subst (λ (x : Float). T (le x ah)) ea (ia .most))
+      (subst (λ (x : Float). T (le cl x)) ec (ic .least)) (subst (λ (x : Float). T (le x ch)) ec (ic .most)) (ib .least) (ib .most) h limit N small));
 }

@@ -5,16 +5,14 @@ use mathlib.Core.Bool.{Bool, false, _&&_, _||_, cond}
 use lib.Dec.{T}
 use lib.Ieee.{Float, binary32, le, fits}
 use lib.Ieee.Exact.{HasValue}
-use Rattle.numbers.specs.Rounded.{f32, _⊕_, _⊖_, _⊗_, _⊘_}
+use Rattle.numbers.specs.Rounded.{f32, _⊖_, _⊗_}
 use Rattle.numbers.specs.Root.{root}
 use Rattle.vector.specs.Vector.{squared}
 use Rattle.vector.specs.declared.Point3f.{Point3f}
 use Rattle.bounds.specs.declared.Interval.{Interval}
+use Rattle.intervals.specs.Enclosed.{Holds}
 use Rattle.area_bounds.specs.AreaBound.{crossSquared}
-
--- the cosine of the angle opposite to the edge a, by the law of cosines
-unfoldable pub cosineOf : Float → Float → Float → Float
-cosineOf a b c = (b ⊗ b ⊕ c ⊗ c ⊖ a ⊗ a) ⊘ (f32 0x40000000 ⊗ b ⊗ c)
+use Rattle.slivers.specs.Slivers.{cosineOf}
 
 -- ---- the test; al and ah, cl and ch, bl and bh are the ends of the squares of P Q, P T and Q T
 
@@ -68,10 +66,6 @@ pub record Coordinates (p : Point3f) : Type 0 where
 abbrev pub interval : Float → Float → Interval
 interval lo hi = record { lo = lo; hi = hi }
 
-pub record Between (i : Interval) (x : Float) : Type 0 where
-  pub above : T (le (i .lo) x)
-  pub below : T (le x (i .hi))
-
 -- the cosine opposite to a is at least κ, in both orders of the other two
 pub record AtLeast (κ a b c : Float) : Type 0 where
   pub first : T (le κ (cosineOf a b c))
@@ -81,5 +75,5 @@ pub record AtLeast (κ a b c : Float) : Type 0 where
 -- the cosine at P is at least every bound that the limit is for
 pub record Narrow (limit : Float) (a c b : Interval) (cross : Float) : Type 0 where
   pub cosine : (κ : Float) → NarrowLimit κ limit → (p q t : Point3f) → Coordinates p → Coordinates q → Coordinates t
-      → Between a (squared p q) → Between c (squared p t) → Between b (squared q t)
+      → Holds a (squared p q) → Holds c (squared p t) → Holds b (squared q t)
       → T (le (crossSquared p q t) cross) → AtLeast κ (root (squared q t)) (root (squared p q)) (root (squared p t))
