@@ -1,5 +1,5 @@
 -- The area of a triangle is at most `areaBound` of what bounds two of its edges (`area-bounded`), below what `AreaLimit` says (`area-limited`), and too long for its edges where `LargeLimit` says so (`area-too-long`). Assumes nothing.
-use mathlib.Core.Path.{_≡_, ap, _∙_}
+use mathlib.Core.Path.{_≡_, refl, ap, _∙_}
 use mathlib.Core.Bool.{true, false, not}
 use lib.Dec.{T}
 use lib.Ieee.{Float, nan, inf, fin, binary32, neg, mul, lt, le, fits, isNan, ofBits}
@@ -146,6 +146,14 @@ area-limited p1 p2 p3 m t l h =
 pub area-too-long : (p1 p2 p3 : Point3f) (r factor t : Float) → LargeLimit r factor t → T (le t (crossSquared p1 p2 p3)) → TooLong r (area p1 p2 p3) factor
 unfolding area magnitude crossSquared
 area-too-long p1 p2 p3 r factor t l h = let x = cross (difference p2 p1) (difference p3 p1) in l .long (magnitudeSquared x) (magnitude-fits x) h
+
+pub area-is : (p1 p2 p3 : Point3f) → area p1 p2 p3 ≡ root (crossSquared p1 p2 p3) ⊗ half
+unfolding area magnitude crossSquared
+area-is p1 p2 p3 = refl
+
+pub cross-fits : (p1 p2 p3 : Point3f) → T (fits binary32 (crossSquared p1 p2 p3))
+unfolding crossSquared
+cross-fits p1 p2 p3 = magnitude-fits (cross (difference p2 p1) (difference p3 p1))
 
 -- the points after the first in the other order
 pub cross-squared-turned : (p1 p2 p3 : Point3f) → crossSquared p1 p2 p3 ≡ crossSquared p1 p3 p2

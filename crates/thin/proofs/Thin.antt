@@ -14,7 +14,7 @@ use lib.Ieee.Order.{le-of-values}
 use lib.Ieee.Positive.{num, den, value→cross}
 use Rattle.numbers.specs.Rounded.{f32, _⊗_}
 use Rattle.numbers.specs.Root.{root}
-use Rattle.numbers.proofs.OrderLaws.{le-left, le-refl, lt-le, le-or-lt, le-not-lt, not-lt-le, le-trans, unsigned-le}
+use Rattle.numbers.proofs.OrderLaws.{le-left, le-right, le-refl, lt-le, le-or-lt, le-not-lt, not-lt-le, le-trans, unsigned-le}
 use Rattle.quality.specs.Measures.{half, one, tiny}
 use Rattle.area_bounds.specs.AreaBound.{AreaLimit}
 use Rattle.area_bounds.proofs.AreaBound as area
@@ -91,6 +91,14 @@ no-limit α = record { quartered = λ h. absurd (none h) }
     none h = unfold le neg ofBits in h
 
 -- ---- the test
+
+-- what is at most x, or not a number, is not above x
+pub not-below : (x y : Float) → (T (not (isNan y)) → T (le y x)) → T (not (lt x y))
+not-below x y h = go (lt x y) refl
+  where
+    go : (b : Bool) → lt x y ≡ b → T (not b)
+    go true e = let k : T (lt x y) = rw e tt in absurd (le-not-lt y x (h (le-right x y (lt-le x y k))) k)
+    go false e = tt
 
 edge : (x : Float) → T (fits binary32 x) → T (between x (f32 0x32800000) (f32 0x4c800000)) → Edge x
 unfolding between ofBits
@@ -256,8 +264,4 @@ module _ (a b c x t : Float) (fa : T (fits binary32 a)) (fb : T (fits binary32 b
   pub thin-up-to : ThinUpTo t a b c x
   thin-up-to =
       let k : (y : Float) → T (fits binary32 y) → T (not (lt x y)) → AllThin t a b c y = λ y. all-thin a b c y (own-length a fa (in-range .0)) (own-length b fb (in-range .1)) (own-length c fc (in-range .2)) in
-      record { own = k x fx (self (lt x x) refl); less = k; longer = all-thin }
-    where
-      self : (v : Bool) → lt x x ≡ v → T (not v)
-      self true e = let g : T (lt x x) = rw e tt in absurd (le-not-lt x x (lt-le x x g) g)
-      self false e = tt
+      record { own = k x fx (not-below x x (le-refl x)); less = k; longer = all-thin }
