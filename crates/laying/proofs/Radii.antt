@@ -134,13 +134,6 @@ module _ {s : Scene} {hash : Hash} {pts : List Float} (rule : ℕ) (r : Float) {
           length-same = lays .length-same ∙ only .length-same ∙ same ∙ long;
         }
 
--- where it is known that there is no seed none is found
-pub known-seedless : {found : Seed} {o : Option (ℕ × ℕ × ℕ)} {i j k : ℕ} → found ≡ seedFound o → o ≡ none → found ≡ Triangle i j k → ⊥
-known-seedless {i = i} {j = j} {k = k} e n f =
-    let g : Triangle i j k ≡ Nothing = sym f ∙ e ∙ ap seedFound n in
-    let z : _≡_ {A = ℕ} 0 1 = cc in
-    omega arith
-
 -- ---- all radii
 layAll-more : {R : Type 0} (rules : Rules R) (order : Pop) (n : ℕ) (rs : List R) (r : R) (t : State) → layAll rules order n (rs ++ (r ∷ [])) t ≡ layOne rules order n r (layAll rules order n rs t)
 unfolding layAll
@@ -177,21 +170,6 @@ module _ {rule : ℕ} {s : Scene} {hash : Hash} {pts radii : List Float} {count 
       state = layAll (rulesOf s pts) (popOf rule) (s .n) (take i radii) (blank (s .n));
       rest = at-rest;
       holds = so-far .holds;
-    }
-
-    no-more : c .first + c .frontier ≤ 3 * s .n
-    no-more =
-        let h = so-far .holds in
-        omega (arith, h .frontier-count, h .first-most, h .looks, ap length (at-rest .idle), room (s .n) _ (at-rest .inv) .looks)
-
-    -- after a search
-    pub cover-kept : (v : List ℕ) → Kept s w v → length v ≡ length w → Covering rule s hash pts radii count lent w₀ i c v slice
-    cover-kept v k l = record {
-      inside = so-far .inside;
-      searchable = searchable-searched v (so-far .searchable) k l;
-      holds = holds-beside (beside-search v k l) no-more (so-far .holds);
-      words = l ∙ so-far .words;
-      face-words = so-far .face-words;
     }
 
     pub cover-step : (d : Float) {after : Counts} {v back : List ℕ} → i < count → i < length radii → Lays s hash pts (Rest (s .n)) (layOne (rulesOf s pts) (popOf rule) (s .n) (getD radii i d)) c w slice after v back → length back ≡ length slice

@@ -3,6 +3,7 @@ use decisions::Scene;
 use frontier::Counts;
 use pivot::Pivot;
 use seed::Seed;
+use seed::Told;
 use spatial_hash::Hash;
 ghost use mathlib.Core.Path.{_≡_};
 ghost use mathlib.Core.Bool.{true};
@@ -15,6 +16,7 @@ ghost use Rattle.patch.specs.Invariant.{Inv, Rest};
 ghost use mathlib.Core.Option.{none};
 ghost use Rattle.nearby.specs.Ready.{usedIn};
 ghost use Rattle.frontier.specs.Work.{Holds};
+ghost use Rattle.known_radii.specs.Known.{NothingTo};
 ghost use Rattle.laying.specs.Laying.{AllSearchable, Searchable, rulesOf, pivotOver, looked, Lays, Opened};
 ghost use Rattle.laying.specs.Laying.{Pivoting, BetweenLooks, BetweenRadii, Without};
 ghost use Rattle.spatial_hash.specs.Near.{Linked};
@@ -95,10 +97,10 @@ fn remove_three(points: &[f32], w: &mut [u32], n: usize, hash: Hash, i: usize, j
     spatial_hash::remove(points, w, n, hash, k);
 }
 
-// The counts after a radius, and what a search in vain has left to pay with.
+// The counts after a radius, and a radius up to which none has a seed any more.
 pub struct Laid {
     pub counts: Counts,
-    pub purse: usize,
+    pub upto: f32,
 }
 
 // One radius: from its seed, if there is one.
@@ -108,19 +110,20 @@ fn lay_one(
     faces: &mut [u32],
     w: &mut [u32],
     before: Counts,
-    known: bool,
+    t: Told,
 ) -> Laid
     requires { ⌜ BetweenRadii (p .scene) (p .hash) (now points) before (now w) (now faces)
-        × (known ≡ true → rulesOf (p .scene) (now points) .seedOf (p .radius) (usedIn (p .scene) (now w)) ≡ none) ⌝ }
+        × (t .known ≡ true → rulesOf (p .scene) (now points) .seedOf (p .radius) (usedIn (p .scene) (now w)) ≡ none)
+        × NothingTo (p .scene) (now points) (usedIn (p .scene) (now w)) (t .upto) ⌝ }
     ensures { λ r. ⌜ Lays (p .scene) (p .hash) (now (points .entry)) (Rest (p .scene .n))
         (layOne (rulesOf (p .scene) (now (points .entry))) (popOf (p .rule)) (p .scene .n) (p .radius)) before
         (now (w .entry)) (now (faces .entry)) (r .counts) (now (w .exit)) (now (faces .exit))
-        × (known ≡ true → usedIn (p .scene) (now (w .exit)) ≡ usedIn (p .scene) (now (w .entry))) ⌝ }
+        × NothingTo (p .scene) (now (points .entry)) (usedIn (p .scene) (now (w .exit))) (r .upto) ⌝ }
 {
     let s = p.scene;
     let hash = p.hash;
     let c = frontier::clear(before);
-    let search = seed::find_seed_triangle(s, points, w, p.radius, hash, known);
+    let search = seed::find_seed_triangle(s, points, w, p.radius, hash, t);
     let seed = search.seed;
     match seed {
         Seed::Triangle(i, j, k) => {
@@ -129,12 +132,12 @@ fn lay_one(
             let last = run(p, points, faces, w, first);
             Laid {
                 counts: last,
-                purse: 0,
+                upto: 0.0 / 0.0,
             }
         }
         Seed::Nothing => Laid {
             counts: c,
-            purse: search.purse,
+            upto: search.upto,
         },
     }
 }
@@ -189,10 +192,15 @@ pub fn advanced_ball_pivoting(
             radius: radius,
             rule: rule,
         };
-        let laid = lay_one(pass, points, faces, w, c, known);
+        let told = Told {
+            known: known,
+            upto: upto,
+            largest: largest,
+        };
+        let laid = lay_one(pass, points, faces, w, c, told);
         c = laid.counts;
         marks[i] = c.faces;
-        upto = known_radii::known_to(s, points, w, radius, largest, hash, known, upto, laid.purse);
+        upto = laid.upto;
         i += 1;
     }
     Course {

@@ -1,6 +1,6 @@
--- What the passes tell the loop of `find_from`. Assumes nothing.
+-- What the passes and the largest radius tell the search for a seed. Assumes nothing.
 use Prim.Native.Nat.{ℕ, _+_, _≤_, _<_}
-use mathlib.Core.Path.{_≡_, sym, ap, _∙_, subst}
+use mathlib.Core.Path.{_≡_, refl, sym, ap, _∙_, subst}
 use mathlib.Core.Logic.{⊎-elim}
 use mathlib.Core.Bool.{Bool, true, false}
 use mathlib.Core.List.{List}
@@ -8,12 +8,15 @@ use mathlib.Core.Option.{none}
 use native.Mathlib.Omega.{arith}
 use lib.ListN.{take}
 use lib.Ieee.{Float}
-use Rattle.lists.specs.Lists.{unused}
-use Rattle.lists.proofs.Bools.{either}
+use Rattle.lists.specs.Lists.{unused, upFrom}
+use Rattle.lists.proofs.Bools.{either, true-not-false}
 use Rattle.spatial_hash.specs.declared.Hash.{Hash}
 use Rattle.decisions.specs.declared.Scene.{Scene}
 use Rattle.decisions.specs.Decisions.{floatsOf}
 use Rattle.nearby.specs.Ready.{Kept, usedIn}
+use Rattle.patch.specs.Search.{searching, firstOf}
+use Rattle.known_radii.specs.Known.{NothingTo, Known}
+use Rattle.known_radii.proofs.Larger.{known-nothing}
 use Rattle.seedless.specs.Parts.{withFirst}
 use Rattle.seedless.specs.Seedless.{SeedlessFrom, SeedlessBetween}
 use Rattle.seedless.proofs.Threes.{seedless-next, seedless-nothing}
@@ -34,3 +37,17 @@ pub seek-seedless : {s : Scene} {pts : List Float} {r : Float} {hash : Hash} {w�
     → withFirst (floatsOf s pts) r (usedIn s v) i ≡ none
 seek-seedless {s} {pts} {r} {w₀ = w₀} {i = i} k hi hl u b =
     ap (λ (l : List ℕ). withFirst (floatsOf s pts) r (take (s .n) l) i) (k .kept .after) ∙ seedless-nothing (usedIn s w₀) (unused-back {s = s} i (k .kept) u) hi hl b
+
+-- ---- the largest radius
+
+-- what is known of radii stays known while no point is used
+pub nothing-kept : {s : Scene} (pts : List Float) {w v : List ℕ} (upto : Float) → Kept s w v → NothingTo s pts (usedIn s w) upto → NothingTo s pts (usedIn s v) upto
+nothing-kept {s} pts upto k = subst (λ (u : List ℕ). NothingTo s pts u upto) (sym (ap (take (s .n)) (k .after)))
+
+pub nothing-back : {s : Scene} (pts : List Float) {w v : List ℕ} (upto : Float) → Kept s w v → NothingTo s pts (usedIn s v) upto → NothingTo s pts (usedIn s w) upto
+nothing-back {s} pts upto k = subst (λ (u : List ℕ). NothingTo s pts u upto) (ap (take (s .n)) (k .after))
+
+-- a radius up to which none has a seed is told while one of them is searched
+pub told-nothing : (s : Scene) (pts : List Float) {r : Float} (used : List ℕ) {upto : Float} → Known s false r upto → NothingTo s pts used upto → firstOf (floatsOf s pts) r used (upFrom 0 (s .n)) 1000 ≡ none
+unfolding searching
+told-nothing s pts used k n = known-nothing s pts used k (λ h. absurd (true-not-false h refl)) n

@@ -1,5 +1,4 @@
 // The search for a seed: three loops, over i, j and k.
-use crate::Search;
 use crate::Seed;
 use decisions::Scene;
 use filters::Limits;
@@ -15,6 +14,8 @@ ghost use Rattle.lists.specs.Lists.{upFrom};
 ghost use Rattle.decisions.specs.Decisions.{isClose, floatsOf};
 ghost use Rattle.filters.specs.Refused.{Limiting};
 ghost use Rattle.nearby.specs.Ready.{Held, Listed, usedIn, listed, Kept};
+ghost use Rattle.known_radii.specs.Known.{NothingTo};
+ghost use Rattle.seed.specs.declared.Seed.the-variants.{Nothing};
 ghost use Rattle.seedless.specs.Parts.{withSecond, withFirst};
 ghost use Rattle.seed.specs.Found.{seedFound, KnownFrom};
 ghost use Rattle.three_points.specs.Judged.{Judged};
@@ -169,36 +170,63 @@ fn known_from(lo: usize, i: usize, seedless: bool) -> usize
     i + 1
 }
 
+// What is found, what is left to pay with, and whether it is known that no radius up to the largest has a seed.
+pub struct Tried {
+    pub seed: Seed,
+    pub purse: usize,
+    pub told: bool,
+}
+
+// Nothing is found.
+fn nothing_more(purse: usize, told: bool) -> Tried
+    ensures { λ r. ⌜ (r .seed ≡ Nothing) × (r .told ≡ told) ⌝ }
+{
+    Tried {
+        seed: Seed::Nothing,
+        purse: purse,
+        told: told,
+    }
+}
+
 // The first seed; only the first 1,000 unused points are tried as i. No three points make a seed of which one is from
-// lo to i, whichever comes first.
-pub fn find_from(p: Site, points: &[f32], w: &mut [u32]) -> Search
+// lo to i, whichever comes first. The largest radius may be asked on the way.
+pub fn find_from(p: Site, points: &[f32], w: &mut [u32], largest: f32, asks: bool) -> Tried
     requires { ⌜ Held (p .scene) (now points) (now w) × Indexed (p .scene .grid) (now points) (p .scene .n) (now w)
         × Hashed (p .hash) (now points) (p .scene .n) (now w) × Limiting (p .scene) (p .radius) (p .limits) ⌝ }
     ensures { λ r. ⌜ (r .seed
         ≡ seedFound (firstOf (floatsOf (p .scene) (now (points .entry))) (p .radius)
         (usedIn (p .scene) (now (w .entry))) (upFrom 0 (p .scene .n)) 1000))
+        × (r .told ≡ true
+        → NothingTo (p .scene) (now (points .entry)) (usedIn (p .scene) (now (w .entry))) largest)
         × Kept (p .scene) (now (w .entry)) (now (w .exit)) ⌝ }
 {
     let s = p.scene;
     let n = s.n;
     let mut left: usize = 1000;
+    let mut asking = asks;
     let mut purse: usize = 0;
     let mut lo: usize = 0;
     let mut i: usize = 0;
     while i < n {
         if left == 0 {
-            return crate::nothing_found(purse);
+            return nothing_more(purse, false);
         }
         if !nearby::is_unused(s, w, i) {
             i += 1;
             continue;
         }
+        let asked = known_radii::ask_early(p, points, w, largest, asking, i, purse);
+        if known_radii::is_known_by(s, p.radius, largest, asked.told) {
+            return nothing_more(0, true);
+        }
+        asking = asked.asks;
         let check = seedless::check_first(p, points, w, lo, i, purse);
         let found = try_unless_seedless(p, points, w, i, check.seedless);
         if let Seed::Triangle(a, b, c) = found {
-            return Search {
+            return Tried {
                 seed: Seed::Triangle(a, b, c),
                 purse: 0,
+                told: false,
             };
         }
         purse = check.purse;
@@ -206,5 +234,5 @@ pub fn find_from(p: Site, points: &[f32], w: &mut [u32]) -> Search
         left -= 1;
         i += 1;
     }
-    crate::nothing_found(purse)
+    nothing_more(purse, false)
 }

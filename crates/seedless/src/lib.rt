@@ -167,9 +167,17 @@ fn least_purse(count: usize, begun: bool) -> usize
     requires { ⌜ count ≤ 4096 ⌝ }
 {
     if begun {
-        return count * (13 * count);
+        return count * (6 * count);
     }
-    count * (count * (13 + count / 3))
+    count * (count * (13 + count / 64))
+}
+
+// Whether a purse will do for all of n points that are near each other, where so many have been searched: each of these
+// has to be looked at once more, and each that follows adds more than it costs.
+pub fn is_paid(n: usize, searched: usize, purse: usize) -> bool
+    requires { ⌜ (n ≤ 4096) × (searched ≤ 4096) ⌝ }
+{
+    n * (n * (4 * searched + 9 + n / 64)) <= purse
 }
 
 // What is told of a first point, and what is left to pay with.
@@ -290,8 +298,49 @@ fn is_enough(before: usize, left: usize, more: usize) -> bool
     before - left <= left / (more / 4 + 1)
 }
 
-// Whether no three unused points make a seed at a radius, whichever of them comes first, if that is paid for.
-pub fn is_exhausted(p: Site, points: &[f32], w: &mut [u32], purse: usize) -> bool
+// Where points begin that have not been searched yet, and the radius of that search, with its limit of squares.
+pub struct Search {
+    pub from: usize,
+    pub radius: f32,
+    pub far: f32,
+}
+
+// What a purse holds after point i: what a search takes there is added, unless that was done before; 0 stays 0.
+fn earn(p: Site, points: &[f32], w: &mut [u32], search: Search, i: usize, purse: usize) -> usize
+    requires { ⌜ Held (p .scene) (now points) (now w) × Hashed (p .hash) (now points) (p .scene .n) (now w)
+        × (i < p .scene .n) ⌝ }
+    ensures { λ r. ⌜ (0 < r → 0 < purse) × Kept (p .scene) (now (w .entry)) (now (w .exit)) ⌝ }
+{
+    if i < search.from {
+        return purse;
+    }
+    if purse == 0 {
+        return 0;
+    }
+    let s = p.scene;
+    let place = points::point_at(points, i);
+    let reach = search.radius * 2.002;
+    let found = spatial_hash::gather_within(points, w, s.n, p.hash, place, reach, search.far);
+    let near = count_near(s, points, w, found, search.far);
+    added(purse, work_of(found, near))
+}
+
+// How many points are to be paid for without adding to the purse, or up to the last.
+fn points_left(from: usize, i: usize, n: usize) -> usize
+    requires { ⌜ (i < n) × (n ≤ 4096) ⌝ }
+    ensures { λ r. ⌜ r ≤ 4096 ⌝ }
+{
+    if i < from {
+        if from < n {
+            return from - i;
+        }
+    }
+    n - i
+}
+
+// Whether no three unused points make a seed at a radius, whichever of them comes first, if that is paid for: from the
+// purse, and from what a search at another radius takes.
+pub fn is_exhausted(p: Site, points: &[f32], w: &mut [u32], search: Search, purse: usize) -> bool
     requires { ⌜ Held (p .scene) (now points) (now w) × Hashed (p .hash) (now points) (p .scene .n) (now w)
         × Limiting (p .scene) (p .radius) (p .limits) ⌝ }
     ensures { λ r. ⌜ (r ≡ true → SeedlessBetween (p .scene) (now (points .entry)) (p .radius)
@@ -302,8 +351,9 @@ pub fn is_exhausted(p: Site, points: &[f32], w: &mut [u32], purse: usize) -> boo
     let mut left = purse;
     let mut i: usize = 0;
     while i < n {
-        let rest = pay_unused(p, points, w, i, left);
-        if !is_enough(left, rest, n - i) {
+        let paid = pay_unused(p, points, w, i, left);
+        let rest = earn(p, points, w, search, i, paid);
+        if !is_enough(left, rest, points_left(search.from, i, n)) {
             return false;
         }
         left = rest;

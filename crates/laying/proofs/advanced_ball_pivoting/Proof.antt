@@ -1,13 +1,11 @@
 -- `laying::advanced_ball_pivoting` meets its contract. The loop's invariant: the first i radii have been laid, no radius up to `upto` has a seed, and the first i marks are set. Assumes nothing.
-use Prim.Native.Nat.{ℕ, _-_}
-use mathlib.Core.Path.{sym, ap, _∙_, subst}
-use mathlib.Core.List.{List}
+use Prim.Native.Nat.{_-_}
+use mathlib.Core.Path.{_∙_}
 use native.Mathlib.Omega.{arith}
-use lib.ListN.{take}
 use Rattle.nearby.specs.Ready.{usedIn}
 use Rattle.known_radii.specs.Known.{NothingTo}
 use Rattle.known_radii.proofs.Larger.{nothing-yet, known-nothing}
-use Rattle.laying.proofs.Radii.{Covering, cover-start, between-radii, cover-step, cover-kept, cover-end}
+use Rattle.laying.proofs.Radii.{Covering, cover-start, between-radii, cover-step, cover-end}
 use Rattle.laying.proofs.Marks.{Marking, marks-start, marks-step, marks-end}
 use borrow.Author.Needs.{needs}
 use Rattle.laying.proofs.advanced_ball_pivoting.Statement.{statement}
@@ -44,7 +42,7 @@ lay-one-requires : tie.Need-lay-one-requires Inv-loop μ-loop
 lay-one-requires c κs =
     let a = c .before .before .before .before .before .before .before .before .before .before .before .before .before .before .args in
     let l = c .before .before .before .before .loop in
-    (between-radii (l .inv .0), λ h. known-nothing (a .s) (a .points .now) (usedIn (a .s) (l .w)) (c .before .before .is-known .ensures h) (c .before .before .before .before .before .before .before .before .before .before .is-flat .ensures) (l .inv .1))
+    (between-radii (l .inv .0), λ h. known-nothing (a .s) (a .points .now) (usedIn (a .s) (l .w)) (c .before .before .is-known .ensures h) (c .before .before .before .before .before .before .before .before .before .before .is-flat .ensures) (l .inv .1), l .inv .1)
 
 mul-marks : tie.Need-mul-marks Inv-loop μ-loop
 mul-marks c = omega (arith, c .before .before .before .before .before .before .before .before .before .loop-test .taken, c .before .before .before .before .before .before .before .before .before .before .before .before .before .before .before .before .before .before .before .before .pre .1)
@@ -52,30 +50,21 @@ mul-marks c = omega (arith, c .before .before .before .before .before .before .b
 array-write-marks : tie.Need-array-write-marks Inv-loop μ-loop
 array-write-marks c = omega (arith, c .before .before .before .before .before .before .before .before .before .loop-test .taken, c .before .before .before .before .before .before .before .before .before .before .before .before .before .before .before .before .before .before .before .before .pre .1)
 
-known-to-requires : tie.Need-known-to-requires Inv-loop μ-loop
-known-to-requires c κs =
-    let a = c .before .before .before .before .before .before .before .before .before .before .before .before .before .before .before .before .before .before .before .before .before .args in
-    let l = c .before .before .before .before .before .before .before .before .before .before .before .loop in
-    let o = c .before .before .before .before .before .before .lay-one in
-    (o .ensures .0 .searchable .held, o .ensures .0 .searchable .hashed, λ h. subst (λ (u : List ℕ). NothingTo (a .s) (a .points .now) u (l .upto)) (sym (o .ensures .1 h)) (l .inv .1))
-
 add-i : tie.Need-add-i Inv-loop μ-loop
-add-i c = omega (arith, c .before .before .before .before .before .before .before .before .before .before .before .before .before .loop-test .taken, c .before .before .before .before .before .before .before .before .before .before .before .before .before .before .before .before .before .before .before .before .before .before .before .before .pre .1)
+add-i c = omega (arith, c .before .before .before .before .before .before .before .before .before .loop-test .taken, c .before .before .before .before .before .before .before .before .before .before .before .before .before .before .before .before .before .before .before .before .pre .1)
 
 loop-less : tie.Need-loop-less Inv-loop μ-loop
-loop-less c = omega (arith, c .before .before .before .before .before .before .before .before .before .before .before .before .before .loop-test .taken)
+loop-less c = omega (arith, c .before .before .before .before .before .before .before .before .before .loop-test .taken)
 
 loop-again : tie.Need-loop-again Inv-loop μ-loop
 loop-again c =
-    let a = c .before .before .before .before .before .before .before .before .before .before .before .before .before .before .before .before .before .before .before .before .before .before .before .before .args in
-    let l = c .before .before .before .before .before .before .before .before .before .before .before .before .before .before .loop in
-    let o = c .before .before .before .before .before .before .before .before .before .lay-one in
-    let k = c .before .before .known-to in
-    let t = c .before .before .before .before .before .before .before .before .before .before .before .before .before .loop-test .taken in
-    let on = cover-step (l .inv .0) _ t (omega (arith, c .before .before .before .before .before .before .before .before .before .before .before .before .before .before .before .before .before .before .before .before .before .before .before .before .good .1 .1 .0 .1 .0 .1, t, c .before .before .before .before .before .before .before .before .before .before .before .before .before .before .before .before .before .before .before .before .before .before .before .before .pre .1)) (o .ensures .0) (o .kept .1 .1 .0) in (
-      cover-kept on (k .last .1 .1 .0) (k .ensures .1) (k .kept .1 .1 .0),
-      subst (λ (u : List ℕ). NothingTo (a .s) (a .points .now) u (k .result)) (sym (ap (take (a .s .n)) (k .ensures .1 .after))) (k .ensures .0),
-      marks-step (l .marks) on (omega (arith, t, c .before .before .before .before .before .before .before .before .before .before .before .before .before .before .before .before .before .before .before .before .before .before .before .before .pre .1)) (omega (arith, c .before .before .before .before .before .before .before .before .before .before .before .before .before .before .before .before .before .before .before .before .before .before .before .before .good .1 .1 .0 .1 .0 .1, t, c .before .before .before .before .before .before .before .before .before .before .before .before .before .before .before .before .before .before .before .before .before .before .before .before .pre .1)) (l .inv .2),
+    let l = c .before .before .before .before .before .before .before .before .before .before .loop in
+    let o = c .before .before .before .before .before .lay-one in
+    let t = c .before .before .before .before .before .before .before .before .before .loop-test .taken in
+    let on = cover-step (l .inv .0) _ t (omega (arith, c .before .before .before .before .before .before .before .before .before .before .before .before .before .before .before .before .before .before .before .before .good .1 .1 .0 .1 .0 .1, t, c .before .before .before .before .before .before .before .before .before .before .before .before .before .before .before .before .before .before .before .before .pre .1)) (o .ensures .0) (o .kept .1 .1 .0) in (
+      on,
+      o .ensures .1,
+      marks-step (l .marks) on (omega (arith, t, c .before .before .before .before .before .before .before .before .before .before .before .before .before .before .before .before .before .before .before .before .pre .1)) (omega (arith, c .before .before .before .before .before .before .before .before .before .before .before .before .before .before .before .before .before .before .before .before .good .1 .1 .0 .1 .0 .1, t, c .before .before .before .before .before .before .before .before .before .before .before .before .before .before .before .before .before .before .before .before .pre .1)) (l .inv .2),
     )
 
 same-length : tie.Need-same-length Inv-loop μ-loop
@@ -103,7 +92,6 @@ advanced-ball-pivoting-spec =
     lay-one-requires
     mul-marks
     array-write-marks
-    known-to-requires
     add-i
     loop-less
     loop-again

@@ -1,8 +1,9 @@
 -- `laying::lay_one` meets its contract. Assumes nothing.
-use mathlib.Core.Path.{ap}
 use native.Mathlib.Omega.{arith}
-use lib.ListN.{take}
-use Rattle.laying.proofs.Radii.{searched, free-seed, seed-room, seed-between-looks, seed-laid, no-seed, known-seedless}
+use Rattle.nearby.specs.Ready.{usedIn}
+use Rattle.known_radii.proofs.Larger.{nothing-yet}
+use Rattle.seed.proofs.Known.{nothing-kept}
+use Rattle.laying.proofs.Radii.{searched, free-seed, seed-room, seed-between-looks, seed-laid, no-seed}
 use borrow.Author.Needs.{needs}
 use Rattle.laying.proofs.lay_one.Statement.{statement}
 use Rattle.laying.proofs.lay_one.Tie as tie
@@ -29,7 +30,7 @@ find-seed-triangle-requires : tie.Need-find-seed-triangle-requires
 find-seed-triangle-requires c κs =
     let s = c .before .before .before .before .before .before .before in
     let g = s .pre .0 .searchable in
-    (g .held, g .indexed, g .hashed, s .pre .1)
+    (g .held, g .indexed, g .hashed, s .pre .1, s .pre .2)
 
 enum-known-seed : tie.Need-enum-known-seed
 enum-known-seed c = search needs
@@ -107,7 +108,7 @@ returns c =
     let f = seed-of r in
     let t = search-of f in
     let s = start-of t in
-    (seed-laid (s .args .p .rule) (s .args .p .radius) (s .pre .0) (t .before .before .clear .ensures) (t .find-seed-triangle .ensures .0) (t .find-seed-triangle .ensures .1) (t .find-seed-triangle .kept .1 .1 .0) (f .seed .given .1) (r .remove-three .ensures) (r .remove-three .kept .1 .0) (l .lay-seed .ensures .0) (l .lay-seed .ensures .1) (u .run .ensures), λ h. absurd (known-seedless (t .find-seed-triangle .ensures .0) (s .pre .1 h) (f .seed .given .1)))
+    (seed-laid (s .args .p .rule) (s .args .p .radius) (s .pre .0) (t .before .before .clear .ensures) (t .find-seed-triangle .ensures .0) (t .find-seed-triangle .ensures .1) (t .find-seed-triangle .kept .1 .1 .0) (f .seed .given .1) (r .remove-three .ensures) (r .remove-three .kept .1 .0) (l .lay-seed .ensures .0) (l .lay-seed .ensures .1) (u .run .ensures), nothing-yet (s .args .p .scene) (s .args .points .now) (usedIn (s .args .p .scene) (u .run .last .1 .1 .1 .0)))
 
 same-length-3 : tie.Need-same-length-3
 same-length-3 c = search needs
@@ -116,7 +117,7 @@ returns-2 : tie.Need-returns-2
 returns-2 c =
     let t = c .before .before .before .before in
     let s = start-of t in
-    (no-seed (s .args .p .rule) (s .args .p .radius) (s .pre .0) (t .before .before .clear .ensures) (t .find-seed-triangle .ensures .0) (t .find-seed-triangle .ensures .1) (t .find-seed-triangle .kept .1 .1 .0) (c .enum-told .given .1), λ h. ap (take (s .args .p .scene .n)) (t .find-seed-triangle .ensures .1 .after))
+    (no-seed (s .args .p .rule) (s .args .p .radius) (s .pre .0) (t .before .before .clear .ensures) (t .find-seed-triangle .ensures .0) (t .find-seed-triangle .ensures .1) (t .find-seed-triangle .kept .1 .1 .0) (c .enum-told .given .1), nothing-kept {s = s .args .p .scene} (s .args .points .now) (t .find-seed-triangle .result .upto) (t .find-seed-triangle .ensures .1) (t .find-seed-triangle .ensures .3))
 
 pub lay-one-spec : {M : Type 1} → statement M
 lay-one-spec = tie.close (tie.spec clear-requires find-seed-triangle-requires enum-known-seed remove-three-requires cast-lay-seed cast-lay-seed-2 cast-lay-seed-3 lay-seed-requires run-requires enum-told same-length same-length-2 returns same-length-3 returns-2)

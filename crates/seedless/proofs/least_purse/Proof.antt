@@ -13,7 +13,7 @@ mul-result-2 : tie.Need-mul-result-2
 mul-result-2 c =
     let a = c .before .args in
     let h : a .count ≤ 4096 = c .before .pre in
-    let k : 13 * a .count ≤ 53248 = omega arith in
+    let k : 6 * a .count ≤ 24576 = omega arith in
     omega (arith, mul-le-mul h k)
 
 returns : tie.Need-returns
@@ -26,14 +26,14 @@ mul-result-3 : tie.Need-mul-result-3
 mul-result-3 c =
     let a = c .before .args in
     let h : a .count ≤ 4096 = c .before .pre in
-    let k : 13 + a .count / 3 ≤ 4109 = omega arith in
+    let k : 13 + a .count / 64 ≤ 77 = omega arith in
     omega (arith, mul-le-mul h k)
 
 mul-result-4 : tie.Need-mul-result-4
 mul-result-4 c =
     let a = c .before .args in
     let h : a .count ≤ 4096 = c .before .pre in
-    let k : 13 + a .count / 3 ≤ 4109 = omega arith in
+    let k : 13 + a .count / 64 ≤ 77 = omega arith in
     omega (arith, mul-le-mul h (mul-le-mul h k))
 
 returns-2 : tie.Need-returns-2
