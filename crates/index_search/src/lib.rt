@@ -29,22 +29,23 @@ pub fn nearest_in(points: &[f32], index: &[u32], width: usize, spot: Point3f) ->
 {
     let n = points.len() / 3;
     let square = vector::distance_squared(points::point_at(points, 0), spot);
-    let best = Best {
-        square: square,
-        number: 0,
-        limit: nearest::limit_of(square),
-    };
+    let mut best = [square, nearest::limit_of(square)];
+    let place = [spot.x, spot.y, spot.z];
     let far = nearest::reach(index, n, spot);
-    nearest::search(
+    let number = nearest::search(
         points,
-        spot.x,
-        spot.y,
-        spot.z,
+        &place,
         index,
         n,
         width,
         far,
         &index[..n],
-        best,
-    )
+        0,
+        &mut best,
+    );
+    Best {
+        square: best[0],
+        number: number,
+        limit: best[1],
+    }
 }

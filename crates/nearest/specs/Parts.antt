@@ -4,10 +4,13 @@ use mathlib.Core.Bool.{cond}
 use mathlib.Core.List.{List, [], _∷_}
 use Prim.Native.Nat.{ℕ}
 use lib.Dec.{T, ltb}
-use lib.Ieee.{Float, binary32, lt, fits}
+use lib.Ieee.{Float, nan, binary32, lt, fits}
+use lib.ListN.{getD}
 use Rattle.numbers.specs.Bounds.{unsigned}
 use Rattle.numbers.specs.Root.{root}
 use Rattle.bounds.specs.Within.{Limit}
+use Rattle.vector.specs.Vector.{point}
+use Rattle.vector.specs.declared.Point3f.{Point3f}
 use Rattle.nearest.specs.declared.Best.{Best}
 use Rattle.nearest.specs.Scan.{Near}
 
@@ -30,6 +33,14 @@ pub record Length (d : Float) : Type 0 where
 
 abbrev pub nearOf : Best → Near
 nearOf best = record { distance = root (best .square); number = best .number }
+
+-- the best one whose square and limit stand in two floats
+abbrev pub bestOf : List Float → ℕ → Best
+bestOf best number = record { square = getD best 0 nan; number = number; limit = getD best 1 nan }
+
+-- the spot whose coordinates stand in three floats
+abbrev pub placeOf : List Float → Point3f
+placeOf place = point (getD place 0 nan) (getD place 1 nan) (getD place 2 nan)
 
 -- the square is an f32, and each square above the limit has a greater root
 pub record Limited (best : Best) : Type 0 where

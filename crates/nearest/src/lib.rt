@@ -9,9 +9,9 @@ ghost use lib.Ieee.{binary32, fits, nanBits};
 ghost use lib.ListN.{length, getD};
 ghost use Rattle.numbers.specs.Root.{root};
 ghost use Rattle.bounds.specs.Within.{Limit};
-ghost use Rattle.vector.specs.Vector.{point, distance};
+ghost use Rattle.vector.specs.Vector.{distance};
 ghost use Rattle.nearest.specs.Scan.{lengthTo};
-ghost use Rattle.nearest.specs.Parts.{closer, scanned, Length, nearOf, Limited, Keeps};
+ghost use Rattle.nearest.specs.Parts.{closer, scanned, Length, nearOf, bestOf, placeOf, Limited, Keeps};
 ghost use Rattle.nearest.specs.Boxes.{wordAt, greater, lesser, gap, reachOf, boxesBelow, Six, Known, Ready};
 ghost use Rattle.nearest.specs.Least.{squareTo, nearerNumber, nextLeast, TwoLeast, Few};
 
@@ -162,28 +162,34 @@ fn two_least(points: &[f32], spot: Point3f, order: &[u32]) -> Least
     least
 }
 
-// The same as `scan`. Where the least square is clearly below all others it settles who is nearest.
-fn scan_leaf(points: &[f32], spot: Point3f, order: &[u32], best: Best) -> Best
-    requires { ⌜ Limited best × Length (root (best .square)) ⌝ }
+// The same as `scan`, the best one's square and limit lent where they stand, its number handed on. Where the least
+// square is clearly below all others it settles who is nearest.
+fn scan_leaf(points: &[f32], spot: Point3f, order: &[u32], near: u32, best: &mut [f32; 2]) -> u32
+    requires { ⌜ Limited (bestOf (now best) near) × Length (root (bestOf (now best) near .square)) ⌝ }
     requires { ⌜ Known (now points) (now order) × Few (now points) spot (now order) ⌝ }
-    ensures { λ r. ⌜ Keeps r (scanned (lengthTo (now (points .entry)) spot) (now (order .entry)) (nearOf best)) ⌝ }
+    ensures { λ r. ⌜ Keeps (bestOf (now (best .exit)) r) (scanned (lengthTo (now (points .entry)) spot)
+        (now (order .entry)) (nearOf (bestOf (now (best .entry)) near))) ⌝ }
 {
     let least = two_least(points, spot, order);
     let first = least.first;
-    if best.limit < first {
-        return best;
+    if best[1] < first {
+        return near;
     }
     let limit = limit_of(first);
     if limit < least.second {
-        if limit < best.square {
-            return Best {
-                square: first,
-                number: least.number,
-                limit: limit,
-            };
+        if limit < best[0] {
+            *best = [first, limit];
+            return least.number;
         }
     }
-    scan(points, spot, order, best)
+    let old = Best {
+        square: best[0],
+        number: near,
+        limit: best[1],
+    };
+    let found = scan(points, spot, order, old);
+    *best = [found.square, found.limit];
+    found.number
 }
 
 // How far v is from the nearest number between lo and hi, below zero where it is less.
@@ -226,48 +232,53 @@ fn boxes_below(width: usize, n: usize) -> usize
     2 * width - 1
 }
 
-// The same as `scan`, but that parts whose box is farther than the best so far are left out, and of two halves the
-// nearer one comes first.
+// The same, but that parts whose box is farther than the best so far are left out, and of two halves the nearer one
+// comes first. What all calls share is lent, since a call hands structs on through memory.
 pub fn search(
     points: &[f32],
-    x: f32,
-    y: f32,
-    z: f32,
+    spot: &[f32; 3],
     words: &[u32],
     at: usize,
     width: usize,
     far: f32,
     order: &[u32],
-    best: Best,
-) -> Best
-    requires { ⌜ Ready (now points) (point x y z) (now words) at width far (now order) best ⌝ }
-    ensures { λ r. ⌜ Keeps r
-        (scanned (lengthTo (now (points .entry)) (point x y z)) (now (order .entry)) (nearOf best)) ⌝ }
+    near: u32,
+    best: &mut [f32; 2],
+) -> u32
+    requires { ⌜ Ready (now points) (placeOf (now spot)) (now words) at width far (now order)
+        (bestOf (now best) near) ⌝ }
+    ensures { λ r. ⌜ Keeps (bestOf (now (best .exit)) r) (scanned
+        (lengthTo (now (points .entry)) (placeOf (now (spot .entry)))) (now (order .entry))
+        (nearOf (bestOf (now (best .entry)) near))) ⌝ }
 {
-    if best.limit < far {
-        return best;
-    }
-    let spot = Point3f { x, y, z };
-    let n = order.len();
-    if n <= 8 {
-        return scan_leaf(points, spot, order, best);
-    }
-    let half = n / 2;
-    let wide = width / 2;
-    let first = at + 6;
-    let a = reach(words, first, spot);
-    let next = first + 6 * boxes_below(wide, half);
-    let b = reach(words, next, spot);
-    if b < a {
-        let near = search(points, x, y, z, words, next, wide, b, &order[half..], best);
-        if near.limit < a {
-            return near;
-        }
-        return search(points, x, y, z, words, first, wide, a, &order[..half], near);
-    }
-    let near = search(points, x, y, z, words, first, wide, a, &order[..half], best);
-    if near.limit < b {
+    if best[1] < far {
         return near;
     }
-    search(points, x, y, z, words, next, wide, b, &order[half..], near)
+    let place = Point3f {
+        x: spot[0],
+        y: spot[1],
+        z: spot[2],
+    };
+    let n = order.len();
+    if n <= 8 {
+        return scan_leaf(points, place, order, near, best);
+    }
+    let half = n / 2;
+    let w = width / 2;
+    let first = at + 6;
+    let a = reach(words, first, place);
+    let next = first + 6 * boxes_below(w, half);
+    let b = reach(words, next, place);
+    if b < a {
+        let near = search(points, spot, words, next, w, b, &order[half..], near, best);
+        if best[1] < a {
+            return near;
+        }
+        return search(points, spot, words, first, w, a, &order[..half], near, best);
+    }
+    let near = search(points, spot, words, first, w, a, &order[..half], near, best);
+    if best[1] < b {
+        return near;
+    }
+    search(points, spot, words, next, w, b, &order[half..], near, best)
 }

@@ -16,14 +16,26 @@ use Rattle.nearest.proofs.reach.Reads as reach-reads
 use Rattle.nearest.proofs.+search.{statement}
 use Rattle.nearest.proofs.+search.Tie.{close}
 
-abbrev μ-search : Measures 3 search-kinds.ps ℕ
-μ-search κs a = length (a .1 .1 .1 .1 .1 .1 .1 .1 .0 .now)
+abbrev μ-search : Measures 5 search-kinds.ps ℕ
+μ-search κs a = length (a .1 .1 .1 .1 .1 .1 .0 .now)
 
-abbrev search-at : ℕ → In 3 search-kinds.ps
-search-at t = and 3 search-kinds.ps (is 3 search-kinds.ps μ-search t) search′.Pre
+abbrev search-at : ℕ → In 5 search-kinds.ps
+search-at t = and 5 search-kinds.ps (is 5 search-kinds.ps μ-search t) search′.Pre
 
-abbrev search-below : ℕ → In 3 search-kinds.ps
-search-below t = and 3 search-kinds.ps (falls 3 search-kinds.ps _<_ μ-search t) search′.Pre
+abbrev search-below : ℕ → In 5 search-kinds.ps
+search-below t = and 5 search-kinds.ps (falls 5 search-kinds.ps _<_ μ-search t) search′.Pre
+
+search-element-copy-out-if1 : (t : ℕ) → search-lts.Need-element-copy-out-if1 (
+  scan-leaf-reads.Asked,
+  scan-leaf-reads.Learnt,
+  reach-reads.Asked,
+  reach-reads.Learnt,
+  boxes-below-reads.Asked,
+  boxes-below-reads.Learnt,
+  search-below t,
+  search′.Post,
+) (search-at t) search′.Post
+search-element-copy-out-if1 t c = search needs
 
 search-returns : (t : ℕ) → search-lts.Need-returns (
   scan-leaf-reads.Asked,
@@ -37,6 +49,42 @@ search-returns : (t : ℕ) → search-lts.Need-returns (
 ) (search-at t) search′.Post
 search-returns t c = left-out (c .before .before .before .before .before .pre .1) (c .if1 .taken)
 
+search-element-copy-out-t22 : (t : ℕ) → search-lts.Need-element-copy-out-t22 (
+  scan-leaf-reads.Asked,
+  scan-leaf-reads.Learnt,
+  reach-reads.Asked,
+  reach-reads.Learnt,
+  boxes-below-reads.Asked,
+  boxes-below-reads.Learnt,
+  search-below t,
+  search′.Post,
+) (search-at t) search′.Post
+search-element-copy-out-t22 t c = search needs
+
+search-element-copy-out-t28 : (t : ℕ) → search-lts.Need-element-copy-out-t28 (
+  scan-leaf-reads.Asked,
+  scan-leaf-reads.Learnt,
+  reach-reads.Asked,
+  reach-reads.Learnt,
+  boxes-below-reads.Asked,
+  boxes-below-reads.Learnt,
+  search-below t,
+  search′.Post,
+) (search-at t) search′.Post
+search-element-copy-out-t28 t c = search needs
+
+search-element-copy-out-if5 : (t : ℕ) → search-lts.Need-element-copy-out-if5 (
+  scan-leaf-reads.Asked,
+  scan-leaf-reads.Learnt,
+  reach-reads.Asked,
+  reach-reads.Learnt,
+  boxes-below-reads.Asked,
+  boxes-below-reads.Learnt,
+  search-below t,
+  search′.Post,
+) (search-at t) search′.Post
+search-element-copy-out-if5 t c = search needs
+
 search-scan-leaf-requires : (t : ℕ) → search-lts.Need-scan-leaf-requires (
   scan-leaf-reads.Asked,
   scan-leaf-reads.Learnt,
@@ -47,7 +95,7 @@ search-scan-leaf-requires : (t : ℕ) → search-lts.Need-scan-leaf-requires (
   search-below t,
   search′.Post,
 ) (search-at t) search′.Post
-search-scan-leaf-requires t c κs = let r = c .before .before .before .before .before .before .pre .1 in ((r .best-limit, r .best-length), (here r .known, few-here r))
+search-scan-leaf-requires t c κs = let r = c .before .before .before .before .before .before .before .before .before .before .pre .1 in ((r .best-limit, r .best-length), (here r .known, few-here r))
 
 search-returns-2 : (t : ℕ) → search-lts.Need-returns-2 (
   scan-leaf-reads.Asked,
@@ -71,7 +119,7 @@ search-add-first : (t : ℕ) → search-lts.Need-add-first (
   search-below t,
   search′.Post,
 ) (search-at t) search′.Post
-search-add-first t c = let r = c .before .before .before .before .before .before .pre .1 in omega (arith, here r .six .long)
+search-add-first t c = let r = c .before .before .before .before .before .before .before .before .before .pre .1 in omega (arith, here r .six .long)
 
 search-reach-requires : (t : ℕ) → search-lts.Need-reach-requires (
   scan-leaf-reads.Asked,
@@ -83,7 +131,7 @@ search-reach-requires : (t : ℕ) → search-lts.Need-reach-requires (
   search-below t,
   search′.Post,
 ) (search-at t) search′.Post
-search-reach-requires t c κs = let o = c .before .before .before .before .before .before .args .order .now in let r = c .before .before .before .before .before .before .pre .1 in let n : 8 < length o = c .if2 .left in first-held r n .six
+search-reach-requires t c κs = let o = c .before .before .before .before .before .before .before .before .before .args .order .now in let r = c .before .before .before .before .before .before .before .before .before .pre .1 in let n : 8 < length o = c .if2 .left in first-held r n .six
 
 search-boxes-below-requires : (t : ℕ) → search-lts.Need-boxes-below-requires (
   scan-leaf-reads.Asked,
@@ -95,7 +143,7 @@ search-boxes-below-requires : (t : ℕ) → search-lts.Need-boxes-below-requires
   search-below t,
   search′.Post,
 ) (search-at t) search′.Post
-search-boxes-below-requires t c κs = let r = c .before .before .before .before .before .before .before .pre .1 in (omega (arith, r .narrow), omega (arith, r .few))
+search-boxes-below-requires t c κs = let r = c .before .before .before .before .before .before .before .before .before .before .pre .1 in (omega (arith, r .narrow), omega (arith, r .few))
 
 search-mul-next : (t : ℕ) → search-lts.Need-mul-next (
   scan-leaf-reads.Asked,
@@ -107,7 +155,7 @@ search-mul-next : (t : ℕ) → search-lts.Need-mul-next (
   search-below t,
   search′.Post,
 ) (search-at t) search′.Post
-search-mul-next t c = let o = c .before .before .before .before .before .before .before .before .args .order .now in let r = c .before .before .before .before .before .before .before .before .pre .1 in let n : 8 < length o = c .before .before .if2 .left in omega (arith, second-held r n (c .boxes-below .ensures) .six .long)
+search-mul-next t c = let o = c .before .before .before .before .before .before .before .before .before .before .before .args .order .now in let r = c .before .before .before .before .before .before .before .before .before .before .before .pre .1 in let n : 8 < length o = c .before .before .if2 .left in omega (arith, second-held r n (c .boxes-below .ensures) .six .long)
 
 search-add-next : (t : ℕ) → search-lts.Need-add-next (
   scan-leaf-reads.Asked,
@@ -119,7 +167,7 @@ search-add-next : (t : ℕ) → search-lts.Need-add-next (
   search-below t,
   search′.Post,
 ) (search-at t) search′.Post
-search-add-next t c = let o = c .before .before .before .before .before .before .before .before .args .order .now in let r = c .before .before .before .before .before .before .before .before .pre .1 in let n : 8 < length o = c .before .before .if2 .left in omega (arith, second-held r n (c .boxes-below .ensures) .six .long)
+search-add-next t c = let o = c .before .before .before .before .before .before .before .before .before .before .before .args .order .now in let r = c .before .before .before .before .before .before .before .before .before .before .before .pre .1 in let n : 8 < length o = c .before .before .if2 .left in omega (arith, second-held r n (c .boxes-below .ensures) .six .long)
 
 search-reach-requires-2 : (t : ℕ) → search-lts.Need-reach-requires-2 (
   scan-leaf-reads.Asked,
@@ -131,7 +179,7 @@ search-reach-requires-2 : (t : ℕ) → search-lts.Need-reach-requires-2 (
   search-below t,
   search′.Post,
 ) (search-at t) search′.Post
-search-reach-requires-2 t c κs = let o = c .before .before .before .before .before .before .before .before .args .order .now in let r = c .before .before .before .before .before .before .before .before .pre .1 in let n : 8 < length o = c .before .before .if2 .left in second-held r n (c .boxes-below .ensures) .six
+search-reach-requires-2 t c κs = let o = c .before .before .before .before .before .before .before .before .before .before .before .args .order .now in let r = c .before .before .before .before .before .before .before .before .before .before .before .pre .1 in let n : 8 < length o = c .before .before .if2 .left in second-held r n (c .boxes-below .ensures) .six
 
 search-mul-search : (t : ℕ) → search-lts.Need-mul-search (
   scan-leaf-reads.Asked,
@@ -191,7 +239,19 @@ search-search-requires : (t : ℕ) → search-lts.Need-search-requires (
   search-below t,
   search′.Post,
 ) (search-at t) search′.Post
-search-search-requires t c κs = let o = c .before .before .before .before .before .before .before .before .before .before .before .args .order .now in let r = c .before .before .before .before .before .before .before .before .before .before .before .pre .1 in let n : 8 < length o = c .before .before .before .before .before .if2 .left in (omega (arith, c .before .before .before .before .before .before .before .before .before .before .before .pre .0, second-size o (length o / 2)), second-ready r (r .best-length) (r .best-limit) n (c .before .before .before .boxes-below .ensures) (c .before .before .reach2 .ensures))
+search-search-requires t c κs = let o = c .before .before .before .before .before .before .before .before .before .before .before .before .before .before .before .args .order .now in let r = c .before .before .before .before .before .before .before .before .before .before .before .before .before .before .before .pre .1 in let n : 8 < length o = c .before .before .before .before .before .before .if2 .left in (omega (arith, c .before .before .before .before .before .before .before .before .before .before .before .before .before .before .before .pre .0, second-size o (length o / 2)), second-ready r (r .best-length) (r .best-limit) n (c .before .before .before .before .boxes-below .ensures) (c .before .before .before .reach2 .ensures))
+
+search-element-copy-out-if4 : (t : ℕ) → search-lts.Need-element-copy-out-if4 (
+  scan-leaf-reads.Asked,
+  scan-leaf-reads.Learnt,
+  reach-reads.Asked,
+  reach-reads.Learnt,
+  boxes-below-reads.Asked,
+  boxes-below-reads.Learnt,
+  search-below t,
+  search′.Post,
+) (search-at t) search′.Post
+search-element-copy-out-if4 t c = search needs
 
 search-returns-3 : (t : ℕ) → search-lts.Need-returns-3 (
   scan-leaf-reads.Asked,
@@ -203,7 +263,7 @@ search-returns-3 : (t : ℕ) → search-lts.Need-returns-3 (
   search-below t,
   search′.Post,
 ) (search-at t) search′.Post
-search-returns-3 t c = let o = c .before .before .before .before .before .before .before .before .before .before .before .before .before .before .args .order .now in let r = c .before .before .before .before .before .before .before .before .before .before .before .before .before .before .pre .1 in let n : 8 < length o = c .before .before .before .before .before .before .before .before .if2 .left in turned r (c .before .before .search .ensures) (left-out (first-ready r (second-length r (c .before .before .search .ensures)) (c .before .before .search .ensures .limited) n (c .before .before .before .before .before .before .before .reach .ensures)) (c .if4 .taken))
+search-returns-3 t c = let o = c .before .before .before .before .before .before .before .before .before .before .before .before .before .before .before .before .before .before .args .order .now in let r = c .before .before .before .before .before .before .before .before .before .before .before .before .before .before .before .before .before .before .pre .1 in let n : 8 < length o = c .before .before .before .before .before .before .before .before .before .if2 .left in turned r (c .before .before .search .ensures) (left-out (first-ready r (second-length r (c .before .before .search .ensures)) (c .before .before .search .ensures .limited) n (c .before .before .before .before .before .before .before .before .reach .ensures)) (c .if4 .taken))
 
 search-slice-aggregate-search : (t : ℕ) → search-lts.Need-slice-aggregate-search (
   scan-leaf-reads.Asked,
@@ -215,7 +275,7 @@ search-slice-aggregate-search : (t : ℕ) → search-lts.Need-slice-aggregate-se
   search-below t,
   search′.Post,
 ) (search-at t) search′.Post
-search-slice-aggregate-search t c = let o = c .before .before .before .before .before .before .before .before .before .before .before .before .before .before .before .args .order .now in sym (length-take-le (length o / 2) o (omega arith))
+search-slice-aggregate-search t c = let o = c .before .before .before .before .before .before .before .before .before .before .before .before .before .before .before .before .before .before .before .args .order .now in sym (length-take-le (length o / 2) o (omega arith))
 
 search-search-requires-2 : (t : ℕ) → search-lts.Need-search-requires-2 (
   scan-leaf-reads.Asked,
@@ -227,7 +287,7 @@ search-search-requires-2 : (t : ℕ) → search-lts.Need-search-requires-2 (
   search-below t,
   search′.Post,
 ) (search-at t) search′.Post
-search-search-requires-2 t c κs = let o = c .before .before .before .before .before .before .before .before .before .before .before .before .before .before .before .args .order .now in let r = c .before .before .before .before .before .before .before .before .before .before .before .before .before .before .before .pre .1 in let n : 8 < length o = c .before .before .before .before .before .before .before .before .before .if2 .left in (omega (arith, c .before .before .before .before .before .before .before .before .before .before .before .before .before .before .before .pre .0, length-take-le (length o / 2) o (omega arith)), first-ready r (second-length r (c .before .before .before .search .ensures)) (c .before .before .before .search .ensures .limited) n (c .before .before .before .before .before .before .before .before .reach .ensures))
+search-search-requires-2 t c κs = let o = c .before .before .before .before .before .before .before .before .before .before .before .before .before .before .before .before .before .before .before .before .args .order .now in let r = c .before .before .before .before .before .before .before .before .before .before .before .before .before .before .before .before .before .before .before .before .pre .1 in let n : 8 < length o = c .before .before .before .before .before .before .before .before .before .before .before .if2 .left in (omega (arith, c .before .before .before .before .before .before .before .before .before .before .before .before .before .before .before .before .before .before .before .before .pre .0, length-take-le (length o / 2) o (omega arith)), first-ready r (second-length r (c .before .before .before .before .search .ensures)) (c .before .before .before .before .search .ensures .limited) n (c .before .before .before .before .before .before .before .before .before .before .reach .ensures))
 
 search-returns-4 : (t : ℕ) → search-lts.Need-returns-4 (
   scan-leaf-reads.Asked,
@@ -239,7 +299,7 @@ search-returns-4 : (t : ℕ) → search-lts.Need-returns-4 (
   search-below t,
   search′.Post,
 ) (search-at t) search′.Post
-search-returns-4 t c = turned (c .before .before .before .before .before .before .before .before .before .before .before .before .before .before .before .before .pre .1) (c .before .before .before .before .search .ensures) (c .search2 .ensures)
+search-returns-4 t c = turned (c .before .before .before .before .before .before .before .before .before .before .before .before .before .before .before .before .before .before .before .before .before .pre .1) (c .before .before .before .before .before .search .ensures) (c .search2 .ensures)
 
 search-slice-aggregate-search-2 : (t : ℕ) → search-lts.Need-slice-aggregate-search-2 (
   scan-leaf-reads.Asked,
@@ -251,7 +311,7 @@ search-slice-aggregate-search-2 : (t : ℕ) → search-lts.Need-slice-aggregate-
   search-below t,
   search′.Post,
 ) (search-at t) search′.Post
-search-slice-aggregate-search-2 t c = let o = c .before .before .before .before .before .before .before .before .before .before .before .args .order .now in sym (length-take-le (length o / 2) o (omega arith))
+search-slice-aggregate-search-2 t c = let o = c .before .before .before .before .before .before .before .before .before .before .before .before .before .before .args .order .now in sym (length-take-le (length o / 2) o (omega arith))
 
 search-search-requires-3 : (t : ℕ) → search-lts.Need-search-requires-3 (
   scan-leaf-reads.Asked,
@@ -263,7 +323,19 @@ search-search-requires-3 : (t : ℕ) → search-lts.Need-search-requires-3 (
   search-below t,
   search′.Post,
 ) (search-at t) search′.Post
-search-search-requires-3 t c κs = let o = c .before .before .before .before .before .before .before .before .before .before .before .args .order .now in let r = c .before .before .before .before .before .before .before .before .before .before .before .pre .1 in let n : 8 < length o = c .before .before .before .before .before .if2 .left in (omega (arith, c .before .before .before .before .before .before .before .before .before .before .before .pre .0, length-take-le (length o / 2) o (omega arith)), first-ready r (r .best-length) (r .best-limit) n (c .before .before .before .before .reach .ensures))
+search-search-requires-3 t c κs = let o = c .before .before .before .before .before .before .before .before .before .before .before .before .before .before .before .args .order .now in let r = c .before .before .before .before .before .before .before .before .before .before .before .before .before .before .before .pre .1 in let n : 8 < length o = c .before .before .before .before .before .before .if2 .left in (omega (arith, c .before .before .before .before .before .before .before .before .before .before .before .before .before .before .before .pre .0, length-take-le (length o / 2) o (omega arith)), first-ready r (r .best-length) (r .best-limit) n (c .before .before .before .before .before .reach .ensures))
+
+search-element-copy-out-if5-2 : (t : ℕ) → search-lts.Need-element-copy-out-if5-2 (
+  scan-leaf-reads.Asked,
+  scan-leaf-reads.Learnt,
+  reach-reads.Asked,
+  reach-reads.Learnt,
+  boxes-below-reads.Asked,
+  boxes-below-reads.Learnt,
+  search-below t,
+  search′.Post,
+) (search-at t) search′.Post
+search-element-copy-out-if5-2 t c = search needs
 
 search-returns-5 : (t : ℕ) → search-lts.Need-returns-5 (
   scan-leaf-reads.Asked,
@@ -275,7 +347,7 @@ search-returns-5 : (t : ℕ) → search-lts.Need-returns-5 (
   search-below t,
   search′.Post,
 ) (search-at t) search′.Post
-search-returns-5 t c = let o = c .before .before .before .before .before .before .before .before .before .before .before .before .before .before .args .order .now in let r = c .before .before .before .before .before .before .before .before .before .before .before .before .before .before .pre .1 in let n : 8 < length o = c .before .before .before .before .before .before .before .before .if2 .left in in-turn r (c .before .before .search3 .ensures) (left-out (second-ready r (first-size r (c .before .before .search3 .ensures)) (c .before .before .search3 .ensures .limited) n (c .before .before .before .before .before .before .boxes-below .ensures) (c .before .before .before .before .before .reach2 .ensures)) (c .if5 .taken))
+search-returns-5 t c = let o = c .before .before .before .before .before .before .before .before .before .before .before .before .before .before .before .before .before .before .args .order .now in let r = c .before .before .before .before .before .before .before .before .before .before .before .before .before .before .before .before .before .before .pre .1 in let n : 8 < length o = c .before .before .before .before .before .before .before .before .before .if2 .left in in-turn r (c .before .before .search3 .ensures) (left-out (second-ready r (first-size r (c .before .before .search3 .ensures)) (c .before .before .search3 .ensures .limited) n (c .before .before .before .before .before .before .before .boxes-below .ensures) (c .before .before .before .before .before .before .reach2 .ensures)) (c .if5 .taken))
 
 search-mul-search-2 : (t : ℕ) → search-lts.Need-mul-search-2 (
   scan-leaf-reads.Asked,
@@ -335,7 +407,7 @@ search-search-requires-4 : (t : ℕ) → search-lts.Need-search-requires-4 (
   search-below t,
   search′.Post,
 ) (search-at t) search′.Post
-search-search-requires-4 t c κs = let o = c .before .before .before .before .before .before .before .before .before .before .before .before .before .before .before .args .order .now in let r = c .before .before .before .before .before .before .before .before .before .before .before .before .before .before .before .pre .1 in let n : 8 < length o = c .before .before .before .before .before .before .before .before .before .if2 .left in (omega (arith, c .before .before .before .before .before .before .before .before .before .before .before .before .before .before .before .pre .0, second-size o (length o / 2)), second-ready r (first-size r (c .before .before .before .search3 .ensures)) (c .before .before .before .search3 .ensures .limited) n (c .before .before .before .before .before .before .before .boxes-below .ensures) (c .before .before .before .before .before .before .reach2 .ensures))
+search-search-requires-4 t c κs = let o = c .before .before .before .before .before .before .before .before .before .before .before .before .before .before .before .before .before .before .before .before .args .order .now in let r = c .before .before .before .before .before .before .before .before .before .before .before .before .before .before .before .before .before .before .before .before .pre .1 in let n : 8 < length o = c .before .before .before .before .before .before .before .before .before .before .before .if2 .left in (omega (arith, c .before .before .before .before .before .before .before .before .before .before .before .before .before .before .before .before .before .before .before .before .pre .0, second-size o (length o / 2)), second-ready r (first-size r (c .before .before .before .before .search3 .ensures)) (c .before .before .before .before .search3 .ensures .limited) n (c .before .before .before .before .before .before .before .before .before .boxes-below .ensures) (c .before .before .before .before .before .before .before .before .reach2 .ensures))
 
 search-returns-6 : (t : ℕ) → search-lts.Need-returns-6 (
   scan-leaf-reads.Asked,
@@ -347,7 +419,7 @@ search-returns-6 : (t : ℕ) → search-lts.Need-returns-6 (
   search-below t,
   search′.Post,
 ) (search-at t) search′.Post
-search-returns-6 t c = in-turn (c .before .before .before .before .before .before .before .before .before .before .before .before .before .before .before .before .pre .1) (c .before .before .before .before .search3 .ensures) (c .search4 .ensures)
+search-returns-6 t c = in-turn (c .before .before .before .before .before .before .before .before .before .before .before .before .before .before .before .before .before .before .before .before .before .pre .1) (c .before .before .before .before .before .search3 .ensures) (c .search4 .ensures)
 
 pub +search-spec : {M : Type 1} → statement M
 +search-spec = close μ-search λ t. search-lts.spec (
@@ -362,7 +434,11 @@ pub +search-spec : {M : Type 1} → statement M
 )
     (search-at t)
     search′.Post
+    (search-element-copy-out-if1 t)
     (search-returns t)
+    (search-element-copy-out-t22 t)
+    (search-element-copy-out-t28 t)
+    (search-element-copy-out-if5 t)
     (search-scan-leaf-requires t)
     (search-returns-2 t)
     (search-add-first t)
@@ -376,12 +452,14 @@ pub +search-spec : {M : Type 1} → statement M
     (search-part-search-start t)
     (search-part-search-end t)
     (search-search-requires t)
+    (search-element-copy-out-if4 t)
     (search-returns-3 t)
     (search-slice-aggregate-search t)
     (search-search-requires-2 t)
     (search-returns-4 t)
     (search-slice-aggregate-search-2 t)
     (search-search-requires-3 t)
+    (search-element-copy-out-if5-2 t)
     (search-returns-5 t)
     (search-mul-search-2 t)
     (search-sub-search-2 t)
