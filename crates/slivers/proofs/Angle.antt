@@ -14,7 +14,7 @@ use Rattle.numbers.specs.Acos.{R, abs, highPart, acosHigh, acosInside, acos}
 use Rattle.numbers.proofs.Above.{positive-signless, finite-under}
 use Rattle.numbers.proofs.OrderLaws.{le-left, le-right, le-refl, lt-le, le-trans, not-lt-le, le-not-lt, finite-number, unsigned-le, unsigned-number}
 use Rattle.numbers.proofs.SumOrder.{add-monotone, add-unsigned}
-use Rattle.numbers.proofs.ProductOrder.{mul-monotone-finite, mul-commutative}
+use Rattle.numbers.proofs.ProductOrder.{mul-monotone-finite, mul-nonpositive, mul-commutative}
 use Rattle.numbers.proofs.QuotientOrder.{div-monotone, div-unsigned, div-antitone}
 use Rattle.numbers.proofs.RootMonotone.{root-monotone}
 use Rattle.numbers.proofs.Bounded.{neg-bounded, bounded-finite, add-bounded, mul-unsigned, mul-bounded}
@@ -24,19 +24,19 @@ use Rattle.slivers.proofs.Arc.{Parts, parts, zOf, z-fits, z-falls}
 
 -- ---- bounds
 
-low-finite : (x : Float) → T (finite x) → Low x
+pub low-finite : (x : Float) → T (finite x) → Low x
 unfolding lt
 low-finite nan f = absurd f
 low-finite (inf s) f = absurd f
 low-finite (fin s m e) f = tt
 
 -- what has no minus sign and is at most v
-plain-bounded : (x v : Float) → T (unsigned x) → T (le x v) → T (le (neg v) (f32 0)) → Bounded x v
+pub plain-bounded : (x v : Float) → T (unsigned x) → T (le x v) → T (le (neg v) (f32 0)) → Bounded x v
 plain-bounded x v u h n = record { upper = h; lower = le-trans (neg v) (f32 0) x n (unsigned-le x u) }
 
 -- ---- the rational function, up to 0.25
 
-abbrev quarter : Float
+abbrev pub quarter : Float
 quarter = f32 0x3e800000
 
 -- the size of what is added to its first coefficient, and of what is taken from 1
@@ -117,9 +117,26 @@ module _ (z : Float) (p : T (positive z)) (h : T (le z quarter)) where
       (rw (mul-commutative z above, mul-commutative z (f32 0x3e3851ec)) (mul-monotone-finite above (f32 0x3e3851ec) z (positive-finite above above-positive) (unfold ofBits in tt) (positive-finite z p) above-most (unsigned-le z (positive-signless z p))))
       (mul-monotone-finite z y (f32 0x3e3851ec) (positive-finite z p) f (unfold ofBits in tt) k (unfold le ofBits in tt))))
 
+  under-one : T (le under (f32 0x3f800000))
+  under-one =
+      le-trans under (f32 0x3f800000 ⊕ f32 0) (f32 0x3f800000)
+      (add-monotone (f32 0x3f800000) (f32 0x3f800000) (z ⊗ neg (f32 0x3f34e5ae)) (f32 0) (unfold ofBits in tt) (unfold ofBits in tt) (bounded-finite (z ⊗ neg (f32 0x3f34e5ae)) taken (unfold mul ofBits in tt) taken-bounded) (unfold ofBits in tt) (unfold le ofBits in tt)
+      (rw (mul-commutative z (neg (f32 0x3f34e5ae))) (mul-nonpositive (neg (f32 0x3f34e5ae)) z (unfold neg ofBits in tt) (positive-finite z p) (unfold le neg ofBits in tt) (unsigned-le z (positive-signless z p)))))
+      (unfold le add ofBits in tt)
+
+  -- with a lesser number in place of z
+  pub ratio-least : (y : Float) → T (finite y) → T (le y z) → T (le (y ⊗ f32 0x3e19999a ⊘ f32 0x3f800000) (R z))
+  unfolding R
+  ratio-least y f k =
+      le-trans (y ⊗ f32 0x3e19999a ⊘ f32 0x3f800000) (z ⊗ above ⊘ f32 0x3f800000) (z ⊗ above ⊘ under)
+      (div-monotone (y ⊗ f32 0x3e19999a) (z ⊗ above) (f32 0x3f800000) (unfold ofBits in tt)
+      (le-trans (y ⊗ f32 0x3e19999a) (z ⊗ f32 0x3e19999a) (z ⊗ above) (mul-monotone-finite y z (f32 0x3e19999a) f (positive-finite z p) (unfold ofBits in tt) k (unfold le ofBits in tt))
+      (rw (mul-commutative z above, mul-commutative z (f32 0x3e19999a)) (mul-monotone-finite (f32 0x3e19999a) above z (unfold ofBits in tt) (positive-finite above above-positive) (positive-finite z p) above-least (unsigned-le z (positive-signless z p))))))
+      (div-antitone (z ⊗ above) under (f32 0x3f800000) product-finite product-plain under-positive (unfold ofBits in tt) under-one)
+
 -- ---- equality
 
-level-le : (x y : Float) → T (eq x y) → T (le x y)
+pub level-le : (x y : Float) → T (eq x y) → T (le x y)
 unfolding le
 level-le x y = go (lt x y) (eq x y)
   where
@@ -127,7 +144,7 @@ level-le x y = go (lt x y) (eq x y)
     go true b t = tt
     go false b t = t
 
-strict : (x y : Float) → T (le x y) → eq x y ≡ false → T (lt x y)
+pub strict : (x y : Float) → T (le x y) → eq x y ≡ false → T (lt x y)
 unfolding le
 strict x y = go (lt x y) (eq x y)
   where
@@ -135,7 +152,7 @@ strict x y = go (lt x y) (eq x y)
     go true b t e = tt
     go false b t e = absurd (subst T e t)
 
-acos-one : acos (f32 0x3f800000) ≡ f32 0
+pub acos-one : acos (f32 0x3f800000) ≡ f32 0
 unfolding acos isNan eq ofBits
 acos-one = refl
 
@@ -177,7 +194,7 @@ module _ (κ : Float) (f : T (fits binary32 κ)) (lo : T (le (f32 0x3f000000) κ
       div-unsigned (Z ⊗ f32 0x3e3851ec) (f32 0x3f51eb85) (bounded-finite (Z ⊗ f32 0x3e3851ec) (quarter ⊗ f32 0x3e3851ec) (unfold mul ofBits in tt) thinned-bounded)
       (mul-unsigned Z (f32 0x3e3851ec) Z-finite (unfold ofBits in tt) (positive-signless Z (known .z-positive)) (unfold ofBits in tt)) (unfold ofBits in tt)
 
-  ratio-bounded : Bounded (ratio Z) (ratio quarter)
+  pub ratio-bounded : Bounded (ratio Z) (ratio quarter)
   ratio-bounded = plain-bounded (ratio Z) (ratio quarter) ratio-unsigned (div-monotone (Z ⊗ f32 0x3e3851ec) (quarter ⊗ f32 0x3e3851ec) (f32 0x3f51eb85) (unfold ofBits in tt) (thinned-bounded .upper)) (unfold le neg div mul ofBits in tt)
 
   ratio-finite : T (finite (ratio Z))
@@ -189,7 +206,7 @@ module _ (κ : Float) (f : T (fits binary32 κ)) (lo : T (le (f32 0x3f000000) κ
   abbrev second : Float
   second = S ⊗ f32 0x3a800000
 
-  first-bounded : Bounded first (ratio quarter ⊗ f32 0x3f800000)
+  pub first-bounded : Bounded first (ratio quarter ⊗ f32 0x3f800000)
   first-bounded = mul-bounded (ratio Z) S (ratio quarter) (f32 0x3f800000) (unfold div mul ofBits in tt) (unfold ofBits in tt) (unfold div mul ofBits in tt) (unfold ofBits in tt) ratio-bounded S-bounded
 
   second-bounded : Bounded second (f32 0x3f800000 ⊗ f32 0x3a800000)
@@ -224,6 +241,23 @@ module _ (κ : Float) (f : T (fits binary32 κ)) (lo : T (le (f32 0x3f000000) κ
     from-half : T (le (f32 0x3f000000) v)
     from-half = le-trans (f32 0x3f000000) κ v lo h
 
+    -- the root, and the product of the rational function and the root
+    pub root-most : T (lt v (f32 0x3f800000)) → T (le (root (zOf v)) S)
+    root-most b = root-monotone (zOf v) Z (z-fits v g from-half b) (z-fits κ f lo hi) (unsigned-le (zOf v) (positive-signless (zOf v) (parts v g from-half b .z-positive))) (z-falls κ v f g lo h b)
+
+    pub product-most : T (lt v (f32 0x3f800000)) → T (le (R (zOf v) ⊗ root (zOf v)) first)
+    product-most b =
+        let z = zOf v in
+        let s = root z in
+        let p = parts v g from-half b in
+        let z-le = z-falls κ v f g lo h b in
+        let s-plain = positive-signless s (p .s-positive) in
+        let s-finite = positive-finite s (p .s-positive) in
+        let r-le : T (le (R z) (ratio Z)) = ratio-most z (p .z-positive) (p .z-most) Z Z-finite z-le in
+        let r-finite = finite-under (R z) (ratio Z) (ratio-plain z (p .z-positive) (p .z-most)) r-le ratio-finite in
+        le-trans (R z ⊗ s) (ratio Z ⊗ s) first (mul-monotone-finite (R z) (ratio Z) s r-finite ratio-finite s-finite r-le (unsigned-le s s-plain))
+        (rw (mul-commutative (ratio Z) s, mul-commutative (ratio Z) S) (mul-monotone-finite s S (ratio Z) s-finite S-finite ratio-finite (root-most b) (unsigned-le (ratio Z) ratio-unsigned)))
+
     high-under : T (lt v (f32 0x3f800000)) → T (le (acosHigh v) (limit Z))
     unfolding acosHigh
     high-under b =
@@ -232,19 +266,9 @@ module _ (κ : Float) (f : T (fits binary32 κ)) (lo : T (le (f32 0x3f000000) κ
         let d = highPart s in
         let c = (z ⊖ d ⊗ d) ⊘ (s ⊕ d) in
         let p = parts v g from-half b in
-        let fits-z = z-fits v g from-half b in
-        let z-le = z-falls κ v f g lo h b in
-        let z-plain = positive-signless z (p .z-positive) in
-        let s-plain = positive-signless s (p .s-positive) in
-        let s-finite = positive-finite s (p .s-positive) in
-        let s-le : T (le s S) = root-monotone z Z fits-z (z-fits κ f lo hi) (unsigned-le z z-plain) z-le in
-        let r-le : T (le (R z) (ratio Z)) = ratio-most z (p .z-positive) (p .z-most) Z Z-finite z-le in
-        let r-finite = finite-under (R z) (ratio Z) (ratio-plain z (p .z-positive) (p .z-most)) r-le ratio-finite in
-        let rs-le : T (le (R z ⊗ s) first) =
-        le-trans (R z ⊗ s) (ratio Z ⊗ s) first (mul-monotone-finite (R z) (ratio Z) s r-finite ratio-finite s-finite r-le (unsigned-le s s-plain))
-        (rw (mul-commutative (ratio Z) s, mul-commutative (ratio Z) S) (mul-monotone-finite s S (ratio Z) s-finite S-finite ratio-finite s-le (unsigned-le (ratio Z) ratio-unsigned))) in
-        let c-le : T (le c second) = le-trans c (s ⊗ f32 0x3a800000) second (p .correction) (mul-monotone-finite s S (f32 0x3a800000) s-finite S-finite (unfold ofBits in tt) s-le (unfold le ofBits in tt)) in
-        let sum = add-under (R z ⊗ s) c first second rs-le c-le (low-finite first first-finite) (low-finite second second-finite) in
+        let s-le = root-most b in
+        let c-le : T (le c second) = le-trans c (s ⊗ f32 0x3a800000) second (p .correction) (mul-monotone-finite s S (f32 0x3a800000) (positive-finite s (p .s-positive)) S-finite (unfold ofBits in tt) s-le (unfold le ofBits in tt)) in
+        let sum = add-under (R z ⊗ s) c first second (product-most b) c-le (low-finite first first-finite) (low-finite second second-finite) in
         let whole = add-under d (R z ⊗ s ⊕ c) S (first ⊕ second) (le-trans d s S (p .d-most) s-le) sum (low-finite S S-finite) (low-finite (first ⊕ second) sum-finite) in
         rw (mul-commutative (f32 0x40000000) (d ⊕ (R z ⊗ s ⊕ c)), mul-commutative (f32 0x40000000) (S ⊕ (first ⊕ second))) (doubled-le (d ⊕ (R z ⊗ s ⊕ c)) (S ⊕ (first ⊕ second)) whole)
 

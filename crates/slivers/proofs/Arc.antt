@@ -1,26 +1,26 @@
--- The parts of the arc cosine of a number v from 0.5 to below 1: z = (1 - v) / 2 and its root s are normal numbers, d is at most s, and the correction c at most s / 1024 (`parts`). Assumes nothing.
+-- The parts of the arc cosine of a number v from 0.5 to below 1: z = (1 - v) / 2 and its root s are normal numbers, d is at most s and at least 1023 / 1024 of it, and the size of the correction c is at most s / 1024 (`parts`). Assumes nothing.
 use mathlib.Core.Path.{_≡_, refl, sym, ap, _∙_, subst}
-use Prim.Native.Nat.{ℕ, _+_, _-_, _*_, _/_, _%_, _^_, _≤_, _<_}
+use Prim.Native.Nat.{ℕ, zero, suc, _+_, _-_, _*_, _/_, _%_, _^_, _≤_, _<_}
 use native.Mathlib.Nat.{le-refl, mul-pos, mul-le-mul-right, le-of-mul-le-mul-right, le-of-lt}
 use native.Mathlib.Nat as nat
 use native.Mathlib.Omega.{arith}
 use native.Mathlib.Bridge.{IsLe, le-by-compare}
 use native.Mathlib.Decide.{decLt}
-use mathlib.Core.Bool.{false}
-use lib.Dec.{T}
+use mathlib.Core.Bool.{true, false}
+use lib.Dec.{T, eqb·suc-zero}
 use lib.Pow.{pow-add, pow-pos}
-use lib.Ieee.{Float, binary32, add, sub, neg, mul, lt, le, fits, isNan, ofBits, toBits}
+use lib.Ieee.{Float, nan, inf, fin, binary32, up, down, add, sub, neg, mul, div, lt, le, fits, isNan, ofBits, toBits}
 use lib.Ieee.Bits.{ofBits-toBits, is-false}
-use lib.Ieee.Fits.{mul-fits}
+use lib.Ieee.Fits.{mul-fits, neg-fits}
 use lib.Ieee.Exact.{HasValue}
 use lib.Ieee.Order.{le-of-values}
 use lib.Ieee.Scale.{finite}
-use lib.Ieee.Positive.{positive, positive-finite, between, den, den-pos, value→cross}
+use lib.Ieee.Positive.{positive, positive-finite, between, num, den, den-pos, value→cross}
 use Rattle.numbers.specs.Rounded.{f32, _⊕_, _⊖_, _⊗_, _⊘_}
 use Rattle.numbers.specs.Root.{root}
 use Rattle.numbers.specs.Acos.{highPart}
 use Rattle.numbers.proofs.OrderLaws.{plus, minus, le-not-lt, lt-le, le-trans, le-lt-trans, finite-number, unsigned-le}
-use Rattle.numbers.proofs.RoundedOrder.{rounds-le, rounds-own, nonnegative-minus, nonnegative-plus}
+use Rattle.numbers.proofs.RoundedOrder.{neg-le, round-neg, rounds-le, rounds-own, nonnegative-minus, nonnegative-plus}
 use Rattle.numbers.proofs.RootMonotone.{root-above}
 use Rattle.numbers.proofs.Above.{positive-signless}
 use Rattle.numbers.proofs.SumOrder.{rounds-sub, sub-antitone}
@@ -31,9 +31,9 @@ use Rattle.patterns.specs.Pattern.{unitsOf}
 use Rattle.patterns.proofs.Pattern.{units-zero, units-more, bits-value, number-bits, bits-units, units-mono}
 use Rattle.rounding_errors.proofs.Rounding.{Units, units-pos, units-positive}
 use Rattle.rounding_errors.proofs.Operations.{between-units, mul-units, div-units, add-units, root-units}
-use Rattle.slivers.proofs.Chain.{rest-under, quotient-under}
+use Rattle.slivers.proofs.Chain.{rest-under, rest-over, less-under, quotient-under}
 
-abbrev w : ℕ
+abbrev pub w : ℕ
 w = 2 ^ 149
 
 -- ---- patterns
@@ -143,8 +143,15 @@ cleared-units s n f u =
 
 -- ---- a difference
 
+pub sizes : {x : Float} {n i j : ℕ} → Units x n i j → (minus x ≡ 0) × (plus x * w ≡ n * den x)
+sizes {x} {n} u =
+    let q = units-positive u in
+    let f = positive-finite x q in
+    let l = unsigned-le x (positive-signless x q) in
+    (nonnegative-minus x f l, rw (nonnegative-plus x f l) (value→cross x n w (u .value)))
+
 -- x - p is rounded to at most y where it is at most y
-difference-le : {x p y : Float} {a b c i j k l m n : ℕ} → T (fits binary32 y) → Units x a i j → Units p b k l → Units y c m n → a ≤ b + c → T (le (x ⊖ p) y)
+pub difference-le : {x p y : Float} {a b c i j k l m n : ℕ} → T (fits binary32 y) → Units x a i j → Units p b k l → Units y c m n → a ≤ b + c → T (le (x ⊖ p) y)
 difference-le {x} {p} {y} {a} {b} {c} f u v t h =
     let sx = sizes u in
     let sp = sizes v in
@@ -155,13 +162,6 @@ difference-le {x} {p} {y} {a} {b} {c} f u v t h =
     rounds-le (mul-pos (den-pos x) (den-pos p)) (den-pos y) (rounds-sub x p fx fp) (rounds-own y f fy)
     (fractions (plus x) (minus x) (den x) (plus p) (minus p) (den p) (plus y) (minus y) (den y) w (sx .0) (sp .0) (sy .0) (sx .1) (sp .1) (sy .1) (pow-pos 149))
   where
-    sizes : {x : Float} {n i j : ℕ} → Units x n i j → (minus x ≡ 0) × (plus x * w ≡ n * den x)
-    sizes {x} {n} u =
-        let q = units-positive u in
-        let f = positive-finite x q in
-        let l = unsigned-le x (positive-signless x q) in
-        (nonnegative-minus x f l, rw (nonnegative-plus x f l) (value→cross x n w (u .value)))
-
     fractions : (X mx dx P mp dp Y my dy w : ℕ) → mx ≡ 0 → mp ≡ 0 → my ≡ 0 → X * w ≡ a * dx → P * w ≡ b * dp → Y * w ≡ c * dy → 0 < w
         → (X * dp + mp * dx) * dy + my * (dx * dp) ≤ Y * (dx * dp) + (P * dx + mx * dp) * dy
     fractions X mx dx P mp dp Y my dy w ex ep ey i j k W =
@@ -173,6 +173,47 @@ difference-le {x} {p} {y} {a} {b} {c} f u v t h =
         let o : X * dp * dy ≤ Y * (dx * dp) + P * dx * dy = le-of-mul-le-mul-right g W in
         rw (ex, ep, ey) (omega arith)
 
+pub negated : (y : Float) → T (positive y) → (plus (neg y) ≡ 0) × (minus (neg y) ≡ num y) × (den (neg y) ≡ den y) × T (finite (neg y))
+unfolding neg
+negated nan p = absurd p
+negated (inf s) p = absurd p
+negated (fin true m e) p = absurd p
+negated (fin false m e) p = (refl, refl, refl, tt)
+
+-- and to at least -y where p - x is at most y
+difference-ge : {x p y : Float} {a b c i j k l m n : ℕ} → T (fits binary32 y) → Units x a i j → Units p b k l → Units y c m n → b ≤ a + c → T (le (neg y) (x ⊖ p))
+difference-ge {x} {p} {y} {a} {b} {c} f u v t h =
+    let sx = sizes u in
+    let sp = sizes v in
+    let fx = positive-finite x (units-positive u) in
+    let fp = positive-finite p (units-positive v) in
+    let q = negated y (units-positive t) in
+    rounds-le (subst (λ (d : ℕ). 0 < d) (sym (q .2)) (den-pos y)) (mul-pos (den-pos x) (den-pos p)) (rounds-own (neg y) (neg-fits binary32 y f) (q .3)) (rounds-sub x p fx fp)
+    (rw (q .0, q .1, q .2) (fractions (plus x) (minus x) (den x) (plus p) (minus p) (den p) (num y) (den y) w (sx .0) (sp .0) (sx .1) (sp .1) (value→cross y c w (t .value)) (pow-pos 149)))
+  where
+    fractions : (X mx dx P mp dp Y dy w : ℕ) → mx ≡ 0 → mp ≡ 0 → X * w ≡ a * dx → P * w ≡ b * dp → Y * w ≡ c * dy → 0 < w
+        → 0 * (dx * dp) + (P * dx + mx * dp) * dy ≤ (X * dp + mp * dx) * dy + Y * (dx * dp)
+    fractions X mx dx P mp dp Y dy w ex ep i j k W =
+        let q = ap (λ (r : ℕ). r * (dp * dy)) i in
+        let r = ap (λ (s : ℕ). s * (dx * dy)) j in
+        let s = ap (λ (t : ℕ). t * (dx * dp)) k in
+        let t : b * (dx * dp * dy) ≤ (a + c) * (dx * dp * dy) = mul-le-mul-right (dx * dp * dy) h in
+        let g : P * dx * dy * w ≤ (Y * (dx * dp) + X * dp * dy) * w = omega arith in
+        let o : P * dx * dy ≤ Y * (dx * dp) + X * dp * dy = le-of-mul-le-mul-right g W in
+        rw (ex, ep) (omega arith)
+
+-- a quotient of a number with its sign changed
+pub div-neg : (x c : Float) → T (positive x) → T (positive c) → neg x ⊘ c ≡ neg (x ⊘ c)
+unfolding div neg
+div-neg nan c f p = absurd f
+div-neg (inf s) c f p = absurd f
+div-neg (fin true m e) c f p = absurd f
+div-neg (fin false m e) nan f p = absurd p
+div-neg (fin false m e) (inf t) f p = absurd p
+div-neg (fin false m e) (fin true n d) f p = absurd p
+div-neg (fin false m e) (fin false zero d) f p = absurd p
+div-neg (fin false m e) (fin false (suc n) d) f p = rw (eqb·suc-zero n) (round-neg binary32 false (m * up e * down d) (suc n * up d * down e))
+
 -- ---- the parts
 
 -- what is known of z, its root s and d, s with its low digits cleared
@@ -182,7 +223,9 @@ pub record Parts (z s d : Float) : Type 0 where
   pub s-positive : T (positive s)
   pub s-most : T (le s (f32 0x3f800000))
   pub d-most : T (le d s)
+  pub d-least : T (le (s ⊗ f32 0x3f7fc000) d)
   pub correction : T (le ((z ⊖ d ⊗ d) ⊘ (s ⊕ d)) (s ⊗ f32 0x3a800000))
+  pub correction-least : T (le (neg (s ⊗ f32 0x3a800000)) ((z ⊖ d ⊗ d) ⊘ (s ⊕ d)))
 
 -- 3 / 2048
 factor-units : Units (f32 0x3ac00000) (3 * 2 ^ 138) 139 140
@@ -193,6 +236,11 @@ factor-units = record { value = (refl, refl); low = le-by-compare (2 ^ 139) (3 *
 small-units : Units (f32 0x3a800000) (2 * 2 ^ 138) 139 139
 unfolding ofBits IsLe
 small-units = record { value = (refl, refl); low = le-by-compare (2 ^ 139) (2 * 2 ^ 138) tt; high = le-by-compare (2 * 2 ^ 138) (2 ^ 139) tt }
+
+-- 1023 / 1024
+less-units : Units (f32 0x3f7fc000) (2046 * 2 ^ 138) 148 149
+unfolding ofBits IsLe
+less-units = record { value = (refl, refl); low = le-by-compare (2 ^ 148) (2046 * 2 ^ 138) tt; high = le-by-compare (2046 * 2 ^ 138) (2 ^ 149) tt }
 
 one-value : HasValue (f32 0x3f800000) false (2 ^ 149) w
 unfolding ofBits
@@ -212,6 +260,11 @@ parts-of z f lo hi =
     let t = mul-units 126 139 (r .is) small-units tt in
     let under = rest-under w (2 ^ 138) (zu .0) (r .n) (e .d) (y .n) (pow-pos 138) (pow-add 2 11 138) (units-pos (r .is)) (e .cut) (p .n) (r .above) (p .above) (y .above) in
     let most = quotient-under w (2 ^ 138) (zu .0) (r .n) (e .d) (y .n) (pow-pos 138) (pow-add 2 11 138) (units-pos (r .is)) (e .cut) (a .n) (g .n) (t .n) (r .above) (y .below) (a .above) (g .below) (t .above) in
+    let k = mul-units 134 149 (r .is) less-units tt in
+    let over = rest-over w (2 ^ 138) (zu .0) (r .n) (e .d) (y .n) (pow-pos 138) (pow-add 2 11 138) (units-pos (r .is)) (e .cut) (p .n) (e .under) (r .below) (p .below) (y .above) in
+    let less = less-under w (2 ^ 138) (zu .0) (r .n) (e .d) (y .n) (pow-pos 138) (pow-add 2 11 138) (units-pos (r .is)) (e .cut) (k .n) (k .below) in
+    let most-is : T (le (z ⊗ f32 0x3ac00000 ⊘ (s ⊕ d)) (s ⊗ f32 0x3a800000)) =
+    le-of-values (z ⊗ f32 0x3ac00000 ⊘ (s ⊕ d)) (s ⊗ f32 0x3a800000) (g .n) w (t .n) w (pow-pos 149) (pow-pos 149) (g .is .value) (t .is .value) (mul-le-mul-right w most) in
     let step : T (le ((z ⊖ d ⊗ d) ⊘ (s ⊕ d)) (z ⊗ f32 0x3ac00000 ⊘ (s ⊕ d))) =
     div-monotone (z ⊖ d ⊗ d) (z ⊗ f32 0x3ac00000) (s ⊕ d) (units-positive (a .is)) (difference-le (mul-fits binary32 z (f32 0x3ac00000)) (zu .1) (p .is) (y .is) under) in
     record {
@@ -221,8 +274,12 @@ parts-of z f lo hi =
       s-most = le-of-values s (f32 0x3f800000) (r .n) w (2 ^ 149) w (pow-pos 149) (pow-pos 149) (r .is .value) one-value (mul-le-mul-right w (r .is .high));
       d-most = le-of-values d s (e .d) w (r .n) w (pow-pos 149) (pow-pos 149) (e .is .value) (r .is .value) (mul-le-mul-right w (e .under));
       correction =
-          le-trans ((z ⊖ d ⊗ d) ⊘ (s ⊕ d)) (z ⊗ f32 0x3ac00000 ⊘ (s ⊕ d)) (s ⊗ f32 0x3a800000) step
-          (le-of-values (z ⊗ f32 0x3ac00000 ⊘ (s ⊕ d)) (s ⊗ f32 0x3a800000) (g .n) w (t .n) w (pow-pos 149) (pow-pos 149) (g .is .value) (t .is .value) (mul-le-mul-right w most));
+          le-trans ((z ⊖ d ⊗ d) ⊘ (s ⊕ d)) (z ⊗ f32 0x3ac00000 ⊘ (s ⊕ d)) (s ⊗ f32 0x3a800000) step most-is;
+      d-least = le-of-values (s ⊗ f32 0x3f7fc000) d (k .n) w (e .d) w (pow-pos 149) (pow-pos 149) (k .is .value) (e .is .value) (mul-le-mul-right w less);
+      correction-least =
+          le-trans (neg (s ⊗ f32 0x3a800000)) (neg (z ⊗ f32 0x3ac00000 ⊘ (s ⊕ d))) ((z ⊖ d ⊗ d) ⊘ (s ⊕ d)) (neg-le (z ⊗ f32 0x3ac00000 ⊘ (s ⊕ d)) (s ⊗ f32 0x3a800000) most-is)
+          (rw (← div-neg (z ⊗ f32 0x3ac00000) (s ⊕ d) (units-positive (y .is)) (units-positive (a .is)))
+          (div-monotone (neg (z ⊗ f32 0x3ac00000)) (z ⊖ d ⊗ d) (s ⊕ d) (units-positive (a .is)) (difference-ge (mul-fits binary32 z (f32 0x3ac00000)) (zu .1) (p .is) (y .is) over)));
     }
 
 -- ---- of a number from 0.5 to below 1

@@ -11,6 +11,12 @@ module _ (w v z s d y : ℕ) (U : 0 < v) (W : w ≡ 2048 * v) (S : 0 < s) (cut :
   positive-w : 0 < w
   positive-w = omega arith
 
+  assoc : (z : ℕ) → z * (3 * v) ≡ z * 3 * v
+  assoc z = omega arith
+
+  scaled : (y : ℕ) → y * w ≡ y * 2048 * v
+  scaled y = let i = ap (λ (x : ℕ). y * x) W in omega arith
+
   -- z - d² is at most y
   pub rest-under : (p : ℕ) → Near 3 (z * w) (s * s) → Near 1 (d * d) (p * w) → Near 1 (z * (3 * v)) (y * w) → z ≤ p + y
   unfolding IsLe
@@ -27,14 +33,35 @@ module _ (w v z s d y : ℕ) (U : 0 < v) (W : w ≡ 2048 * v) (S : 0 < s) (cut :
       moved : (z k : ℕ) → z * w * k ≡ z * k * w
       moved z k = omega arith
 
-      assoc : (z : ℕ) → z * (3 * v) ≡ z * 3 * v
-      assoc z = omega arith
-
-      scaled : (y : ℕ) → y * w ≡ y * 2048 * v
-      scaled y = let i = ap (λ (x : ℕ). y * x) W in omega arith
-
       sum : z * 4194304 * 1000000 ≤ p * 4198401 * 1000001 → z * 3 * 1000000 ≤ y * 2048 * 1000001 → z ≤ p + y
       sum i j = omega arith
+
+  -- d² - z is at most y
+  pub rest-over : (p : ℕ) → d ≤ s → Near 3 (s * s) (z * w) → Near 1 (p * w) (d * d) → Near 1 (z * (3 * v)) (y * w) → p ≤ z + y
+  unfolding IsLe
+  rest-over p u r q h =
+      let t : Near 4 (p * w) (z * w) = near-trans q (near-trans (near-le (mul-le-mul u u)) r) in
+      let i = near-within {p = p} {q = z} 4 1000000 1000001 (le-by-compare (1000000 * 16777216 ^ 4) (1000001 * 16777215 ^ 4) tt) (near-cancel w positive-w t) in
+      let k : Near 1 (z * 3 * v) (y * 2048 * v) = near-eq (assoc z) (scaled y) h in
+      let j = near-within {p = z * 3} {q = y * 2048} 1 1000000 1000001 (le-by-compare (1000000 * 16777216 ^ 1) (1000001 * 16777215 ^ 1) tt) (near-cancel v U k) in
+      sum i j
+    where
+      sum : p * 1000000 ≤ z * 1000001 → z * 3 * 1000000 ≤ y * 2048 * 1000001 → p ≤ z + y
+      sum i j = omega arith
+
+  -- k, s less a part of 1024, is at most d
+  pub less-under : (k : ℕ) → Near 1 (k * w) (s * (2046 * v)) → k ≤ d
+  unfolding IsLe
+  less-under k h =
+      let e : Near 1 (k * 2048 * v) (s * 2046 * v) = near-eq (scaled k) (factor s) h in
+      let j = near-within {p = k * 2048} {q = s * 2046} 1 1000000 1000001 (le-by-compare (1000000 * 16777216 ^ 1) (1000001 * 16777215 ^ 1) tt) (near-cancel v U e) in
+      last j
+    where
+      factor : (s : ℕ) → s * (2046 * v) ≡ s * 2046 * v
+      factor s = omega arith
+
+      last : k * 2048 * 1000000 ≤ s * 2046 * 1000001 → k ≤ d
+      last j = omega arith
 
   -- y / (s + d) is at most e
   pub quotient-under : (a g e : ℕ) → Near 3 (z * w) (s * s) → Near 1 (y * w) (z * (3 * v)) → Near 1 (s + d) a → Near 1 (g * a) (y * w) → Near 1 (s * (2 * v)) (e * w) → g ≤ e
