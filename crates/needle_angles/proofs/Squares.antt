@@ -1,0 +1,126 @@
+-- Needles by the squares of their edges' lengths, in three classes (`needle-80`, `needle-131`, `needle-512`). Assumes nothing.
+use mathlib.Core.Path.{refl}
+use Prim.Native.Nat.{ℕ, _*_, _^_, _≤_}
+use native.Mathlib.Bridge.{IsLe, le-by-compare}
+use mathlib.Core.List.{List}
+use lib.Dec.{T}
+use lib.Pow.{pow-pos}
+use lib.Ieee.{Float, nan, binary32, mul, le, fits, isNan, ofBits}
+use lib.Ieee.Positive.{positive, positive-finite, between}
+use Rattle.numbers.specs.Rounded.{f32, _⊗_}
+use Rattle.numbers.specs.Root.{root}
+use Rattle.numbers.proofs.OrderLaws.{le-trans, unsigned-le}
+use Rattle.numbers.proofs.Above.{positive-signless}
+use Rattle.numbers.proofs.ProductOrder.{mul-monotone-finite}
+use Rattle.rounding_errors.proofs.Rounding.{Units, units-positive}
+use Rattle.rounding_errors.proofs.Operations.{between-units, mul-units, root-units, units-le}
+use Rattle.six_orders.specs.SixOrders.{AngleBound}
+use Rattle.slivers.proofs.Arc.{w}
+use Rattle.needle_angles.specs.NeedleAngles.{NeedleAngle}
+use Rattle.needle_angles.proofs.Opposite.{edges-near, edges-far}
+use Rattle.needle_angles.proofs.LeftOver.{Step, areAll}
+use Rattle.needle_angles.proofs.Table.{first, first-all, second, second-all, third, third-all}
+use Rattle.needle_angles.proofs.Bound.{needle-bound}
+
+-- 2 ^ -40 and 2 ^ 26
+abbrev tiny : Float
+tiny = f32 0x2b800000
+
+abbrev huge : Float
+huge = f32 0x4c800000
+
+huge-units : Units huge (67108864 * 2 ^ 149) 175 175
+unfolding ofBits IsLe
+huge-units = record { value = (refl, refl); low = le-by-compare (2 ^ 175) (67108864 * 2 ^ 149) tt; high = le-by-compare (67108864 * 2 ^ 149) (2 ^ 175) tt }
+
+-- the squares are neither too small nor too large
+pub record Plain (least most long : Float) : Type 0 where
+  pub from : T (le tiny least)
+  pub most-under : T (le most huge)
+  pub long-under : T (le long huge)
+  pub far : T (le long (least ⊗ huge))
+
+-- a class: edges K times as long, by the square's factor h, of k
+module _ (K : ℕ) (large : 79 ≤ K) (θ : Float) (κ : ℕ) (m : Float) (steps : List Step) (all : T (areAll K θ κ m steps)) (top : T (le (f32 κ) (f32 0x3f7fb000)))
+    (h : Float) (k : ℕ) (uh : Units h (k * 2 ^ 149) 161 168) (square : K * K * 1000001 ≤ k * 1000000) (rises : T (le tiny (tiny ⊗ h)))
+    (least most short long : Float) (p : Plain least most long) (apart : T (le (most ⊗ h) short)) where
+  module _ (x : Float) (fx : T (fits binary32 x)) (lo : T (le least x)) (hi : T (le x most)) where
+    x-from : T (le tiny x)
+    x-from = le-trans tiny least x (p .from) lo
+
+    x-units : (n : ℕ) × Units x n 109 175
+    x-units = between-units x tiny huge 109 175 fx (unfold ofBits in (refl, refl)) (unfold ofBits in (refl, refl)) x-from (le-trans x most huge hi (p .most-under))
+
+    most-positive : T (positive most)
+    most-positive = between tiny most huge (unfold ofBits in tt) (unfold ofBits in tt) (le-trans tiny x most x-from hi) (p .most-under)
+
+    least-positive : T (positive least)
+    least-positive = between tiny least huge (unfold ofBits in tt) (unfold ofBits in tt) (p .from) (le-trans least x huge lo (le-trans x most huge hi (p .most-under)))
+
+    above-zero : T (le (f32 0) h)
+    above-zero = unsigned-le h (positive-signless h (units-positive uh))
+
+    module _ (y : Float) (fy : T (fits binary32 y)) (l : T (le short y)) (r : T (le y long)) where
+      times : T (le (x ⊗ h) y)
+      times = le-trans (x ⊗ h) (most ⊗ h) y (mul-monotone-finite x most h (positive-finite x (units-positive (x-units .1))) (positive-finite most most-positive) (positive-finite h (units-positive uh)) hi above-zero) (le-trans (most ⊗ h) short y apart l)
+
+      y-from : T (le tiny y)
+      y-from = le-trans tiny (x ⊗ h) y (le-trans tiny (tiny ⊗ h) (x ⊗ h) rises (mul-monotone-finite tiny x h (unfold ofBits in tt) (positive-finite x (units-positive (x-units .1))) (positive-finite h (units-positive uh)) x-from above-zero)) times
+
+      y-units : (n : ℕ) × Units y n 109 175
+      y-units = between-units y tiny huge 109 175 fy (unfold ofBits in (refl, refl)) (unfold ofBits in (refl, refl)) y-from (le-trans y long huge r (p .long-under))
+
+      under : T (le y (x ⊗ huge))
+      under =
+          le-trans y (least ⊗ huge) (x ⊗ huge) (le-trans y long (least ⊗ huge) r (p .far))
+          (mul-monotone-finite least x huge (positive-finite least least-positive) (positive-finite x (units-positive (x-units .1))) (unfold ofBits in tt) lo (unfold le ofBits in tt))
+
+      near : root-units 128 163 fx (x-units .1) tt .n * K ≤ root-units 128 163 fy (y-units .1) tt .n
+      near =
+          let i = root-units 128 163 fx (x-units .1) tt in
+          let j = root-units 128 163 fy (y-units .1) tt in
+          let z = mul-units 121 194 (x-units .1) uh tt in
+          edges-near w (i .n) (j .n) (x-units .0) (y-units .0) (z .n) (pow-pos 149) K k square (i .below) (z .above) (units-le (z .is) (y-units .1) times) (j .above)
+
+      not-far : root-units 128 163 fy (y-units .1) tt .n ≤ root-units 128 163 fx (x-units .1) tt .n * 8193
+      not-far =
+          let i = root-units 128 163 fx (x-units .1) tt in
+          let j = root-units 128 163 fy (y-units .1) tt in
+          let z = mul-units 135 201 (x-units .1) huge-units tt in
+          edges-far w (i .n) (j .n) (x-units .0) (y-units .0) (z .n) (pow-pos 149) (j .below) (units-le (y-units .1) (z .is) under) (z .below) (i .above)
+
+  of-class : NeedleAngle least most short long θ
+  of-class = record {
+    bound = λ x y z fx fy fz a b c d e f.
+        let i = root-units 128 163 fx (x-units x fx a b .1) tt in
+        let j = root-units 128 163 fy (y-units x fx a b y fy c d .1) tt in
+        let o = root-units 128 163 fz (y-units x fx a b z fz e f .1) tt in
+        needle-bound K large θ κ m steps all top (root x) (root y) (root z) (i .n) (j .n) (o .n) (i .is) (j .is) (o .is) (near x fx a b y fy c d) (near x fx a b z fz e f) (not-far x fx a b y fy c d) (not-far x fx a b z fz e f);
+  }
+
+-- ---- the classes
+
+module _ {least most short long : Float} (p : Plain least most long) where
+  pub needle-80 : T (le (most ⊗ f32 0x45c80800) short) → NeedleAngle least most short long (f32 0x3de147ae)
+  unfolding IsLe
+  needle-80 h = of-class 80 (le-by-compare 79 80 tt) (f32 0x3de147ae) 0x3f7e8000 (f32 0x3fc2cf04) first first-all (unfold le ofBits in tt) (f32 0x45c80800) 6401 units (le-by-compare (80 * 80 * 1000001) (6401 * 1000000) tt) (unfold le mul ofBits in tt) least most short long p h
+    where
+      units : Units (f32 0x45c80800) (6401 * 2 ^ 149) 161 168
+      units = unfold ofBits in record { value = (refl, refl); low = le-by-compare (2 ^ 161) (6401 * 2 ^ 149) tt; high = le-by-compare (6401 * 2 ^ 149) (2 ^ 168) tt }
+
+  pub needle-131 : T (le (most ⊗ f32 0x46861400) short) → NeedleAngle least most short long (f32 0x3da3d70a)
+  unfolding IsLe
+  needle-131 h = of-class 131 (le-by-compare 79 131 tt) (f32 0x3da3d70a) 0x3f7f3000 (f32 0x3fc42f75) second second-all (unfold le ofBits in tt) (f32 0x46861400) 17162 units (le-by-compare (131 * 131 * 1000001) (17162 * 1000000) tt) (unfold le mul ofBits in tt) least most short long p h
+    where
+      units : Units (f32 0x46861400) (17162 * 2 ^ 149) 161 168
+      units = unfold ofBits in record { value = (refl, refl); low = le-by-compare (2 ^ 161) (17162 * 2 ^ 149) tt; high = le-by-compare (17162 * 2 ^ 149) (2 ^ 168) tt }
+
+  pub needle-512 : T (le (most ⊗ f32 0x48800020) short) → NeedleAngle least most short long (f32 0x3d4ccccd)
+  unfolding IsLe
+  needle-512 h = of-class 512 (le-by-compare 79 512 tt) (f32 0x3d4ccccd) 0x3f7fb000 (f32 0x3fc5efc0) third third-all (unfold le ofBits in tt) (f32 0x48800020) 262145 units (le-by-compare (512 * 512 * 1000001) (262145 * 1000000) tt) (unfold le mul ofBits in tt) least most short long p h
+    where
+      units : Units (f32 0x48800020) (262145 * 2 ^ 149) 161 168
+      units = unfold ofBits in record { value = (refl, refl); low = le-by-compare (2 ^ 161) (262145 * 2 ^ 149) tt; high = le-by-compare (262145 * 2 ^ 149) (2 ^ 168) tt }
+
+pub no-needle : (least most short long : Float) → NeedleAngle least most short long nan
+no-needle least most short long = record { bound = λ x y z fx fy fz a b c d e f. record { most = λ u v t o n. absurd (unfold isNan in n) } }
