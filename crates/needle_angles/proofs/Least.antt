@@ -10,7 +10,7 @@ use lib.Ieee.Positive.{positive, positive-finite, between}
 use Rattle.numbers.specs.Rounded.{f32, _⊕_, _⊖_, _⊗_, _⊘_}
 use Rattle.numbers.specs.Root.{root}
 use Rattle.numbers.specs.Bounds.{unsigned, Bounded}
-use Rattle.numbers.specs.Acos.{R, cleared, acosMiddle, acosLow, acosHigh}
+use Rattle.numbers.specs.Acos.{R, highPart, acosMiddle, acosLow, acosHigh}
 use Rattle.numbers.proofs.Above.{positive-signless, finite-under}
 use Rattle.numbers.proofs.OrderLaws.{le-left, le-right, lt-le, le-or-lt, le-not-lt, le-trans, le-lt-trans, lt-le-trans, unsigned-le}
 use Rattle.numbers.proofs.RoundedOrder.{neg-le}
@@ -96,7 +96,7 @@ high-least κ v f g lo h hi =
     let S = root Z in
     let z = zOf v in
     let s = root z in
-    let d = cleared s in
+    let d = highPart s in
     let c = (z ⊖ d ⊗ d) ⊘ (s ⊕ d) in
     let lo-κ = le-trans half v κ lo h in
     let hi-v = le-lt-trans v κ one h hi in
