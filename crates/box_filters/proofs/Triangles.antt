@@ -26,22 +26,22 @@ use Rattle.box_filters.specs.RefusedWithin.{EdgesOf, Points, AreasOf, Th
 
 -- ---- what intervals hold
 
-record Squares (e : Edges) (a b c : Point3f) : Type 0 where
-  pq-square : Holds (e .pq) (squared a b)
-  pt-square : Holds (e .pt) (squared a c)
-  qt-square : Holds (e .qt) (squared b c)
+pub record Squares (e : Edges) (a b c : Point3f) : Type 0 where
+  pub pq-square : Holds (e .pq) (squared a b)
+  pub pt-square : Holds (e .pt) (squared a c)
+  pub qt-square : Holds (e .qt) (squared b c)
 
 module _ {p q t : Bounds} {a b c : Point3f} (s : Points p q t a b c) where
-  to-q : T (within (differencesOf q p) (difference b a))
+  pub to-q : T (within (differencesOf q p) (difference b a))
   to-q = differences-has q p b a (s .b-finite) (s .a-finite) (s .b-within) (s .a-within)
 
-  to-t : T (within (differencesOf t p) (difference c a))
+  pub to-t : T (within (differencesOf t p) (difference c a))
   to-t = differences-has t p c a (s .c-finite) (s .a-finite) (s .c-within) (s .a-within)
 
-  from-q : T (within (differencesOf t q) (difference c b))
+  pub from-q : T (within (differencesOf t q) (difference c b))
   from-q = differences-has t q c b (s .c-finite) (s .b-finite) (s .c-within) (s .b-within)
 
-  edges-held : {e : Edges} → EdgesOf p q t e → Squares e a b c
+  pub edges-held : {e : Edges} → EdgesOf p q t e → Squares e a b c
   unfolding squared
   edges-held h = record {
     pq-square = rw (squared-turned a b) (h .pq-held .holds (difference b a) to-q);
@@ -65,7 +65,7 @@ areas-held p q t hx hy hz j k = record {
 -- ---- by which ends all are refused
 
 module _ {p : Point3f} {q t at : Bounds} {e : Edges} (own : Finite p → T (within at p)) (edges : EdgesOf at q t e) where
-  points : (b c : Point3f) → Finite p → Finite b → Finite c → T (within q b) → T (within t c) → Points at q t p b c
+  pub points : (b c : Point3f) → Finite p → Finite b → Finite c → T (within q b) → T (within t c) → Points at q t p b c
   points b c f g h i j = record { a-finite = f; b-finite = g; c-finite = h; a-within = own f; b-within = i; c-within = j }
 
   pub far-within : {l : Limits} → T (lt (l .far) (e .qt .lo)) → RefusedWithin l p q t
@@ -75,7 +75,7 @@ module _ {p : Point3f} {q t at : Bounds} {e : Edges} (own : Finite p → T (with
 
   -- where no edge is too long
   module _ {r : Interval} (short : T (le (e .pq .hi) (f32 0x7f7fffff) && (le (e .pt .hi) (f32 0x7f7fffff) && le (e .qt .hi) (f32 0x7f7fffff)))) (areas : AreasOf at q t r) where
-    areas-of : (b c : Point3f) → Points at q t p b c → Holds r (crossSquared p b c) × Holds r (crossSquared b p c) × Holds r (crossSquared c p b)
+    pub areas-of : (b c : Point3f) → Points at q t p b c → Holds r (crossSquared p b c) × Holds r (crossSquared b p c) × Holds r (crossSquared c p b)
     areas-of b c s =
         let k = and-r (le (e .pq .hi) (f32 0x7f7fffff)) (le (e .pt .hi) (f32 0x7f7fffff) && le (e .qt .hi) (f32 0x7f7fffff)) short in
         areas .held (magnitudes-moderate _ (edges .pq-held) (and-l (le (e .pq .hi) (f32 0x7f7fffff)) (le (e .pt .hi) (f32 0x7f7fffff) && le (e .qt .hi) (f32 0x7f7fffff)) short) (difference b p) (to-q s))

@@ -8,6 +8,7 @@ ghost use mathlib.Core.Path.{_≡_};
 ghost use mathlib.Core.Bool.{true};
 ghost use Rattle.intervals.specs.Enclosed.{differencesOf, CrossSquares};
 ghost use Rattle.box_filters.specs.RefusedWithin.{EdgesOf, AreasOf, ThinBy, RefusedBy, RefusedWithin};
+ghost use Rattle.box_filters.specs.LowWithin.{LowBy, LowWithin};
 
 // The squares of the lengths of three edges: of those between points of p and q, of p and t, and of q and t.
 pub struct Edges {
@@ -89,4 +90,36 @@ pub fn is_refused_within(l: Limits, p: Point3f, q: Bounds, t: Bounds) -> bool
     }
     let area = areas_of(at, q, t, own);
     refuses(l, e, area)
+}
+
+// Whether the score of all triangles with such edges and areas is below a threshold in each order, whatever their
+// angles.
+fn are_low(threshold: f32, e: Edges, area: f32) -> bool
+    ensures { λ r. ⌜ (r ≡ true → LowBy threshold e area) ⌝ }
+{
+    let shortest = numbers::sqrt(numbers::min(numbers::min(e.pq.hi, e.pt.hi), e.qt.hi));
+    let a = numbers::sqrt(e.pq.lo);
+    let b = numbers::sqrt(e.pt.lo);
+    let c = numbers::sqrt(e.qt.lo);
+    six_orders::is_low_from(threshold, a, b, c, shortest, numbers::sqrt(area) * 0.5)
+}
+
+// Whether the score of every triangle of p, a point of q and a point of t is below a threshold in each order.
+pub fn is_low_within(threshold: f32, p: Point3f, q: Bounds, t: Bounds) -> bool
+    ensures { λ r. ⌜ (r ≡ true → LowWithin threshold p q t) ⌝ }
+{
+    let at = intervals::point_box(p);
+    let e = edges_of(at, q, t);
+    if !filters::are_at_most(e.pq.hi, e.pt.hi, e.qt.hi, 3.4028235e38) {
+        return false;
+    }
+    let own = intervals::cross_squares(
+        intervals::differences(q, at),
+        intervals::differences(t, at),
+    );
+    if !are_low(threshold, e, own.hi) {
+        return false;
+    }
+    let area = areas_of(at, q, t, own);
+    are_low(threshold, e, area.hi)
 }

@@ -21,14 +21,8 @@ use Rattle.long_edges.proofs.Edges.{long-swapped, long-turned, long-edges}
 use Rattle.decisions.specs.declared.Scene.{Scene}
 use Rattle.decisions.specs.Decisions.{accepts}
 use Rattle.filters.specs.Refused.{RefusedEach}
-
-area-is : (p q t : Point3f) → area p q t ≡ root (crossSquared p q t) ⊗ half
-unfolding area magnitude crossSquared
-area-is p q t = refl
-
-cross-fits : (p q t : Point3f) → T (fits binary32 (crossSquared p q t))
-unfolding crossSquared
-cross-fits p q t = magnitude-fits (cross (difference q p) (difference t p))
+use Rattle.filters.proofs.Refusals.{area-is}
+use Rattle.filters.proofs.Throughout.{cross-fits}
 
 measures-long : (a b c x t r m threshold factor : Float) → T (lt (r ⊗ factor) (edgeRatio a b c ⊗ root x)) → acceptable (measures a b c x t) r m threshold factor ≡ false
 unfolding measures

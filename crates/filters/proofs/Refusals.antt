@@ -39,7 +39,7 @@ refused-turned {l} {p} {q} {t} (thin h) = thin (rw (cross-squared-turned p t q, 
 
 -- ---- too thin
 
-area-is : (p q t : Point3f) → area p q t ≡ root (crossSquared p q t) ⊗ half
+pub area-is : (p q t : Point3f) → area p q t ≡ root (crossSquared p q t) ⊗ half
 unfolding area magnitude crossSquared
 area-is p q t = refl
 

@@ -2,8 +2,8 @@
 use mathlib.Core.Path.{_≡_}
 use mathlib.Core.Bool.{not, _&&_}
 use lib.Dec.{T}
-use lib.Ieee.{Float, le, isNan, ofBits}
-use lib.Ieee.Fits.{and-i, and-l, and-r}
+use lib.Ieee.{Float, binary32, le, isNan, ofBits}
+use lib.Ieee.Fits.{and-i, and-l, and-r, add-fits}
 use lib.Ieee.Scale.{finite}
 use Rattle.numbers.specs.Order.{minimum, maximum}
 use Rattle.numbers.specs.Rounded.{f32, _⊕_, _⊖_, _⊗_}
@@ -129,6 +129,10 @@ pub magnitudes-held : (v : Bounds) {x y z : Interval} → Squares (v .lo .x) (v 
     → Magnitudes v (record { lo = x .lo ⊕ y .lo ⊕ z .lo; hi = x .hi ⊕ y .hi ⊕ z .hi })
 unfolding magnitudeSquared
 magnitudes-held v {x} {y} {z} a b c = record {
+  held = (add-fits binary32 (x .lo ⊕ y .lo) (z .lo), add-fits binary32 (x .hi ⊕ y .hi) (z .hi));
+  above = λ u h.
+      let i = inside v u h in
+      unsigned-le _ (add-unsigned (x .lo ⊕ y .lo) (z .lo) (add-unsigned (x .lo) (y .lo) (a .signless (u .x) (i .x-in) .0) (b .signless (u .y) (i .y-in) .0)) (c .signless (u .z) (i .z-in) .0));
   holds = λ u h.
       let i = inside v u h in
       let p = u .x ⊗ u .x in

@@ -1,9 +1,9 @@
 -- Intervals and boxes that hold what is worked out from numbers in others. Definitions only.
 use lib.Dec.{T}
-use lib.Ieee.{Float, le}
+use lib.Ieee.{Float, binary32, le, fits}
 use lib.Ieee.Scale.{finite}
 use Rattle.numbers.specs.Bounds.{unsigned}
-use Rattle.numbers.specs.Rounded.{_⊖_, _⊗_}
+use Rattle.numbers.specs.Rounded.{f32, _⊖_, _⊗_}
 use Rattle.vector.specs.Vector.{Finite, difference, magnitudeSquared, cross}
 use Rattle.vector.specs.declared.Point3f.{Point3f}
 use Rattle.bounds.specs.declared.Interval.{Interval}
@@ -60,8 +60,11 @@ pub record ModerateBox (v : Bounds) : Type 0 where
   pub y-moderate : Moderate (v .lo .y) (v .hi .y)
   pub z-moderate : Moderate (v .lo .z) (v .hi .z)
 
--- r holds the squared lengths of the vectors of a box; if it has a finite end, the box is moderate
+-- r holds the squared lengths of the vectors of a box, and begins at zero or above; if it has a finite end, the box is
+-- moderate
 pub record Magnitudes (v : Bounds) (r : Interval) : Type 0 where
+  pub held : T (fits binary32 (r .lo)) × T (fits binary32 (r .hi))
+  pub above : (u : Point3f) → T (within v u) → T (le (f32 0) (r .lo))
   pub holds : (u : Point3f) → T (within v u) → Holds r (magnitudeSquared u)
   pub moderate : T (finite (r .hi)) → (u : Point3f) → T (within v u) → ModerateBox v
 

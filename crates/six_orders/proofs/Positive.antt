@@ -2,19 +2,20 @@
 use Prim.Native.Nat.{zero, suc, _*_}
 use native.Mathlib.Nat.{mul-pos}
 use native.Mathlib.Omega.{arith}
-use mathlib.Core.Path.{_≡_}
+use mathlib.Core.Path.{_≡_, refl}
 use mathlib.Core.Bool.{Bool, true, false, not, cond}
 use lib.Dec.{T, ltb→lt, eqb·suc-zero}
 use lib.Ieee.{Float, nan, inf, fin, binary32, up, down, mul, div, lt, le, fits, isNan, ofBits}
 use lib.Ieee.Fits.{up-pos}
 use lib.Ieee.Scale.{finite}
-use lib.Ieee.Positive.{positive, den-pos}
+use lib.Ieee.Positive.{positive, positive-finite, den-pos}
 use Rattle.numbers.specs.Rounded.{f32, _⊗_, _⊘_}
 use Rattle.numbers.specs.Order.{minimum, maximum}
 use Rattle.numbers.specs.Bounds.{unsigned}
-use Rattle.numbers.proofs.OrderLaws.{side→lt, le-left, le-right, lt-le, le-trans, lt-le-trans, positive-unsigned, unsigned-le, unsigned-number, le-antisymmetric}
+use Rattle.numbers.proofs.OrderLaws.{side→lt, le-left, le-right, le-refl, lt-le, le-trans, lt-le-trans, positive-unsigned, unsigned-le, unsigned-number, le-antisymmetric}
 use Rattle.numbers.proofs.Above.{positive-is, positive-signless}
 use Rattle.numbers.proofs.RoundedOrder.{round-unsigned}
+use Rattle.numbers.proofs.ProductOrder.{mul-monotone, mul-monotone-finite, mul-commutative}
 use Rattle.numbers.proofs.QuotientOrder.{div-unsigned, div-antitone}
 use Rattle.numbers.proofs.Minimum.{minimum-first, minimum-le}
 use Rattle.numbers.proofs.Maximum.{maximum-left, maximum-right}
@@ -60,6 +61,26 @@ mul-unsigned (fin false m e) nan u p = absurd p
 mul-unsigned (fin false m e) (inf t) u p = absurd p
 mul-unsigned (fin false m e) (fin true n d) u p = absurd p
 mul-unsigned (fin false m e) (fin false n d) u p = unfold mul in round-unsigned binary32 (m * up e * (n * up d)) (down e * down d)
+
+-- times an infinity too
+mul-right : (k c z : Float) → T (unsigned k) → T (positive c) → T (positive z) → T (le c z) → T (le (k ⊗ c) (k ⊗ z))
+mul-right nan c z u p q h = absurd u
+mul-right (inf true) c z u p q h = absurd u
+mul-right (fin s m e) c z u p q h = rw (mul-commutative (fin s m e) c, mul-commutative (fin s m e) z) (mul-monotone-finite c z (fin s m e) (positive-finite c p) (positive-finite z q) tt h (unsigned-le (fin s m e) u))
+mul-right (inf false) c z u p q h = rw (infinite c p, infinite z q) (le-refl (inf false) (unfold isNan in tt))
+  where
+    infinite : (c : Float) → T (positive c) → inf false ⊗ c ≡ inf false
+    infinite nan p = absurd p
+    infinite (inf t) p = absurd p
+    infinite (fin true n d) p = absurd p
+    infinite (fin false zero d) p = absurd p
+    infinite (fin false (suc n) d) p = unfold mul in rw (eqb·suc-zero n) refl
+
+pub mul-grows : (x y c z : Float) → T (unsigned x) → T (unsigned y) → T (positive c) → T (positive z) → T (le x y) → T (le c z) → T (le (x ⊗ c) (y ⊗ z))
+mul-grows x y c z u v p q h k =
+    le-trans (x ⊗ c) (y ⊗ c) (y ⊗ z)
+    (mul-monotone x y c (positive-finite c p) h (unsigned-le c (positive-signless c p)) (unsigned-number (x ⊗ c) (mul-unsigned x c u p)) (unsigned-number (y ⊗ c) (mul-unsigned y c v p)))
+    (mul-right y c z v p q k)
 
 -- by an infinity too
 pub div-plain : (x d : Float) → T (finite x) → T (unsigned x) → T (lt (f32 0) d) → T (unsigned (x ⊘ d))

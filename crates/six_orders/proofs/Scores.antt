@@ -1,21 +1,23 @@
--- A score is at most that of a larger least angle, a larger aspect ratio and a lesser edge ratio, so one score below a threshold puts another below it (`score-below`) and those of all orders (`all-below`). Assumes nothing.
+-- A score is at most that of a larger least angle, a larger aspect ratio and a lesser edge ratio, so one score below a threshold puts another below it (`score-below`), those of all orders (`all-below`), and of all edges that are not shorter (`all-below-from`). Assumes nothing.
 use mathlib.Core.Path.{_≡_, refl}
 use mathlib.Core.Bool.{Bool, true, false, not, cond}
 use lib.Dec.{T}
 use lib.Ieee.{Float, nan, inf, fin, div, lt, le, isNan, ofBits}
+use lib.Ieee.Scale.{finite}
 use lib.Ieee.Positive.{positive, positive-finite}
 use Rattle.numbers.specs.Rounded.{f32, _⊗_, _⊘_}
 use Rattle.numbers.specs.Order.{minimum}
-use Rattle.numbers.proofs.Above.{positive-signless}
-use Rattle.numbers.proofs.OrderLaws.{le-left, le-trans, le-lt-trans, not-lt-le}
+use Rattle.numbers.proofs.Above.{positive-is, positive-signless}
+use Rattle.numbers.proofs.OrderLaws.{le-left, le-trans, lt-le-trans, le-lt-trans, not-lt-le}
 use Rattle.numbers.proofs.QuotientOrder.{div-monotone}
 use Rattle.numbers.proofs.Minimum.{minimum-either, minimum-first, minimum-le}
 use Rattle.quality.specs.Measures.{tiny, radiusOf, aspectRatio, edgeRatio, score, measures, degenerate}
 use Rattle.quality.specs.Shape.{qualityOf}
 use Rattle.score_bounds.proofs.Bounds.{part}
 use Rattle.score_bounds.proofs.Aspect.{doubled-le, mean-under, below-low}
-use Rattle.six_orders.specs.SixOrders.{InOrder, abc, acb, bac, bca, cab, cba, leastAngle, AngleBound, AspectBound, EdgeBound, AllBelow}
-use Rattle.six_orders.proofs.Positive.{div-falls}
+use Rattle.six_orders.specs.SixOrders.{InOrder, abc, acb, bac, bca, cab, cba, leastAngle, AngleBound, AspectBound, EdgeBound, AllBelow, NotShorter, AspectFrom, EdgeFrom, AllBelowFrom}
+use Rattle.six_orders.proofs.Positive.{above-zero, div-falls}
+use Rattle.six_orders.proofs.Angles.{no-angle-bound}
 
 -- ---- the parts of a score
 
@@ -83,6 +85,20 @@ module _ (a b c m t e X threshold : Float) (above : T (lt (f32 0) threshold)) (a
       at : (u v w r : Float) → InOrder a b c u v w → T (le r X) → (k : Bool) → lt r tiny ≡ k → T (lt (cond k (degenerate r) (measures u v w r (radiusOf u v w r)) .«quality_score») threshold)
       at u v w r o h true e = above
       at u v w r o h false e = score-low u v w r o (not-lt-le r tiny (le-left r X h) tiny-number (rw e tt)) h
+
+-- ---- edges that are not shorter
+
+not-shorter : {a x : Float} → T (positive a) → T (finite x) → T (le a x) → NotShorter a x
+not-shorter {a} {x} p f h = record { shorter = p; own = positive-is x (lt-le-trans (f32 0) a x (above-zero a p) h) f; least = h }
+
+pub all-below-from : {a b c s t e X threshold : Float} → T (lt (f32 0) threshold) → T (positive a) × T (positive b) × T (positive c) → AspectFrom a b c X t → T (not (isNan t)) → EdgeFrom a b c s e → T (lt (score nan t e) threshold) → AllBelowFrom threshold X a b c s
+all-below-from {t = t} {e = e} {X = X} {threshold = threshold} above p aspects number edges low = record {
+  longer = λ x y z f g h i j k o.
+      let A = not-shorter (p .0) f i in
+      let B = not-shorter (p .1) g j in
+      let C = not-shorter (p .2) h k in
+      all-below x y z nan t e X threshold above (no-angle-bound x y z) (aspects .longer x y z A B C) number (edges .longer x y z A B C o) low;
+}
 
 -- ---- edges in another order
 

@@ -5,7 +5,8 @@ ghost use mathlib.Core.Bool.{true, not};
 ghost use lib.Dec.{T};
 ghost use lib.Ieee.{binary32, fits, isNan};
 ghost use lib.Ieee.Positive.{positive};
-ghost use Rattle.six_orders.specs.SixOrders.{AngleBound, AspectBound, EdgeBound, AllBelow};
+ghost use Rattle.six_orders.specs.SixOrders.{AngleBound, AspectFrom, EdgeBound, AllBelow};
+ghost use Rattle.six_orders.specs.SixOrders.{EdgeFrom, AllBelowFrom};
 
 // Whether x is above zero, and not infinite.
 fn is_positive(x: f32) -> bool
@@ -67,11 +68,11 @@ fn angle_bound(a: f32, b: f32, c: f32) -> f32
     numbers::max(numbers::max(x, forward), backward)
 }
 
-// What the aspect ratio is at most in each order, with areas up to a largest one: with the least of the sums and of the
-// products.
+// What the aspect ratio is at most in each order, with areas up to a largest one and edges that are not shorter: with
+// the least of the sums and of the products.
 fn aspect_bound(a: f32, b: f32, c: f32, area: f32) -> f32
     requires { ⌜ T (positive a) × T (positive b) × T (positive c) ⌝ }
-    ensures { λ t. ⌜ AspectBound a b c area t ⌝ }
+    ensures { λ t. ⌜ AspectFrom a b c area t ⌝ }
 {
     let half = quality::measure::least(a + b + c, a + c + b, b + c + a) * 0.5;
     let product = quality::measure::least(a * b * c, a * c * b, b * c * a);
@@ -95,6 +96,19 @@ fn edge_bound(a: f32, b: f32, c: f32) -> f32
     let e = numbers::max(b, c) / a;
     if is_positive(e) {
         return e;
+    }
+    0.0 / 0.0
+}
+
+// What the edge ratio is at least in each order of edges that are not shorter, and of which one is not longer than s.
+fn edge_from(a: f32, b: f32, c: f32, s: f32) -> f32
+    ensures { λ e. ⌜ EdgeFrom a b c s e ⌝ }
+{
+    let e = numbers::max(numbers::max(a, b), c) / s;
+    if is_positive(s) {
+        if is_positive(e) {
+            return e;
+        }
     }
     0.0 / 0.0
 }
@@ -131,4 +145,21 @@ pub fn is_low(threshold: f32, a: f32, b: f32, c: f32, area: f32) -> bool
         return is_low_by(threshold, b, a, c, area);
     }
     is_low_by(threshold, c, a, b, area)
+}
+
+// Whether it is with all edges that are not shorter, and of which one is not longer than s; told without any angle.
+pub fn is_low_from(threshold: f32, a: f32, b: f32, c: f32, s: f32, area: f32) -> bool
+    ensures { λ r. ⌜ (r ≡ true → AllBelowFrom threshold area a b c s) ⌝ }
+{
+    if !(0.0 < threshold) {
+        return false;
+    }
+    if !are_positive(a, b, c) {
+        return false;
+    }
+    let aspect = aspect_bound(a, b, c, area);
+    if !(aspect <= 4.0) {
+        return false;
+    }
+    quality::score(0.0 / 0.0, aspect, edge_from(a, b, c, s)) < threshold
 }

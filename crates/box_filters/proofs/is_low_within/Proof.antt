@@ -1,0 +1,65 @@
+-- `is_low_within` meets its contract. Assumes nothing.
+use mathlib.Core.Path.{sym, subst}
+use lib.Dec.{T}
+use borrow.Author.Tests.{not-false}
+use Rattle.box_filters.proofs.Low.{low-within}
+use borrow.Author.Needs.{needs}
+use Rattle.box_filters.proofs.is_low_within.Statement.{statement}
+use Rattle.box_filters.proofs.is_low_within.Tie as tie
+
+point-box-requires : tie.Need-point-box-requires
+point-box-requires c κs = search needs
+
+edges-of-requires : tie.Need-edges-of-requires
+edges-of-requires c κs = search needs
+
+are-at-most-requires : tie.Need-are-at-most-requires
+are-at-most-requires c κs = search needs
+
+returns : tie.Need-returns
+returns c = λ h. absurd (subst T (sym h) tt)
+
+differences-requires : tie.Need-differences-requires
+differences-requires c κs = search needs
+
+differences-requires-2 : tie.Need-differences-requires-2
+differences-requires-2 c κs = search needs
+
+cross-squares-requires : tie.Need-cross-squares-requires
+cross-squares-requires c κs = search needs
+
+are-low-requires : tie.Need-are-low-requires
+are-low-requires c κs = search needs
+
+returns-2 : tie.Need-returns-2
+returns-2 c = λ h. absurd (subst T (sym h) tt)
+
+areas-of-requires : tie.Need-areas-of-requires
+areas-of-requires c κs = let x = c .before .before in rw (← x .before .before .differences .ensures, ← x .before .differences2 .ensures) (x .cross-squares .ensures)
+
+are-low-requires-2 : tie.Need-are-low-requires-2
+are-low-requires-2 c κs = search needs
+
+returns-3 : tie.Need-returns-3
+returns-3 c =
+    let a = c .before in
+    let m = a .before .before .before .before .before .before .before in
+    let e = m .before in
+    λ h. low-within (e .before .point-box .ensures) (e .edges-of .ensures) (rw (← m .are-at-most .ensures, not-false (m .are-at-most .result) (a .before .before .before .before .before .before .if1 .left)) tt) (a .areas-of .ensures) (c .are-low2 .ensures h)
+
+pub is-low-within-spec : {M : Type 1} → statement M
+is-low-within-spec =
+    tie.close
+    (tie.spec
+    point-box-requires
+    edges-of-requires
+    are-at-most-requires
+    returns
+    differences-requires
+    differences-requires-2
+    cross-squares-requires
+    are-low-requires
+    returns-2
+    areas-of-requires
+    are-low-requires-2
+    returns-3)
