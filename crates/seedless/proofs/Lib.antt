@@ -1,3 +1,4 @@
 pub mod Laws
 pub mod Nothing
 pub mod Threes
+pub mod Reordering

@@ -31,7 +31,9 @@ use Rattle.nearby.proofs.Narrowing.{out-of-reach, in-reach}
 use Rattle.three_points.specs.Judged.{Seedless, Judged}
 use Rattle.three_points.proofs.Refused.{apart-seedless, seedless-turned}
 use Rattle.seedless.specs.Parts.{withFirst}
-use Rattle.seedless.specs.Seedless.{AllSeedless, isOther, isLeft, SeedlessFrom, SeedlessBetween, Stands, Left, AllLeftSeedless}
+use Rattle.seedless.specs.Seedless.{isOther, isLeft, SeedlessFrom, SeedlessBetween, Stands, Left, Reordered, AllLeftSeedless}
+use Rattle.seedless_pairs.specs.declared.Range.{Range}
+use Rattle.seedless_pairs.specs.Pairs.{PairsSeedless, Spans}
 use Rattle.flatness.proofs.Below.{below-next}
 use Rattle.seedless.proofs.Nothing.{first-around, completes-third, close-second}
 use Rattle.regions.specs.Regions.{neighborsAt}
@@ -130,15 +132,18 @@ apart-order a b d = ⊎-elim
     (λ (t : ltb a b ≡ false). ⊎-elim (λ (u : ltb b a ≡ true). inr (ltb-true b a u)) (λ (u : ltb b a ≡ false). absurd (d (omega (arith, ltb-false a b t, ltb-false b a u)))) (either (ltb b a)))
     (either (ltb a b))
 
--- each two of those that are left were looked at
-pub left-seedless : {s : Scene} {pts : List Float} {r : Float} {lo i : ℕ} {w v : List ℕ} {found c : ℕ} → Left s lo i w v found c → AllSeedless s pts r v c i → AllLeftSeedless s pts r lo i w found
-left-seedless {s} {pts} {r} {lo} {i} {w} {v} {found} {c} x all j k pj pk hj hk ne = two (x .complete j pj hj) (x .complete k pk hk)
+-- each two of those that are left were looked at, in another order
+pub left-seedless : {s : Scene} {pts : List Float} {r : Float} {lo i : ℕ} {w u v : List ℕ} {found c : ℕ} {q : Range} → Left s lo i w u found c → Reordered s u v c → Spans s pts v 0 c q → PairsSeedless s pts r v i q q → AllLeftSeedless s pts r lo i w found
+left-seedless {s} {pts} {r} {lo} {i} {w} {u} {v} {found} {c} {q} x o span all j k pj pk hj hk ne = two (o .complete j (x .complete j pj hj)) (o .complete k (x .complete k pk hk))
   where
     word : ℕ → ℕ
     word m = nth s v m
 
+    later : (a b : ℕ) → b < c → a < b → Seedless s pts r i (word a) (word b)
+    later a b hb h = all a b (omega (arith, span .from-is)) (omega (arith, span .to-is)) (omega (arith, span .from-is)) (omega (arith, span .to-is)) h
+
     at : (a b : ℕ) → a < c → b < c → word a ≢ word b → Seedless s pts r i (word a) (word b)
-    at a b ha hb d = ⊎-elim (λ (t : a < b). all a ha b (omega arith) hb) (λ (t : b < a). seedless-turned (all b hb a (omega arith) ha)) (apart-order a b (λ e. d (ap word e)))
+    at a b ha hb d = ⊎-elim (λ (t : a < b). later a b hb t) (λ (t : b < a). seedless-turned (later b a ha t)) (apart-order a b (λ e. d (ap word e)))
 
     two : Stands s v c j → Stands s v c k → Seedless s pts r i j k
     two p q =

@@ -1,5 +1,5 @@
 -- Points no three of which make a seed, whichever of them comes first. Definitions only.
-use Prim.Native.Nat.{ℕ, _+_, _≤_, _<_}
+use Prim.Native.Nat.{ℕ, _≤_, _<_}
 use mathlib.Core.Path.{_≡_}
 use mathlib.Core.Logic.{_≢_}
 use mathlib.Core.Bool.{Bool, true, _&&_, _||_}
@@ -10,14 +10,6 @@ use Rattle.lists.specs.Lists.{unused}
 use Rattle.decisions.specs.declared.Scene.{Scene}
 use Rattle.nearby.specs.Ready.{Listed, Kept, usedIn, nth}
 use Rattle.three_points.specs.Judged.{Seedless}
-
--- points i and j make none with the listed ones, the first `from` left out
-abbrev pub SeedlessAfter : Scene → List Float → Float → List ℕ → ℕ → ℕ → ℕ → ℕ → Type 0
-SeedlessAfter s pts r w count i j from = (m : ℕ) → from ≤ m → m < count → Seedless s pts r i j (nth s w m)
-
--- no two of the listed points make one with point i
-abbrev pub AllSeedless : Scene → List Float → Float → List ℕ → ℕ → ℕ → Type 0
-AllSeedless s pts r w count i = (m : ℕ) → m < count → SeedlessAfter s pts r w count i (nth s w m) (m + 1)
 
 -- k comes after point i or before point lo
 abbrev pub isOther : ℕ → ℕ → ℕ → Bool
@@ -39,6 +31,12 @@ SeedlessBetween s pts r used lo i = (a : ℕ) → a < i → lo ≤ a → unused 
 -- k is one of the listed points
 abbrev pub Stands : Scene → List ℕ → ℕ → ℕ → Type 0
 Stands s w count k = (m : ℕ) × ((m < count) × (nth s w m ≡ k))
+
+-- the listed points stand in another order: w before, u after
+pub record Reordered (s : Scene) (w u : List ℕ) (count : ℕ) : Type 0 where
+  pub listed : Listed s u count
+  pub complete : (k : ℕ) → Stands s w count k → Stands s u count k
+  pub kept : Kept s w u
 
 -- no two of the listed points that are such make one with point i
 abbrev pub AllLeftSeedless : Scene → List Float → Float → ℕ → ℕ → List ℕ → ℕ → Type 0

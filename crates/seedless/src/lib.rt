@@ -15,8 +15,8 @@ ghost use Rattle.spatial_hash.specs.Near.{Hashed};
 ghost use Rattle.filters.specs.Refused.{Limiting};
 ghost use Rattle.nearby.specs.Ready.{Held, Listed, Kept, usedIn};
 ghost use Rattle.three_points.specs.Judged.{Judged};
-ghost use Rattle.seedless.specs.Seedless.{SeedlessAfter, AllSeedless, SeedlessFrom, SeedlessBetween};
-ghost use Rattle.seedless.specs.Seedless.{isOther, isLeft, Left, AllLeftSeedless};
+ghost use Rattle.seedless.specs.Seedless.{SeedlessFrom, SeedlessBetween, isOther, isLeft};
+ghost use Rattle.seedless.specs.Seedless.{Left, Reordered, AllLeftSeedless};
 
 // Where seeds are looked for: the scene, the hash of its unused points, a radius, and the limits at that radius.
 pub struct Site {
@@ -26,61 +26,8 @@ pub struct Site {
     pub limits: Limits,
 }
 
-// What is left of a purse once it is told that points i and j make no seed with any of the listed points from a place
-// on; 0 if that was not told.
-fn pay_beside(
-    p: Site,
-    points: &[f32],
-    w: &[u32],
-    count: usize,
-    i: usize,
-    j: usize,
-    from: usize,
-    purse: usize,
-) -> usize
-    requires { ⌜ Held (p .scene) (now points) (now w) × Listed (p .scene) (now w) count × (i < p .scene .n)
-        × (j < p .scene .n) × Judged (p .scene) (now points) (p .radius) (p .limits) ⌝ }
-    ensures { λ r. ⌜ (0 < r
-        → SeedlessAfter (p .scene) (now (points .entry)) (p .radius) (now (w .entry)) count i j from) ⌝ }
-{
-    let s = p.scene;
-    let limits = p.limits;
-    let mut left = purse;
-    let mut m = from;
-    while m < count {
-        let k = nearby::listed_point(s, w, count, m);
-        let price = three_points::price_of(s, points, p.radius, limits, i, j, k);
-        if price == 0 {
-            return 0;
-        }
-        if left <= price {
-            return 0;
-        }
-        left -= price;
-        m += 1;
-    }
-    left
-}
-
-// The same once it is told that no two of the listed points make a seed with point i.
-fn pay_all(p: Site, points: &[f32], w: &[u32], count: usize, i: usize, purse: usize) -> usize
-    requires { ⌜ Held (p .scene) (now points) (now w) × Listed (p .scene) (now w) count × (i < p .scene .n)
-        × Judged (p .scene) (now points) (p .radius) (p .limits) ⌝ }
-    ensures { λ r. ⌜ (0 < r
-        → AllSeedless (p .scene) (now (points .entry)) (p .radius) (now (w .entry)) count i) ⌝ }
-{
-    let mut left = purse;
-    let mut m: usize = 0;
-    while m < count {
-        let j = nearby::listed_point(p.scene, w, count, m);
-        m += 1;
-        left = pay_beside(p, points, w, count, i, j, m, left);
-        if left == 0 {
-            return 0;
-        }
-    }
-    left
-}
+// How often a list is halved at most.
+const HALVINGS: usize = 12;
 
 // Whether point k comes after point i or before point lo.
 fn is_other(lo: usize, i: usize, k: usize) -> bool
@@ -121,6 +68,15 @@ fn keep_left(s: Scene, w: &mut [u32], found: usize, lo: usize, i: usize) -> usiz
         }
     }
     kept
+}
+
+// Puts the listed points in an order in which those near each other stand near each other.
+fn order_listed(s: Scene, points: &[f32], w: &mut [u32], count: usize)
+    requires { ⌜ Held s (now points) (now w) × Listed s (now w) count ⌝ }
+    ensures { λ _. ⌜ Reordered s (now (w .entry)) (now (w .exit)) count ⌝ }
+{
+    let at = regions::NEIGHBORS * s.n;
+    listed_boxes::order(points, &mut w[at..at + count], HALVINGS);
 }
 
 // Of the listed points, each taken with the one half the list on, how many are near each other.
@@ -203,8 +159,12 @@ fn pay_found(
         → AllLeftSeedless (p .scene) (now (points .entry)) (p .radius) lo i (now (w .entry)) found)
         × Kept (p .scene) (now (w .entry)) (now (w .exit)) ⌝ }
 {
-    let count = keep_left(p.scene, w, found, lo, i);
-    pay_all(p, points, w, count, i, purse)
+    let s = p.scene;
+    let limits = p.limits;
+    let count = keep_left(s, w, found, lo, i);
+    order_listed(s, points, w, count);
+    let all = seedless_pairs::range_of(s, points, w, 0, count);
+    seedless_pairs::pay_ranges(s, points, w, p.radius, limits, i, all, all, purse)
 }
 
 // Whether no two unused points after point i or before point lo make a seed with it, if that is paid for.

@@ -1,21 +1,42 @@
 -- `pay_found` meets its contract. Assumes nothing.
-use Rattle.nearby.proofs.Keeping.{held-kept}
+use Rattle.nearby.proofs.Keeping.{held-kept, kept-on}
 use Rattle.seedless.proofs.Threes.{left-seedless}
 use borrow.Author.Needs.{needs}
 use Rattle.seedless.proofs.pay_found.Statement.{statement}
 use Rattle.seedless.proofs.pay_found.Tie as tie
 
 keep-left-requires : tie.Need-keep-left-requires
-keep-left-requires c κs = (c .before .before .before .pre .0 .few, c .before .before .before .pre .0 .work-long, c .before .before .before .pre .1)
+keep-left-requires c κs = search needs
 
-pay-all-requires : tie.Need-pay-all-requires
-pay-all-requires c κs = let l = c .before .before .before .keep-left in (held-kept (l .last .1 .0) (c .before .before .before .before .before .before .before .pre .0) (l .kept .1 .0), l .ensures .listed, c .before .before .before .before .before .before .before .pre .2, c .before .before .before .before .before .before .before .pre .3)
+order-listed-requires : tie.Need-order-listed-requires
+order-listed-requires c κs = search needs
+
+range-of-requires : tie.Need-range-of-requires
+range-of-requires c κs = search needs
+
+pay-ranges-requires : tie.Need-pay-ranges-requires
+pay-ranges-requires c κs =
+    let l = c .before .before .before .before .before .before .before .before .before .keep-left in
+    let o = c .before .before .before .before .before .order-listed in
+    let g = c .before .before .before .before .before .before .before .before .before .before .before .before .before .before .before .pre in
+    let q = c .before .range-of .ensures .in-range in
+    record {
+      held = held-kept (o .last .1 .1 .0) (held-kept (l .last .1 .0) (g .0) (l .kept .1 .0)) (o .kept .1 .1 .0);
+      inside = g .2;
+      judged = g .3;
+      first-in = q;
+      second-in = q;
+    }
 
 same-length : tie.Need-same-length
 same-length c = search needs
 
 returns : tie.Need-returns
-returns c = let l = c .before .before .before .before .keep-left in (λ h. left-seedless (l .ensures) (c .pay-all .ensures h), l .ensures .kept)
+returns c =
+    let l = c .before .before .before .before .before .before .before .before .before .before .keep-left .ensures in
+    let o = c .before .before .before .before .before .before .order-listed .ensures in
+    (λ h. left-seedless l o (c .before .before .range-of .ensures) (c .pay-ranges .ensures h), kept-on (l .kept) (o .kept))
 
 pub pay-found-spec : {M : Type 1} → statement M
-pay-found-spec = tie.close (tie.spec keep-left-requires pay-all-requires same-length returns)
+pay-found-spec =
+    tie.close (tie.spec keep-left-requires order-listed-requires range-of-requires pay-ranges-requires same-length returns)

@@ -6,25 +6,27 @@ use Rattle.nearby.specs.Ready.{nth}
 use Rattle.three_points.specs.Judged.{Seedless}
 use Rattle.flatness.proofs.Below.{below-next}
 use borrow.Author.Needs.{needs}
-use Rattle.seedless.proofs.pay_beside.Statement.{statement}
-use Rattle.seedless.proofs.pay_beside.Tie as tie
+use Rattle.seedless_pairs.proofs.pay_beside.Statement.{statement}
+use Rattle.seedless_pairs.proofs.pay_beside.Tie as tie
 
 abbrev Inv-loop : tie.InvT-loop
-Inv-loop p points w count i j from purse s limits left₀ m₀ left m = (x : ℕ) → x < m → from ≤ x → Seedless (p .scene) points (p .radius) i j (nth (p .scene) w x)
+Inv-loop s points w count radius limits i j from purse left₀ m₀ left m = (x : ℕ) → x < m → from ≤ x → Seedless s points radius i j (nth s w x)
 
 abbrev μ-loop : tie.MeasureT-loop
-μ-loop p points w count i j from purse s limits left₀ m₀ left m = count - m
+μ-loop s points w count radius limits i j from purse left₀ m₀ left m = count - m
 
 loop-holds : tie.Need-loop-holds Inv-loop μ-loop
 loop-holds c = λ x h k. absurd (omega arith)
 
 listed-point-requires : tie.Need-listed-point-requires Inv-loop μ-loop
 listed-point-requires c κs =
-    (c .before .before .before .before .before .before .pre .0 .few, c .before .before .before .before .before .before .pre .0 .work-long, c .before .before .before .before .before .before .pre .1, c .loop-test .taken)
+    let a = c .before .before .before .before in
+    (a .pre .0 .few, a .pre .0 .work-long, a .pre .1, c .loop-test .taken)
 
 price-of-requires : tie.Need-price-of-requires Inv-loop μ-loop
 price-of-requires c κs =
-    (c .before .before .before .before .before .before .before .pre .0 .points-long, c .before .before .before .before .before .before .before .pre .2, c .before .before .before .before .before .before .before .pre .3, c .listed-point .ensures .1, c .before .before .before .before .before .before .before .pre .4)
+    let a = c .before .before .before .before .before in
+    (a .pre .0 .points-long, a .pre .2, a .pre .3, c .listed-point .ensures .1, a .pre .4)
 
 returns : tie.Need-returns Inv-loop μ-loop
 returns c = λ h. absurd (omega arith)
@@ -44,9 +46,10 @@ loop-less c = search needs
 loop-again : tie.Need-loop-again Inv-loop μ-loop
 loop-again c =
     let t = c .before .before .price-of in
-    let a = c .before .before .before .before .before .before .before .before .before .before .args in
+    let p = c .before .before .before in
+    let a = p .before .before .before .before .before .args in
     let ne = c .before .if1 .left in
-    below-next (c .before .before .before .before .before .loop .inv) (λ h. subst (Seedless (a .p .scene) (a .points .now) (a .p .radius) (a .i) (a .j)) (c .before .before .before .listed-point .ensures .0) (t .ensures (omega arith)))
+    below-next (p .before .before .loop .inv) (λ h. subst (Seedless (a .s) (a .points .now) (a .radius) (a .i) (a .j)) (p .listed-point .ensures .0) (t .ensures (omega arith)))
 
 returns-3 : tie.Need-returns-3 Inv-loop μ-loop
 returns-3 c = λ h m a b. c .before .loop .inv m (omega (arith, c .loop-test .left)) a

@@ -1,0 +1,2 @@
+-- Laws of ranges.
+pub mod Halves
