@@ -1,12 +1,9 @@
-// The main call: a cloud, its normals and the settings in; the patch's faces, counts and radii back.
-pub mod paths;
-
+// What comes back of what was found. The definition of the whole call and the one claim about it are in specs/; the
+// call itself is in `reconstruction`.
 use radii::Radii;
-use settings::BallPivotingConfig;
 ghost use mathlib.Core.Path.{_≡_};
 ghost use Prim.Native.Nat.{_≤_};
-ghost use Rattle.ball_pivoting.specs.Reconstruct.{refused};
-ghost use Rattle.ball_pivoting.specs.Outcome.{Reconstructs};
+ghost use Rattle.ball_pivoting.specs.Reconstruct.{refused, reasonBy};
 ghost use Rattle.ball_pivoting.specs.Parts.{acceptedBy, Delivers};
 
 // The answer's number and detail, 0 where the cloud is accepted; how many faces, seeds, looks and pivots there are; the
@@ -71,7 +68,7 @@ pub fn accept(found: Finding) -> Patch
 }
 
 // What is found comes back if it is some faces and they fit; the faces that fit stand in the slice already.
-fn deliver(found: Finding, faces: &mut [u32]) -> Patch
+pub fn deliver(found: Finding, faces: &mut [u32]) -> Patch
     requires { ⌜ found .faces ≤ 10000 ⌝ }
     ensures { λ r. ⌜ Delivers found (now (faces .entry)) r (now (faces .exit)) ⌝ }
 {
@@ -86,30 +83,16 @@ fn deliver(found: Finding, faces: &mut [u32]) -> Patch
     accept(found)
 }
 
-// Lays a patch over a cloud.
-pub fn reconstruct_with_normals(
-    points: &[f32],
-    normals: &[f32],
-    settings: BallPivotingConfig,
-    faces: &mut [u32],
-    words: &mut [u32],
-    floats: &mut [f32],
-) -> Patch
-    ensures { λ r. ⌜ Reconstructs (now (points .entry)) (now (normals .entry)) settings (now (faces .entry))
-        (now (words .entry)) (now (floats .entry)) r (now (faces .exit)) (now (words .exit)) (now (floats .exit)) ⌝ }
+// The answer where no triangle was found: there are too few points, or no triple was judged, or all that were judged
+// were turned down.
+pub fn reason_by(n: usize, judged: bool) -> u32
+    ensures { λ r. ⌜ r ≡ reasonBy n judged ⌝ }
 {
-    let refusal = domain::refusal_of_reconstruct(
-        points,
-        normals,
-        settings,
-        words.len(),
-        floats.len(),
-    );
-    if refusal.answer != 0 {
-        return refuse(refusal.answer, refusal.detail);
+    if n < 3 {
+        return answers::TOO_FEW_POINTS;
     }
-    let found = paths::find(points, settings, faces, words, floats);
-    clearing::clear_u32(words);
-    clearing::clear_f32(floats);
-    deliver(found, faces)
+    if judged {
+        return answers::ALL_TURNED_DOWN;
+    }
+    answers::NONE_CLOSE
 }

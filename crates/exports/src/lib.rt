@@ -202,7 +202,7 @@ pub extern "C" fn yb_reconstruct_with_normals(
     ensures { λ r. ⌜ Reconstructs (now (points .entry)) (now (normals .entry)) settings (now (faces .entry))
         (now (words .entry)) (now (floats .entry)) r (now (faces .exit)) (now (words .exit)) (now (floats .exit)) ⌝ }
 {
-    ball_pivoting::reconstruct_with_normals(points, normals, settings, faces, words, floats)
+    reconstruction::reconstruct_with_normals(points, normals, settings, faces, words, floats)
 }
 
 #[no_mangle]

@@ -56,7 +56,7 @@ fn write_patch(
         (now (out .exit)) ⌝ }
 {
     let settings = BallPivotingConfig::new(radius);
-    let patch = ball_pivoting::reconstruct_with_normals(
+    let patch = reconstruction::reconstruct_with_normals(
         points,
         normals,
         settings,

@@ -27,7 +27,7 @@ fn write_patch(
         (length (now (floats .entry)))) (now (out .entry)) r (now (out .exit)) ⌝ }
 {
     let settings = BallPivotingConfig::new(radius);
-    let patch = ball_pivoting::reconstruct_with_normals(
+    let patch = reconstruction::reconstruct_with_normals(
         points,
         normals,
         settings,

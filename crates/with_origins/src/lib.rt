@@ -40,7 +40,7 @@ fn count_plain(
         × (now (faces .exit) ≡ now (faces .entry)) ⌝ }
 {
     let none: usize = 0;
-    ball_pivoting::paths::find_plain(points, settings, radii, &mut faces[..none], words, floats)
+    reconstruction::paths::find_plain(points, settings, radii, &mut faces[..none], words, floats)
 }
 
 // What is found over the cloud; of plain faces that were to be turned only the number.
@@ -55,18 +55,18 @@ fn find(
     requires { ⌜ Ready settings (now points) (now words) (now floats) ⌝ }
     ensures { λ r. ⌜ FindsFor turned settings (now (points .entry)) (now (faces .entry)) r (now (faces .exit)) ⌝ }
 {
-    let known = ball_pivoting::paths::survey(points, settings, words, floats);
+    let known = surveying::survey(points, settings, words, floats);
     let scene = known.scene;
     let hash = known.hash;
     let radii = known.radii;
     if radii.count != 0 {
         let rule = settings.frontier_rule;
-        return ball_pivoting::paths::find_pivoting(scene, points, radii, faces, words, hash, rule);
+        return reconstruction::paths::find_pivoting(scene, points, radii, faces, words, hash, rule);
     }
     if turned {
         return count_plain(points, settings, radii, faces, words, floats);
     }
-    ball_pivoting::paths::find_plain(points, settings, radii, faces, words, floats)
+    reconstruction::paths::find_plain(points, settings, radii, faces, words, floats)
 }
 
 // Whether there are more faces than fit one of the slices.

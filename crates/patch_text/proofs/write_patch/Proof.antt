@@ -8,7 +8,7 @@ use Rattle.patch_text.proofs.write_patch.Statement.{statement}
 use Rattle.patch_text.proofs.write_patch.Tie as tie
 use Rattle.patch_text.proofs.write_patch.Reads as reads
 use Rattle.patch_text.proofs.write_patch.Lts as lts
-use Rattle.ball_pivoting.proofs.reconstruct_with_normals.Reads as reconstruct-with-normals-reads
+use Rattle.reconstruction.proofs.reconstruct_with_normals.Reads as reconstruct-with-normals-reads
 use Rattle.settings.proofs.BallPivotingConfig.new.Reads as new-reads
 use Rattle.listing.proofs.write_listing.Reads as write-listing-reads
 use Rattle.listing.proofs.write_refusal.Reads as write-refusal-reads

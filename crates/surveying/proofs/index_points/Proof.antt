@@ -1,11 +1,11 @@
 -- The index is the definition's, and the slice is ready for the searches. Assumes nothing.
 use mathlib.Core.Path.{refl}
 use native.Mathlib.Omega.{arith}
 use Rattle.ball_pivoting.specs.Reconstruct.{spatialIndexOf, sceneOf}
 use Rattle.ball_pivoting.proofs.Found.{all-searchable}
 use borrow.Author.Needs.{needs}
-use Rattle.ball_pivoting.proofs.paths.index_points.Statement.{statement}
-use Rattle.ball_pivoting.proofs.paths.index_points.Tie as tie
+use Rattle.surveying.proofs.index_points.Statement.{statement}
+use Rattle.surveying.proofs.index_points.Tie as tie
 
 build-spatial-grid-requires : tie.Need-build-spatial-grid-requires
 build-spatial-grid-requires c κs = search needs

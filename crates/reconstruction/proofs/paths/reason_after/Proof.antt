@@ -1,10 +1,10 @@
 -- The reason, where no face was laid. Assumes nothing.
 use mathlib.Core.Path.{ap, _∙_}
 use native.Mathlib.Omega.{arith}
 use Rattle.ball_pivoting.specs.Reconstruct.{reasonBy}
 use borrow.Author.Needs.{needs}
-use Rattle.ball_pivoting.proofs.paths.reason_after.Statement.{statement}
-use Rattle.ball_pivoting.proofs.paths.reason_after.Tie as tie
+use Rattle.reconstruction.proofs.paths.reason_after.Statement.{statement}
+use Rattle.reconstruction.proofs.paths.reason_after.Tie as tie
 
 returns : tie.Need-returns
 returns c = λ h. absurd (omega (arith, c .if1 .taken))

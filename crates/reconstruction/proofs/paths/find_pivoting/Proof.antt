@@ -2,11 +2,11 @@
 use native.Mathlib.Omega.{arith}
 use lib.ListN.{take}
 use Rattle.laying.proofs.Claim.{laid-few}
 use Rattle.ball_pivoting.specs.Reconstruct.{laid}
 use Rattle.ball_pivoting.proofs.Judged.{fresh-after}
 use borrow.Author.Needs.{needs}
-use Rattle.ball_pivoting.proofs.paths.find_pivoting.Statement.{statement}
-use Rattle.ball_pivoting.proofs.paths.find_pivoting.Tie as tie
+use Rattle.reconstruction.proofs.paths.find_pivoting.Statement.{statement}
+use Rattle.reconstruction.proofs.paths.find_pivoting.Tie as tie
 
 cast-count : tie.Need-cast-count
 cast-count c = search needs

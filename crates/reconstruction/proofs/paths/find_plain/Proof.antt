@@ -4,10 +4,10 @@ use Prim.Native.Nat.{ℕ}
 use native.Mathlib.Omega.{arith}
 use lib.ListN.{take, replicate}
 use Rattle.plain.proofs.Plain.{plain-most}
 use Rattle.ball_pivoting.specs.Reconstruct.{pointCount, plainly, reasonBy}
 use borrow.Author.Needs.{needs}
-use Rattle.ball_pivoting.proofs.paths.find_plain.Statement.{statement}
-use Rattle.ball_pivoting.proofs.paths.find_plain.Tie as tie
+use Rattle.reconstruction.proofs.paths.find_plain.Statement.{statement}
+use Rattle.reconstruction.proofs.paths.find_plain.Tie as tie
 
 simple-triangulate-requires : tie.Need-simple-triangulate-requires
 simple-triangulate-requires c κs = search needs

@@ -1,5 +1,5 @@
 // The two paths: pivoting at the radii, or faces among near points where there are none.
-use crate::Finding;
+use ball_pivoting::Finding;
 use decisions::Scene;
 use radii::Radii;
 use settings::BallPivotingConfig;
@@ -17,101 +17,11 @@ ghost use Rattle.decisions.specs.Decisions.{floatsOf};
 ghost use Rattle.plain.specs.Reached.{plainReached};
 ghost use Rattle.reaching.specs.Reaching.{reaches};
 ghost use Rattle.judged.specs.Triples.{Fresh};
-ghost use Rattle.ball_pivoting.specs.Reconstruct.{pointCount, sceneOf, radiiOf, laid, plainly, found, reasonBy};
-ghost use Rattle.ball_pivoting.specs.Reconstruct.{reason};
+ghost use Rattle.ball_pivoting.specs.Reconstruct.{pointCount, radiiOf, laid, plainly, found, reasonBy, reason};
 ghost use Rattle.origins.specs.Following.{marksFrom};
-ghost use Rattle.ball_pivoting.specs.Parts.{Sized, Ready, marksOf, Finds};
+ghost use Rattle.ball_pivoting.specs.Parts.{Ready, marksOf, Finds};
 
-// The cloud's points, indexed and hashed.
-pub struct Site {
-    pub scene: Scene,
-    pub hash: Hash,
-}
-
-// The same, with the radii.
-pub struct Surveyed {
-    pub scene: Scene,
-    pub hash: Hash,
-    pub radii: Radii,
-}
-
-// Indexes and hashes the cloud's points.
-fn index_points(points: &[f32], settings: BallPivotingConfig, words: &mut [u32]) -> Site
-    requires { ⌜ Sized (now points) (now words) ⌝ }
-    ensures { λ r. ⌜ (r .scene ≡ sceneOf settings (now (points .entry)))
-        × AllSearchable (r .scene) (r .hash) (now (points .entry)) (now (words .exit)) ⌝ }
-{
-    let n = points.len() / 3;
-    let indexed = settings.use_spatial_index;
-    let size = settings.radius * settings.spatial_cell_factor;
-    let grid = grid::build_spatial_grid(points, n, size, words);
-    let hash = spatial_hash::build(points, n, settings.radius * 1.2, words);
-    let scene = Scene {
-        n: n,
-        indexed: indexed,
-        grid: grid,
-        min_triangle_area: settings.min_triangle_area,
-        quality_threshold: settings.quality_threshold,
-        max_edge_factor: settings.max_edge_factor,
-    };
-    Site {
-        scene: scene,
-        hash: hash,
-    }
-}
-
-// What is known of the cloud before a face is laid. A sparse cloud is hashed again for the samples, and once more for
-// the laying.
-pub fn survey(
-    points: &[f32],
-    settings: BallPivotingConfig,
-    words: &mut [u32],
-    floats: &mut [f32],
-) -> Surveyed
-    requires { ⌜ Ready settings (now points) (now words) (now floats) ⌝ }
-    ensures { λ r. ⌜ (r .scene ≡ sceneOf settings (now (points .entry)))
-        × AllSearchable (r .scene) (r .hash) (now (points .entry)) (now (words .exit))
-        × Listed (radiiOf settings (now (points .entry))) (r .radii) ⌝ }
-{
-    let site = index_points(points, settings, words);
-    let scene = site.scene;
-    let narrow = site.hash;
-    let sparse = cell_sizes::is_sparse(scene, points, settings, narrow, words);
-    let wide_size = cell_sizes::size_for_samples(settings);
-    let wide = cell_sizes::rehash(scene, points, narrow, words, sparse, wide_size);
-    let radii = radii::compute_adaptive_radii(
-        points,
-        scene.n,
-        settings,
-        scene.grid,
-        wide,
-        words,
-        floats,
-    );
-    let size = cell_sizes::size_for_laying(radii, settings.radius);
-    let hash = cell_sizes::rehash(scene, points, wide, words, sparse, size);
-    Surveyed {
-        scene: scene,
-        hash: hash,
-        radii: radii,
-    }
-}
-
-// The answer where no triangle was found: there are too few points, or no triple was judged, or all that were judged
-// were turned down.
-fn reason_by(n: usize, judged: bool) -> u32
-    ensures { λ r. ⌜ r ≡ reasonBy n judged ⌝ }
-{
-    if n < 3 {
-        return answers::TOO_FEW_POINTS;
-    }
-    if judged {
-        return answers::ALL_TURNED_DOWN;
-    }
-    answers::NONE_CLOSE
-}
-
-// The same after a laying. It is asked only where no face was laid, and at the largest radius, which decides for all.
+// The answer after a laying. It is asked only where no face was laid, and at the largest radius, which decides for all.
 fn reason_after(
     scene: Scene,
     points: &[f32],
@@ -128,7 +38,7 @@ fn reason_after(
         return 0;
     }
     let any = judged::is_any_judged(scene, points, words, largest, hash);
-    reason_by(scene.n, any)
+    ball_pivoting::reason_by(scene.n, any)
 }
 
 // There are no radii.
@@ -147,7 +57,7 @@ pub fn find_plain(
         (plainly settings (now (points .entry))) [] [] (now (faces .entry)) r (now (faces .exit)) ⌝ }
 {
     let laid = plain::simple_triangulate(points, settings.radius, words, floats, faces);
-    let reason = reason_by(points.len() / 3, laid.judged);
+    let reason = ball_pivoting::reason_by(points.len() / 3, laid.judged);
     Finding {
         faces: laid.faces,
         seeds: 0,
@@ -219,7 +129,7 @@ pub fn find(
         (radiiOf settings (now (points .entry))) (marksOf settings (now (points .entry))) (now (faces .entry)) r
         (now (faces .exit)) ⌝ }
 {
-    let known = survey(points, settings, words, floats);
+    let known = surveying::survey(points, settings, words, floats);
     let scene = known.scene;
     let hash = known.hash;
     let radii = known.radii;

@@ -1,8 +1,8 @@
 -- The answer by the number of points and by what was judged. Assumes nothing.
 use borrow.Author.Tests.{lt-ltb, le-ltb}
 use Rattle.ball_pivoting.specs.Reconstruct.{reasonBy}
-use Rattle.ball_pivoting.proofs.paths.reason_by.Statement.{statement}
-use Rattle.ball_pivoting.proofs.paths.reason_by.Tie as tie
+use Rattle.ball_pivoting.proofs.reason_by.Statement.{statement}
+use Rattle.ball_pivoting.proofs.reason_by.Tie as tie
 
 returns : tie.Need-returns
 unfolding reasonBy

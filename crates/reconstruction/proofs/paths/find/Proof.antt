@@ -1,9 +1,9 @@
 -- By the radii one path or the other. Assumes nothing.
 use native.Mathlib.Omega.{arith}
 use Rattle.ball_pivoting.proofs.Found.{listed-none, listed-self, finds-plain, finds-laid}
 use borrow.Author.Needs.{needs}
-use Rattle.ball_pivoting.proofs.paths.find.Statement.{statement}
-use Rattle.ball_pivoting.proofs.paths.find.Tie as tie
+use Rattle.reconstruction.proofs.paths.find.Statement.{statement}
+use Rattle.reconstruction.proofs.paths.find.Tie as tie
 
 survey-requires : tie.Need-survey-requires
 survey-requires c κs = search needs

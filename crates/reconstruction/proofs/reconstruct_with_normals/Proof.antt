@@ -4,11 +4,11 @@ use mathlib.Core.Path.{sym, ap, _∙_}
 use lib.ListN.{replicate}
 use Rattle.numbers.specs.Rounded.{f32}
 use Rattle.domain.specs.declared.Refusal.{Refusal}
 use Rattle.ball_pivoting.proofs.Reasons.{reason-is}
 use Rattle.ball_pivoting.proofs.Outcome.{ready-of, turned-away, taken}
 use borrow.Author.Needs.{needs}
-use Rattle.ball_pivoting.proofs.reconstruct_with_normals.Statement.{statement}
-use Rattle.ball_pivoting.proofs.reconstruct_with_normals.Tie as tie
+use Rattle.reconstruction.proofs.reconstruct_with_normals.Statement.{statement}
+use Rattle.reconstruction.proofs.reconstruct_with_normals.Tie as tie
 
 refusal-of-reconstruct-requires : tie.Need-refusal-of-reconstruct-requires
 refusal-of-reconstruct-requires c κs = search needs

@@ -1,10 +1,10 @@
 -- The points indexed and hashed, and the radii. Assumes nothing.
 use mathlib.Core.Path.{_∙_}
 use Rattle.laying.proofs.Kept.{all-searchable-searched}
 use Rattle.ball_pivoting.proofs.Found.{radii-ready, listed-at}
 use borrow.Author.Needs.{needs}
-use Rattle.ball_pivoting.proofs.paths.survey.Statement.{statement}
-use Rattle.ball_pivoting.proofs.paths.survey.Tie as tie
+use Rattle.surveying.proofs.survey.Statement.{statement}
+use Rattle.surveying.proofs.survey.Tie as tie
 
 index-points-requires : tie.Need-index-points-requires
 index-points-requires c κs = search needs
