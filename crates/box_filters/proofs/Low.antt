@@ -28,8 +28,7 @@ use Rattle.intervals.proofs.Ends.{finite-between}
 use Rattle.six_orders.specs.SixOrders.{InOrder, abc, acb, bac, bca, cab, cba, OneUpTo, first, second, third, AllBelow, AllBelowFrom}
 use Rattle.decisions.specs.declared.Scene.{Scene}
 use Rattle.decisions.specs.Decisions.{accepts}
-use Rattle.filters.proofs.Refusals.{area-is}
-use Rattle.filters.proofs.Throughout.{cross-fits}
+use Rattle.area_bounds.proofs.AreaBound.{area-is, cross-fits}
 use Rattle.box_filters.specs.declared.Edges.{Edges}
 use Rattle.box_filters.specs.RefusedWithin.{EdgesOf, Points, AreasOf}
 use Rattle.box_filters.specs.LowWithin.{SquareIn, LowBy, LowWithin}

@@ -18,7 +18,9 @@ use Rattle.area_bounds.specs.AreaBound.{crossSquared}
 use Rattle.intervals.specs.Enclosed.{Holds, Joined, differencesOf, CrossSquares}
 use Rattle.intervals.proofs.Boxes.{differences-has, moderate-turned, magnitudes-moderate}
 use Rattle.thin.specs.Thin.{AllThin, LongerThan, ThinUpTo}
-use Rattle.filters.proofs.Throughout.{not-below, cross-fits, each-thin}
+use Rattle.area_bounds.proofs.AreaBound.{cross-fits}
+use Rattle.thin.proofs.Thin.{not-below}
+use Rattle.filters.proofs.Throughout.{each-thin}
 use Rattle.filters.specs.declared.Limits.{Limits}
 use Rattle.filters.specs.Refused.{small, large, RefusedThroughout, distant, each}
 use Rattle.box_filters.specs.declared.Edges.{Edges}

@@ -1,3 +1,4 @@
 pub mod Refusals
 pub mod Throughout
 pub mod Long
+pub mod Slivers

@@ -2,27 +2,25 @@
 use mathlib.Core.Path.{_≡_, refl, sym, subst}
 use mathlib.Core.Bool.{Bool, true, false}
 use lib.Dec.{T}
-use lib.Ieee.{Float, binary32, inf, lt, fits}
+use lib.Ieee.{Float, inf, lt}
 use lib.Ieee.Bits.{is-true}
 use Rattle.numbers.specs.Rounded.{_⊗_}
 use Rattle.numbers.specs.Root.{root}
 use Rattle.numbers.proofs.OrderLaws.{le-right, lt-le, le-top, lt-le-trans}
-use Rattle.vector.specs.Vector.{difference, magnitude, cross, squared, distance}
+use Rattle.vector.specs.Vector.{squared, distance}
 use Rattle.vector.specs.declared.Point3f.{Point3f}
 use Rattle.vector.proofs.Distances.{squared-fits, squared-turned, distance-is, distance-turned}
-use Rattle.quality.specs.Measures.{half, tiny, edgeRatio, measures}
+use Rattle.quality.specs.Measures.{tiny, edgeRatio, measures}
 use Rattle.triangle.specs.Quality.{area, circumradius, quality, acceptable}
 use Rattle.triangle.proofs.Acceptance.{edges-refused}
 use Rattle.area_bounds.specs.AreaBound.{crossSquared}
-use Rattle.area_bounds.proofs.AreaBound.{cross-squared-turned, magnitude-fits}
+use Rattle.area_bounds.proofs.AreaBound.{area-is, cross-fits, cross-squared-turned}
 use Rattle.area_bounds.proofs.Tiny.{tiny-refused}
 use Rattle.long_edges.specs.LongEdges.{LongLimit, Long}
 use Rattle.long_edges.proofs.Edges.{long-swapped, long-turned, long-edges}
 use Rattle.decisions.specs.declared.Scene.{Scene}
 use Rattle.decisions.specs.Decisions.{accepts}
 use Rattle.filters.specs.Refused.{RefusedEach}
-use Rattle.filters.proofs.Refusals.{area-is}
-use Rattle.filters.proofs.Throughout.{cross-fits}
 
 measures-long : (a b c x t r m threshold factor : Float) → T (lt (r ⊗ factor) (edgeRatio a b c ⊗ root x)) → acceptable (measures a b c x t) r m threshold factor ≡ false
 unfolding measures

@@ -1,24 +1,24 @@
 -- What is refused without measuring it: triangles below a bound of the area (`bounded-accepts`), those of points with a square above the limit (`far-apart`), and of points close to each other those that limits refuse (`refused-accepts`) and all at a `RefusesAll` radius (`refuses-all-accepts`).
 -- Assumes nothing.
 use Prim.Native.Nat.{ℕ}
-use mathlib.Core.Path.{_≡_, refl, sym, _∙_, subst}
+use mathlib.Core.Path.{_≡_, sym, _∙_, subst}
 use mathlib.Core.Bool.{true, false}
 use mathlib.Core.List.{List}
 use lib.Dec.{T}
 use lib.Ieee.{Float, inf, lt, le}
 use lib.Ieee.Bits.{is-true}
 use lib.Ieee.Scale.{finite}
-use Rattle.numbers.specs.Rounded.{f32, _⊗_}
+use Rattle.numbers.specs.Rounded.{_⊗_}
 use Rattle.numbers.specs.Root.{root}
-use Rattle.vector.specs.Vector.{Finite, difference, magnitude, squared, distance}
-use Rattle.quality.specs.Measures.{half, tiny}
+use Rattle.vector.specs.Vector.{Finite, difference, squared, distance}
+use Rattle.quality.specs.Measures.{tiny}
 use Rattle.triangle.specs.Quality.{area, quality}
 use Rattle.quality.specs.Shape.{shapeOf}
 use Rattle.score_bounds.specs.Bound.{AspectLimit}
 use Rattle.area_bounds.specs.AreaBound.{crossSquared, areaBound}
 use Rattle.vector.specs.declared.Point3f.{Point3f}
 use Rattle.vector.proofs.Distances.{squared-fits, squared-turned, distance-is, distance-turned}
-use Rattle.area_bounds.proofs.AreaBound.{Bounds, Unsigned, area-bounded, area-limited, area-too-long, cross-squared-turned}
+use Rattle.area_bounds.proofs.AreaBound.{Bounds, Unsigned, area-bounded, area-limited, area-too-long, area-is, cross-squared-turned}
 use Rattle.area_bounds.proofs.Tiny.{tiny-refused}
 use Rattle.area_bounds.proofs.Refused.{small-refused, large-refused, long-refused, near-finite, area-number}
 use Rattle.triangle.proofs.Quality.{quality-is}
@@ -38,10 +38,6 @@ refused-turned {l} {p} {q} {t} (far h) = far (rw (squared-turned t q) h)
 refused-turned {l} {p} {q} {t} (thin h) = thin (rw (cross-squared-turned p t q, squared-turned t q) (record { abc = h .bac; acb = h .bca; bac = h .abc; bca = h .acb; cab = h .cba; cba = h .cab }))
 
 -- ---- too thin
-
-pub area-is : (p q t : Point3f) → area p q t ≡ root (crossSquared p q t) ⊗ half
-unfolding area magnitude crossSquared
-area-is p q t = refl
 
 thin-low : (p q t : Point3f) (threshold α limit : Float) → AspectLimit threshold α → ThinLimit α limit → AllThin limit (squared p q) (squared p t) (squared q t) (crossSquared p q t) → lt (quality p q t .«quality_score») threshold ≡ true
 thin-low p q t threshold α limit a l h =

@@ -1,29 +1,23 @@
 -- Triangles that limits refuse whichever of the three points comes first: with all three squares of the area too small (`small-throughout`), all too large (`large-throughout`), or the largest of them too thin (`thin-throughout`). Assumes nothing.
-use mathlib.Core.Path.{_≡_, refl}
-use mathlib.Core.Bool.{Bool, true, false, not, _&&_}
+use mathlib.Core.Path.{_≡_}
+use mathlib.Core.Bool.{not, _&&_}
 use lib.Dec.{T}
-use lib.Ieee.{Float, binary32, lt, le, fits, isNan}
+use lib.Ieee.{Float, lt, le}
 use lib.Ieee.Fits.{and-l, and-r}
 use Rattle.numbers.specs.Order.{maximum}
-use Rattle.numbers.proofs.OrderLaws.{le-right, lt-le, le-not-lt, le-trans}
+use Rattle.numbers.proofs.OrderLaws.{le-right, le-trans}
 use Rattle.numbers.proofs.Maximum.{maximum-left, maximum-right}
-use Rattle.vector.specs.Vector.{squared, difference, cross}
+use Rattle.vector.specs.Vector.{squared}
 use Rattle.vector.specs.declared.Point3f.{Point3f}
 use Rattle.vector.proofs.Distances.{squared-turned}
 use Rattle.area_bounds.specs.AreaBound.{crossSquared}
-use Rattle.area_bounds.proofs.AreaBound.{magnitude-fits}
+use Rattle.area_bounds.proofs.AreaBound.{cross-fits}
 use Rattle.thin.specs.Thin.{AllThin, ThinUpTo}
+use Rattle.thin.proofs.Thin.{not-below}
 use Rattle.filters.specs.declared.Limits.{Limits}
 use Rattle.filters.specs.Refused.{small, large, thin, RefusedThroughout, each}
 
 -- ---- the largest of three is below none of them, not-a-numbers among them
-
-pub not-below : (x y : Float) → (T (not (isNan y)) → T (le y x)) → T (not (lt x y))
-not-below x y h = go (lt x y) refl
-  where
-    go : (b : Bool) → lt x y ≡ b → T (not b)
-    go true e = let k : T (lt x y) = rw e tt in absurd (le-not-lt y x (h (le-right x y (lt-le x y k))) k)
-    go false e = tt
 
 module _ (a b c : Float) where
   largest-first : T (not (lt (maximum (maximum a b) c) a))
@@ -36,10 +30,6 @@ module _ (a b c : Float) where
   largest-third = not-below (maximum (maximum a b) c) c (maximum-right (maximum a b) c)
 
 -- ---- the ways of refusing
-
-pub cross-fits : (p q t : Point3f) → T (fits binary32 (crossSquared p q t))
-unfolding crossSquared
-cross-fits p q t = magnitude-fits (cross (difference q p) (difference t p))
 
 -- too thin with each area
 pub each-thin : {l : Limits} {p q t : Point3f} → AllThin (l .thin) (squared p q) (squared p t) (squared q t) (crossSquared p q t) → AllThin (l .thin) (squared p q) (squared p t) (squared q t) (crossSquared q p t)

@@ -9,7 +9,10 @@ use Rattle.score_bounds.specs.Bound.{AspectLimit}
 use Rattle.vector.specs.declared.Point3f.{Point3f}
 use Rattle.area_bounds.specs.AreaBound.{crossSquared, AreaLimit, TooLong, LargeLimit}
 use Rattle.thin.specs.Thin.{ThinLimit, AllThin}
+use Rattle.bounds.specs.declared.Interval.{Interval}
 use Rattle.bounds.specs.Within.{Limit}
+use Rattle.intervals.specs.Enclosed.{Holds}
+use Rattle.sliver_filters.specs.SliversWithin.{Filtering, LowEach}
 use Rattle.decisions.specs.declared.Scene.{Scene}
 use Rattle.decisions.specs.Decisions.{reach, accepts}
 use Rattle.filters.specs.declared.Limits.{Limits}
@@ -19,7 +22,7 @@ pub record Least (s : Scene) (r m : Float) : Type 0 where
   pub refuses : (p q t : Point3f) → T (lt (area p q t) m) → accepts s r (quality p q t) ≡ false
 
 -- limits are those of the settings at a radius: for the least area, the edge factor, twice the radius, and an aspect
--- ratio up to which no score reaches the threshold
+-- ratio up to which no score reaches the threshold; and those for slivers
 pub record Limiting (s : Scene) (r : Float) (l : Limits) : Type 0 where
   pub least : Float
   pub leasts : Least s r least
@@ -29,6 +32,7 @@ pub record Limiting (s : Scene) (r : Float) (l : Limits) : Type 0 where
   pub aspect : Float
   pub aspects : AspectLimit (s .«quality_threshold») aspect
   pub thins : ThinLimit aspect (l .thin)
+  pub filters : Filtering (s .«quality_threshold») (l .slivers)
 
 -- limits refuse the triangle of p, q and t: its area is too small or too large, q and t are too far apart, or it is too
 -- thin
@@ -52,6 +56,14 @@ pub record RefusedEach (s : Scene) (r : Float) (p q t : Point3f) : Type 0 where
   pub qtp : accepts s r (quality q t p) ≡ false
   pub tpq : accepts s r (quality t p q) ≡ false
   pub tqp : accepts s r (quality t q p) ≡ false
+
+-- an interval holds a number that is one
+pub record Only (x : Float) (i : Interval) : Type 0 where
+  pub own : T (le x x) → Holds i x
+
+-- the score of the triangle of p, q and t is too low in each order of them, if the limits are those of a threshold
+pub record Sliver (l : Limits) (p q t : Point3f) : Type 0 where
+  pub low : (threshold : Float) → Filtering threshold (l .slivers) → LowEach threshold p q t
 
 -- points that are close at a radius have finite distances, and no triangle has an area large enough and edges short
 -- enough

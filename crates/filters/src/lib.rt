@@ -1,21 +1,25 @@
 // What is refused without measuring it: triangles by squares that are too small or too large, and radii at which every
 // triangle is refused.
+use bounds::Interval;
 use decisions::Scene;
+use sliver_filters::SliverFilter;
 use vector::Point3f;
 ghost use mathlib.Core.Path.{_≡_};
 ghost use mathlib.Core.Bool.{true, _&&_};
 ghost use lib.Ieee.{le};
 ghost use Rattle.long_edges.specs.LongEdges.{Long};
+ghost use Rattle.cosines.specs.Cosine.{Coordinates};
 ghost use Rattle.filters.specs.Refused.{Least, Limiting, Refused, RefusedThroughout, RefusesAll};
-ghost use Rattle.filters.specs.Refused.{RefusedEach};
+ghost use Rattle.filters.specs.Refused.{RefusedEach, Only, Sliver};
 
 // Limits for squares, by which a triangle is refused: of twice the area a least and a largest, of a distance the
-// largest, and one for the aspect ratio.
+// largest, one for the aspect ratio, and those for slivers.
 pub struct Limits {
     pub small: f32,
     pub large: f32,
     pub far: f32,
     pub thin: f32,
+    pub slivers: SliverFilter,
 }
 
 // An area below which every triangle is refused at a radius: the least one, or what is next to none where edges are
@@ -39,11 +43,13 @@ pub fn limits_of(s: Scene, radius: f32) -> Limits
     let large = area_bounds::large_limit(radius, s.max_edge_factor);
     let far = bounds::square_limit(radius * 2.0);
     let thin = thin::thin_limit(score_bounds::aspect_limit(s.quality_threshold));
+    let slivers = sliver_filters::sliver_filter_of(s.quality_threshold);
     Limits {
         small: small,
         large: large,
         far: far,
         thin: thin,
+        slivers: slivers,
     }
 }
 
@@ -135,6 +141,56 @@ pub fn is_long_throughout(s: Scene, radius: f32, p: Point3f, q: Point3f, t: Poin
     let third = vector::distance_squared(q, t);
     let limit = long_edges::long_limit(radius * s.max_edge_factor);
     are_long(first, second, third, a, b, c, limit)
+}
+
+// The interval of one number.
+fn only(x: f32) -> Interval
+    ensures { λ i. ⌜ Only x i ⌝ }
+{
+    Interval { lo: x, hi: x }
+}
+
+// Whether a point's first coordinate is a number. That all are f32 is known once one is read.
+fn is_number(p: Point3f) -> bool
+    ensures { λ r. ⌜ Coordinates p ⌝ }
+{
+    p.x <= p.x
+}
+
+// Whether three points' are.
+fn are_numbers(p: Point3f, q: Point3f, t: Point3f) -> bool
+    ensures { λ r. ⌜ (r ≡ true → Coordinates p × Coordinates q × Coordinates t) ⌝ }
+{
+    if !is_number(p) {
+        return false;
+    }
+    if !is_number(q) {
+        return false;
+    }
+    is_number(t)
+}
+
+// Whether the triangle of three points is a sliver, by squares alone, whichever of them comes first.
+pub fn is_sliver_throughout(l: Limits, p: Point3f, q: Point3f, t: Point3f) -> bool
+    ensures { λ r. ⌜ (r ≡ true → Sliver l p q t) ⌝ }
+{
+    if !are_numbers(p, q, t) {
+        return false;
+    }
+    let first = vector::distance_squared(p, q);
+    let second = vector::distance_squared(p, t);
+    let third = vector::distance_squared(q, t);
+    if !are_at_most(first, second, third, 67108864.0) {
+        return false;
+    }
+    let a = area_bounds::cross_squared(p, q, t);
+    let b = area_bounds::cross_squared(q, p, t);
+    let c = area_bounds::cross_squared(t, p, q);
+    let most = numbers::max(numbers::max(a, b), c);
+    if !are_at_most(a, b, c, most) {
+        return false;
+    }
+    sliver_filters::is_sliver(l.slivers, only(first), only(third), only(second), most)
 }
 
 // Whether no triangle of points that are close to each other can be acceptable at a radius.

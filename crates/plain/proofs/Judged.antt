@@ -26,7 +26,7 @@ use Rattle.triangle.specs.Quality.{area, circumradius}
 use Rattle.vector.specs.declared.Point3f.{Point3f}
 use Rattle.vector.proofs.Distances.{squared-fits, squared-nonnegative, distance-turned, magnitude-unsigned, magnitude-nonnegative}
 use Rattle.area_bounds.specs.AreaBound.{crossSquared}
-use Rattle.area_bounds.proofs.AreaBound.{magnitude-fits, squares-finite, half-root-monotone}
+use Rattle.area_bounds.proofs.AreaBound.{magnitude-fits, cross-fits, squares-finite, half-root-monotone}
 use Rattle.plain.specs.Plain.{sound}
 use Rattle.plain.specs.Bounds.{thin, least, largest, fourfold, Narrow, Wide}
 use Rattle.plain.proofs.RootBounds.{root-least, root-most}
@@ -270,10 +270,6 @@ module _ (p1 p2 p3 : Point3f) (b z s : Float) (f : T (fits binary32 b)) (g : T (
       (le-trans (x ⊘ d) (x ⊘ D) (A ⊗ root E ⊗ C ⊘ D) (quotient-antitone x D d px pD pd md) (div-monotone x (A ⊗ root E ⊗ C) D pD m2)))
 
 -- ---- the triangle
-
-cross-fits : (p1 p2 p3 : Point3f) → T (fits binary32 (crossSquared p1 p2 p3))
-unfolding crossSquared
-cross-fits p1 p2 p3 = magnitude-fits (cross (difference p2 p1) (difference p3 p1))
 
 -- the circumradius, where there is an area
 module _ (p1 p2 p3 : Point3f) where

@@ -1,8 +1,7 @@
 -- What is thin at the ends of intervals is so between them (`thin-within`); triangles that are thin and have two small angles have a low score in each order (`slivers-along`), whichever edge is the longest (`slivers-turned`, `slivers-swapped`). Assumes nothing.
-use mathlib.Core.Path.{_≡_, sym, _∙_}
-use mathlib.Core.Bool.{not}
+use mathlib.Core.Path.{_≡_, _∙_}
 use lib.Dec.{T}
-use lib.Ieee.{Float, binary32, lt, le, fits, ofBits}
+use lib.Ieee.{Float, binary32, lt, le, fits}
 use Rattle.numbers.specs.Rounded.{f32, _⊗_}
 use Rattle.numbers.specs.Root.{root}
 use Rattle.numbers.specs.Order.{maximum}
@@ -14,13 +13,13 @@ use Rattle.vector.proofs.Distances.{squared-fits, squared-turned, distance-is, 
 use Rattle.bounds.specs.declared.Interval.{Interval}
 use Rattle.intervals.specs.Enclosed.{Holds}
 use Rattle.quality.specs.Measures.{half}
-use Rattle.quality.specs.Shape.{shapeOf, qualityOf}
-use Rattle.triangle.specs.Quality.{area, quality}
+use Rattle.quality.specs.Shape.{shapeOf}
+use Rattle.triangle.specs.Quality.{quality}
 use Rattle.triangle.proofs.Quality.{quality-is}
 use Rattle.area_bounds.specs.AreaBound.{crossSquared}
 use Rattle.area_bounds.proofs.AreaBound.{area-is, cross-fits, cross-squared-turned}
 use Rattle.six_orders.specs.SixOrders.{InOrder, abc, acb, bac, bca, cab, cba}
-use Rattle.thin.specs.Thin.{Thin, AllThin, LongerThan, ThinUpTo}
+use Rattle.thin.specs.Thin.{AllThin, LongerThan, ThinUpTo}
 use Rattle.thin.proofs.Thin.{not-below}
 use Rattle.slivers.specs.Slivers.{SmallAngles}
 use Rattle.cosines.specs.Cosine.{Narrow, AtLeast}

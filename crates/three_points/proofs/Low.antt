@@ -17,16 +17,12 @@ use Rattle.quality.specs.Shape.{qualityOf}
 use Rattle.triangle.specs.Quality.{area}
 use Rattle.triangle.proofs.Acceptance.{low-refused}
 use Rattle.area_bounds.specs.AreaBound.{crossSquared}
-use Rattle.area_bounds.proofs.AreaBound.{magnitude-fits, half-root-monotone}
+use Rattle.area_bounds.proofs.AreaBound.{magnitude-fits, cross-fits, half-root-monotone}
 use Rattle.six_orders.specs.SixOrders.{InOrder, abc, acb, bac, bca, cab, cba, AllBelow}
 use Rattle.six_orders.proofs.Positive.{maximum-either}
 use Rattle.decisions.specs.declared.Scene.{Scene}
 use Rattle.decisions.specs.Decisions.{accepts}
 use Rattle.three_points.specs.Judged.{RefusedAll}
-
-cross-fits : (p q t : Point3f) → T (fits binary32 (crossSquared p q t))
-unfolding crossSquared
-cross-fits p q t = magnitude-fits (cross (difference q p) (difference t p))
 
 area-most : (p q t : Point3f) (m : Float) → T (fits binary32 m) → T (le (crossSquared p q t) m) → T (le (area p q t) (root m ⊗ half))
 unfolding area magnitude crossSquared

@@ -15,6 +15,9 @@ ghost use Rattle.three_points.specs.Judged.{Seedless, RefusedBoth, Refus
 // What it takes to measure three points, where it takes 1 to refuse them.
 const MEASURED: usize = 24;
 
+// What it takes to tell that they are a sliver.
+const SLIVER: usize = 2;
+
 // What it takes to tell that their score is too low in every order.
 const BOUNDED: usize = 8;
 
@@ -85,6 +88,9 @@ pub fn price_of(
     }
     if filters::is_long_throughout(s, radius, first, second, third) {
         return 1;
+    }
+    if filters::is_sliver_throughout(limits, first, second, third) {
+        return SLIVER;
     }
     let a = vector::distance(second, first);
     let b = vector::distance(third, second);

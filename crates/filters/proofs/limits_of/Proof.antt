@@ -21,17 +21,24 @@ aspect-limit-requires c κs = search needs
 thin-limit-requires : tie.Need-thin-limit-requires
 thin-limit-requires c κs = search needs
 
+sliver-filter-of-requires : tie.Need-sliver-filter-of-requires
+sliver-filter-of-requires c κs = search needs
+
 returns : tie.Need-returns
-returns c = record {
-  least = c .before .before .before .before .before .least-area .result;
-  leasts = c .before .before .before .before .before .least-area .ensures;
-  smalls = c .before .before .before .before .area-limit .ensures;
-  larges = c .before .before .before .large-limit .ensures;
-  fars = c .before .before .square-limit .ensures;
-  aspect = c .before .aspect-limit .result;
-  aspects = c .before .aspect-limit .ensures;
-  thins = c .thin-limit .ensures;
-}
+returns c =
+    let d = c .before in
+    let l = d .before .before .before .before .before .least-area in
+    record {
+      least = l .result;
+      leasts = l .ensures;
+      smalls = d .before .before .before .before .area-limit .ensures;
+      larges = d .before .before .before .large-limit .ensures;
+      fars = d .before .before .square-limit .ensures;
+      aspect = d .before .aspect-limit .result;
+      aspects = d .before .aspect-limit .ensures;
+      thins = d .thin-limit .ensures;
+      filters = c .sliver-filter-of .ensures;
+    }
 
 pub limits-of-spec : {M : Type 1} → statement M
-limits-of-spec = tie.close (tie.spec least-area-requires area-limit-requires large-limit-requires square-limit-requires aspect-limit-requires thin-limit-requires returns)
+limits-of-spec = tie.close (tie.spec least-area-requires area-limit-requires large-limit-requires square-limit-requires aspect-limit-requires thin-limit-requires sliver-filter-of-requires returns)
