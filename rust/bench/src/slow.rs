@@ -21,7 +21,7 @@ const ROWS: [(&str, usize, f64); 14] = [
     ("edge", 150, 1.0),
     ("pivots", 1_024, 0.9),
     ("needles", 100, 3.0),
-    ("sparse", 4_093, 0.7),
+    ("sparse", 4_093, 2.0),
 ];
 
 fn times(cloud: &Slow) -> (u32, Times) {
