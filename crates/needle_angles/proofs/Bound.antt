@@ -54,17 +54,17 @@ difference-over {x} {p} {y} {a} {b} {c} f u v t h =
 
 -- ---- the angle opposite to the short edge
 
--- 1023 / 1024
-factor-units : Units (f32 0x3f7fc000) (1023 * 2 ^ 139) 148 149
+-- 8187 / 8192
+factor-units : Units (f32 0x3f7fd800) (8187 * 2 ^ 136) 148 149
 unfolding ofBits IsLe
-factor-units = record { value = (refl, refl); low = le-by-compare (2 ^ 148) (1023 * 2 ^ 139) tt; high = le-by-compare (1023 * 2 ^ 139) (2 ^ 149) tt }
+factor-units = record { value = (refl, refl); low = le-by-compare (2 ^ 148) (8187 * 2 ^ 136) tt; high = le-by-compare (8187 * 2 ^ 136) (2 ^ 149) tt }
 
--- 4091 / 4096
-cosine-units : Units (f32 0x3f7fb000) (4091 * 2 ^ 137) 148 149
+-- 8186 / 8192
+cosine-units : Units (f32 0x3f7fd000) (8186 * 2 ^ 136) 148 149
 unfolding ofBits IsLe
-cosine-units = record { value = (refl, refl); low = le-by-compare (2 ^ 148) (4091 * 2 ^ 137) tt; high = le-by-compare (4091 * 2 ^ 137) (2 ^ 149) tt }
+cosine-units = record { value = (refl, refl); low = le-by-compare (2 ^ 148) (8186 * 2 ^ 136) tt; high = le-by-compare (8186 * 2 ^ 136) (2 ^ 149) tt }
 
-large-cosine : (a b c : Float) (i j k : ℕ) → Units a i 128 163 → Units b j 128 163 → Units c k 128 163 → i * 79 ≤ j → i * 79 ≤ k → T (le (f32 0x3f7fb000) (cosineOf a b c))
+large-cosine : (a b c : Float) (i j k : ℕ) → Units a i 128 163 → Units b j 128 163 → Units c k 128 163 → i * 31 ≤ j → i * 31 ≤ k → T (le (f32 0x3f7fd000) (cosineOf a b c))
 unfolding cosineOf
 large-cosine a b c i j k ua ub uc near near' =
     let A = mul-units 107 177 ua ua tt in
@@ -75,19 +75,19 @@ large-cosine a b c i j k ua ub uc near near' =
     let D = mul-units 108 178 (e .is) uc tt in
     let y = mul-units 107 178 factor-units (D .is) tt in
     let g = div-units 78 219 (y .is) (D .is) tt in
-    let under = under-sum w (2 ^ 139) i j k (pow-pos 139) (pow-add 2 10 139) near near' (A .n) (B .n) (C .n) (S .n) (y .n) (A .below) (B .above) (C .above) (S .above) (product-most w (1023 * 2 ^ 139) j k (e .n) (D .n) (y .n) (pow-pos 149) (e .below) (D .below) (y .below)) in
-    let least = quotient-least w (1023 * 2 ^ 139) (D .n) (y .n) (g .n) (units-pos (D .is)) (y .above) (g .above) in
+    let under = under-sum w (2 ^ 136) i j k (pow-pos 136) (pow-add 2 13 136) near near' (A .n) (B .n) (C .n) (S .n) (y .n) (A .below) (B .above) (C .above) (S .above) (product-most w (8187 * 2 ^ 136) j k (e .n) (D .n) (y .n) (pow-pos 149) (e .below) (D .below) (y .below)) in
+    let least = quotient-least w (8187 * 2 ^ 136) (D .n) (y .n) (g .n) (units-pos (D .is)) (y .above) (g .above) in
     let d = two ⊗ b ⊗ c in
-    le-trans (f32 0x3f7fb000) (f32 0x3f7fc000 ⊗ d ⊘ d) ((b ⊗ b ⊕ c ⊗ c ⊖ a ⊗ a) ⊘ d)
-    (le-of-values (f32 0x3f7fb000) (f32 0x3f7fc000 ⊗ d ⊘ d) (4091 * 2 ^ 137) w (g .n) w (pow-pos 149) (pow-pos 149) (cosine-units .value) (g .is .value) (mul-le-mul-right w (last (2 ^ 137) (2 ^ 139) (g .n) (pow-add 2 2 137) least)))
-    (div-monotone (f32 0x3f7fc000 ⊗ d) (b ⊗ b ⊕ c ⊗ c ⊖ a ⊗ a) d (units-positive (D .is)) (difference-over (mul-fits binary32 (f32 0x3f7fc000) d) (S .is) (A .is) (y .is) under))
+    le-trans (f32 0x3f7fd000) (f32 0x3f7fd800 ⊗ d ⊘ d) ((b ⊗ b ⊕ c ⊗ c ⊖ a ⊗ a) ⊘ d)
+    (le-of-values (f32 0x3f7fd000) (f32 0x3f7fd800 ⊗ d ⊘ d) (8186 * 2 ^ 136) w (g .n) w (pow-pos 149) (pow-pos 149) (cosine-units .value) (g .is .value) (mul-le-mul-right w (last (2 ^ 136) (g .n) least)))
+    (div-monotone (f32 0x3f7fd800 ⊗ d) (b ⊗ b ⊕ c ⊗ c ⊖ a ⊗ a) d (units-positive (D .is)) (difference-over (mul-fits binary32 (f32 0x3f7fd800) d) (S .is) (A .is) (y .is) under))
   where
-    last : (p q g : ℕ) → q ≡ 4 * p → 1023 * q * 1000000 ≤ g * 1000001 → 4091 * p ≤ g
-    last p q g e h = omega arith
+    last : (p g : ℕ) → 8187 * p * 1000000 ≤ g * 1000001 → 8186 * p ≤ g
+    last p g h = omega arith
 
 -- ---- all six
 
-module _ (K : ℕ) (large : 79 ≤ K) (θ : Float) (κ : ℕ) (m : Float) (steps : List Step) (all : T (areAll K θ κ m steps)) (top : T (le (f32 κ) (f32 0x3f7fb000)))
+module _ (K : ℕ) (large : 31 ≤ K) (θ : Float) (κ : ℕ) (m : Float) (steps : List Step) (all : T (areAll K θ κ m steps)) (top : T (le (f32 κ) (f32 0x3f7fd000)))
     (a b c : Float) (i j k : ℕ) (ua : Units a i 128 163) (ub : Units b j 128 163) (uc : Units c k 128 163) (near : i * K ≤ j) (near' : i * K ≤ k) (far : j ≤ i * 8193) (far' : k ≤ i * 8193) where
   cosine-fits : (u v x : Float) → T (fits binary32 (cosineOf u v x))
   unfolding cosineOf
@@ -103,13 +103,17 @@ module _ (K : ℕ) (large : 79 ≤ K) (θ : Float) (κ : ℕ) (m : Float) (steps
       let D = mul-units 108 178 (mul-units 129 164 two-units s tt .is) ua tt in
       div-number (v ⊗ v ⊕ a ⊗ a ⊖ u ⊗ u) (two ⊗ v ⊗ a) (units-positive (D .is)) (sub-number (v ⊗ v ⊕ a ⊗ a) (u ⊗ u) (positive-finite (v ⊗ v ⊕ a ⊗ a) (units-positive (S .is))) (positive-finite (u ⊗ u) (units-positive (E .is))))
 
-  less : {q : ℕ} → i * K ≤ q → i * 79 ≤ q
+  some : 0 < K
+  unfolding IsLe
+  some = nat.le-trans (le-by-compare 1 31 tt) large
+
+  less : {q : ℕ} → i * K ≤ q → i * 31 ≤ q
   less h = nat.le-trans (mul-le-mul-left i large) h
 
   short-angle : {u v : Float} {p q : ℕ} → Units u p 128 163 → Units v q 128 163 → i * K ≤ p → i * K ≤ q → T (le (angle a u v) θ)
   unfolding angle cosineOf
   short-angle {u} {v} {p} {q} r s h l =
-      small-angle K θ κ m steps all (cosineOf a u v) (cosine-fits a u v) (le-trans (f32 κ) (f32 0x3f7fb000) (cosineOf a u v) top (large-cosine a u v i p q ua r s (less h) (less l)))
+      small-angle K θ κ m steps all (cosineOf a u v) (cosine-fits a u v) (le-trans (f32 κ) (f32 0x3f7fd000) (cosineOf a u v) top (large-cosine a u v i p q ua r s (less h) (less l)))
 
   by-first : (p q r : Float) → T (le p θ) → T (le (least p q r) θ)
   by-first p q r h = le-trans (least p q r) p θ (least-first p q r (le-left p θ h)) h
@@ -119,7 +123,7 @@ module _ (K : ℕ) (large : 79 ≤ K) (θ : Float) (κ : ℕ) (m : Float) (steps
 
   both : T (le (leastAngle b c a) θ) × T (le (leastAngle c b a) θ)
   unfolding leastAngle angle cosineOf
-  both = left-over K θ κ m steps all (cosineOf b c a) (cosineOf c b a) (cosine-fits b c a) (cosine-fits c b a) (cosine-number ub uc) (cosine-number uc ub) (opposed K large a b c i j k ua ub uc near' far') (opposed K large a c b i k j ua uc ub near far)
+  both = left-over K θ κ m steps all (cosineOf b c a) (cosineOf c b a) (cosine-fits b c a) (cosine-fits c b a) (cosine-number ub uc) (cosine-number uc ub) (opposed K some a b c i j k ua ub uc near' far') (opposed K some a c b i k j ua uc ub near far)
 
   bounded : {u v x : Float} → InOrder a b c u v x → T (le (leastAngle u v x) θ)
   unfolding leastAngle

@@ -5,7 +5,7 @@ use mathlib.Core.Logic.{inl, inr}
 use mathlib.Core.Bool.{Bool, true, false, not, _&&_, _||_, cond}
 use lib.Dec.{T, not-T, eqb, eqb→eq}
 use lib.IntN.{ℤ}
-use lib.Ieee.{Float, nan, inf, fin, up, down, level, binary32, neg, add, sub, mul, lt, le, eq, fits, isNan, ofBits}
+use lib.Ieee.{Float, nan, inf, fin, up, down, level, binary32, neg, mul, div, lt, le, eq, fits, isNan, ofBits}
 use lib.Ieee.Bits.{is-false, ofBits-fits}
 use lib.Ieee.Fits.{and-l, and-r, and-i, eq→eqb}
 use lib.Ieee.Scale.{finite}
@@ -16,7 +16,7 @@ use Rattle.numbers.proofs.OrderLaws.{le-left, le-right, lt-le, le-trans, le-lt-
 use Rattle.numbers.proofs.RoundedOrder.{neg-le}
 use Rattle.numbers.proofs.Bounded.{neg-neg}
 use Rattle.slivers.proofs.Angle.{level-le, strict}
-use Rattle.needle_angles.proofs.Least.{neg-lt, highLeast, high-least, lowLeast, low-least, middleLeast, middle-least, negativeLeast, negative-least}
+use Rattle.needle_angles.proofs.Least.{neg-lt, lowRatio, highLeast, high-least, lowLeast, low-least, middleLeast, middle-least, negativeLeast, negative-least}
 
 abbrev half : Float
 half = f32 0x3f000000
@@ -152,7 +152,7 @@ abbrev pub floorMiddle : Float → Float → Bool
 floorMiddle κ m = lt κ half && (le m (middleLeast κ) && underNegative m)
 
 abbrev pub floorNegative : Float → Float → Bool
-floorNegative κ m = lt κ (neg tiny) && (finite κ && (finite (κ ⊖ f32 0) && (le m (negativeLeast κ) && underLow m)))
+floorNegative κ m = lt κ (neg tiny) && (finite (κ ⊗ κ) && (le (f32 0) (lowRatio (κ ⊗ κ)) && (le m (negativeLeast κ) && underLow m)))
 
 -- of -κ
 abbrev pub floorLow : Float → Float → Bool
@@ -171,7 +171,7 @@ low-case m v f h b k = le-trans m (lowLeast half) (acosLow v) h (low-least half 
 negative-case : (m v : Float) → T (le m (negativeLeast (f32 0))) → T (lt v (neg tiny)) → T (lt (neg half) v) → T (le m (acosMiddle v))
 negative-case m v h b k =
     le-trans m (negativeLeast (f32 0)) (acosMiddle v) h
-    (negative-least (f32 0) v (lt-le (neg half) v k) b (le-trans v (neg tiny) (f32 0) (lt-le v (neg tiny) b) (unfold le neg ofBits in tt)) (unfold ofBits in tt) (unfold sub add neg ofBits in tt))
+    (negative-least (f32 0) v (lt-le (neg half) v k) b (le-trans v (neg tiny) (f32 0) (lt-le v (neg tiny) b) (unfold le neg ofBits in tt)) (unfold le ofBits in tt) (unfold mul ofBits in tt) (unfold le div mul ofBits in tt))
 
 -- what is above κ is not at most κ
 beyond : (v κ x : Float) → T (le v κ) → T (lt κ x) → T (le x v) → ⊥
@@ -230,14 +230,14 @@ floor-negative κ m t = record { least = λ v g h. held m v (cases v g h) (le-lt
     top : T (lt κ (neg tiny))
     top = and-l (lt κ (neg tiny)) _ t
 
-    a : T (finite κ && (finite (κ ⊖ f32 0) && (le m (negativeLeast κ) && underLow m)))
+    a : T (finite (κ ⊗ κ) && (le (f32 0) (lowRatio (κ ⊗ κ)) && (le m (negativeLeast κ) && underLow m)))
     a = and-r (lt κ (neg tiny)) _ t
 
-    b : T (finite (κ ⊖ f32 0) && (le m (negativeLeast κ) && underLow m))
-    b = and-r (finite κ) _ a
+    b : T (le (f32 0) (lowRatio (κ ⊗ κ)) && (le m (negativeLeast κ) && underLow m))
+    b = and-r (finite (κ ⊗ κ)) _ a
 
     d : T (le m (negativeLeast κ) && underLow m)
-    d = and-r (finite (κ ⊖ f32 0)) _ b
+    d = and-r (le (f32 0) (lowRatio (κ ⊗ κ))) _ b
 
     u : T (underLow m)
     u = and-r (le m (negativeLeast κ)) _ d
@@ -247,7 +247,7 @@ floor-negative κ m t = record { least = λ v g h. held m v (cases v g h) (le-lt
       high = λ k. absurd (beyond v κ (neg tiny) h top (le-trans (neg tiny) half v (unfold le neg ofBits in tt) k));
       middle = λ k l. absurd (beyond v κ (neg tiny) h top (le-trans (neg tiny) tiny v (unfold le neg ofBits in tt) (lt-le tiny v k)));
       center = λ k l. absurd (beyond v κ (neg tiny) h top k);
-      negative = λ k l. le-trans m (negativeLeast κ) (acosMiddle v) (and-l (le m (negativeLeast κ)) _ d) (negative-least κ v (lt-le (neg half) v l) k h (and-l (finite κ) _ a) (and-l (finite (κ ⊖ f32 0)) _ b));
+      negative = λ k l. le-trans m (negativeLeast κ) (acosMiddle v) (and-l (le m (negativeLeast κ)) _ d) (negative-least κ v (lt-le (neg half) v l) k h (le-trans κ (neg tiny) (f32 0) (lt-le κ (neg tiny) top) (unfold le neg ofBits in tt)) (and-l (finite (κ ⊗ κ)) _ a) (and-l (le (f32 0) (lowRatio (κ ⊗ κ))) _ b));
       low = low-case m v g (and-l (le m (lowLeast half)) _ u);
       least = and-r (le m (lowLeast half)) _ u;
     }

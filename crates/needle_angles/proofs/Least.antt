@@ -1,9 +1,10 @@
 -- No arc cosine of a number up to κ is below a number that is worked out from κ (`high-least`, `low-least`, `middle-least`, `negative-least`): each part of it is bounded by what the number has in its place. Assumes nothing.
 use mathlib.Core.Path.{_≡_, refl, sym, subst}
 use mathlib.Core.Logic.{inl, inr}
-use mathlib.Core.Bool.{false}
+use Prim.Native.Nat.{_*_}
+use mathlib.Core.Bool.{Bool, true, false, not}
 use lib.Dec.{T}
-use lib.Ieee.{Float, inf, binary32, neg, add, sub, mul, div, lt, le, fits, ofBits}
+use lib.Ieee.{Float, inf, binary32, unlike, up, down, neg, add, sub, mul, div, lt, le, fits, ofBits}
 use lib.Ieee.Fits.{neg-fits}
 use lib.Ieee.Scale.{finite}
 use lib.Ieee.Positive.{positive, positive-finite, between}
@@ -12,10 +13,10 @@ use Rattle.numbers.specs.Root.{root}
 use Rattle.numbers.specs.Bounds.{unsigned, Bounded}
 use Rattle.numbers.specs.Acos.{R, highPart, acosMiddle, acosLow, acosHigh}
 use Rattle.numbers.proofs.Above.{positive-signless, finite-under}
-use Rattle.numbers.proofs.OrderLaws.{le-left, le-right, lt-le, le-or-lt, le-not-lt, le-trans, le-lt-trans, lt-le-trans, unsigned-le}
-use Rattle.numbers.proofs.RoundedOrder.{neg-le}
-use Rattle.numbers.proofs.SumOrder.{sub-monotone, sub-antitone, sub-nonnegative}
-use Rattle.numbers.proofs.ProductOrder.{mul-monotone-finite, mul-commutative, mul-nonpositive, square-monotone, square-neg}
+use Rattle.numbers.proofs.OrderLaws.{of-finite, le-left, le-right, lt-le, le-or-lt, le-not-lt, le-trans, le-lt-trans, lt-le-trans, unsigned-le}
+use Rattle.numbers.proofs.RoundedOrder.{neg-le, round-neg, minus-zero-le}
+use Rattle.numbers.proofs.SumOrder.{neg-finite, sub-monotone, sub-antitone}
+use Rattle.numbers.proofs.ProductOrder.{mul-monotone-finite, mul-commutative, square-monotone, square-antitone, square-neg}
 use Rattle.numbers.proofs.QuotientOrder.{div-monotone, div-unsigned}
 use Rattle.numbers.proofs.RootMonotone.{root-monotone}
 use Rattle.numbers.proofs.Bounded.{neg-neg, neg-bounded, bounded-finite, add-bounded, sub-bounded, mul-unsigned, mul-bounded}
@@ -44,7 +45,7 @@ small = f32 0x3a800000
 
 -- ---- the rational function up to 0.25
 
-abbrev lowRatio : Float → Float
+abbrev pub lowRatio : Float → Float
 lowRatio z = z ⊗ f32 0x3e19999a ⊘ one
 
 module _ (z : Float) (p : T (positive z)) (h : T (le z quarter)) where
@@ -72,6 +73,15 @@ module _ (z : Float) (p : T (positive z)) (h : T (le z quarter)) where
       (div-monotone (z ⊗ f32 0x3e3851ec) (quarter ⊗ f32 0x3e3851ec) (f32 0x3f51eb85) (unfold ofBits in tt) (mul-monotone-finite z quarter (f32 0x3e3851ec) (positive-finite z p) (unfold ofBits in tt) (unfold ofBits in tt) h (unfold le ofBits in tt))) (unfold le neg div mul ofBits in tt)
 
 -- ---- signs changed
+
+unlike-not : (s t : Bool) → unlike s (not t) ≡ not (unlike s t)
+unlike-not true true = refl
+unlike-not true false = refl
+unlike-not false true = refl
+unlike-not false false = refl
+
+mul-neg : (x c : Float) → T (finite x) → T (finite c) → x ⊗ neg c ≡ neg (x ⊗ c)
+mul-neg = of-finite (λ x c. x ⊗ neg c ≡ neg (x ⊗ c)) (λ s m e t n d. unfold mul neg in rw (unlike-not s t) (round-neg binary32 (unlike s t) (m * up e * (n * up d)) (down e * down d)))
 
 pub neg-lt : (x y : Float) → T (lt x y) → T (lt (neg y) (neg x))
 neg-lt x y h =
@@ -192,7 +202,7 @@ abbrev pub middleLeast : Float → Float
 middleLeast κ = H ⊖ (κ ⊖ (L ⊖ κ ⊗ ratio (κ ⊗ κ)))
 
 abbrev pub negativeLeast : Float → Float
-negativeLeast κ = H ⊖ (κ ⊖ f32 0)
+negativeLeast κ = H ⊖ (κ ⊖ (L ⊖ κ ⊗ lowRatio (κ ⊗ κ)))
 
 -- what is taken from a half of pi
 taken-finite : (v r : Float) → Bounded v half → Bounded r (ratio quarter) → T (finite (v ⊗ r)) × T (finite (L ⊖ v ⊗ r)) × T (finite (v ⊖ (L ⊖ v ⊗ r)))
@@ -205,6 +215,14 @@ taken-finite v r b k =
       bounded-finite (L ⊖ v ⊗ r) (L ⊕ half ⊗ ratio quarter) (unfold add div mul ofBits in tt) e,
       bounded-finite (v ⊖ (L ⊖ v ⊗ r)) (half ⊕ (L ⊕ half ⊗ ratio quarter)) (unfold add div mul ofBits in tt) t,
     )
+
+-- with more in their place
+falling : (κ v q p : Float) → T (finite v) → T (finite κ) → T (le v κ) → T (finite p) × T (finite (L ⊖ p)) × T (finite (v ⊖ (L ⊖ p))) → T (finite q) × T (finite (L ⊖ q)) × T (finite (κ ⊖ (L ⊖ q))) → T (le p q) → T (le (H ⊖ (κ ⊖ (L ⊖ q))) (H ⊖ (v ⊖ (L ⊖ p))))
+falling κ v q p v-finite κ-finite h less more product =
+    let rest = sub-antitone p q L (less .0) (more .0) (unfold ofBits in tt) product in
+    let whole : T (le (v ⊖ (L ⊖ p)) (κ ⊖ (L ⊖ q))) =
+    le-trans (v ⊖ (L ⊖ p)) (κ ⊖ (L ⊖ p)) (κ ⊖ (L ⊖ q)) (sub-monotone v κ (L ⊖ p) v-finite κ-finite (less .1) h) (sub-antitone (L ⊖ q) (L ⊖ p) κ (more .1) (less .1) κ-finite rest) in
+    sub-antitone (v ⊖ (L ⊖ p)) (κ ⊖ (L ⊖ q)) H (less .2) (more .2) (unfold ofBits in tt) whole
 
 pub middle-least : (κ v : Float) → T (lt (f32 0x32800000) v) → T (le v κ) → T (le κ half) → T (le (middleLeast κ) (acosMiddle v))
 unfolding acosMiddle
@@ -231,28 +249,38 @@ middle-least κ v lo h hi =
     let product : T (le (v ⊗ R z) (κ ⊗ ratio Z)) =
     le-trans (v ⊗ R z) (κ ⊗ R z) (κ ⊗ ratio Z) (mul-monotone-finite v κ (R z) v-finite κ-finite r-finite h (unsigned-le (R z) (ratio-plain z (sq .0) (sq .1))))
     (rw (mul-commutative κ (R z), mul-commutative κ (ratio Z)) (mul-monotone-finite (R z) (ratio Z) κ r-finite q-finite κ-finite r-le above-κ)) in
-    let rest = sub-antitone (v ⊗ R z) (κ ⊗ ratio Z) L (less .0) (more .0) (unfold ofBits in tt) product in
-    let whole : T (le (v ⊖ (L ⊖ v ⊗ R z)) (κ ⊖ (L ⊖ κ ⊗ ratio Z))) =
-    le-trans (v ⊖ (L ⊖ v ⊗ R z)) (κ ⊖ (L ⊖ v ⊗ R z)) (κ ⊖ (L ⊖ κ ⊗ ratio Z)) (sub-monotone v κ (L ⊖ v ⊗ R z) v-finite κ-finite (less .1) h) (sub-antitone (L ⊖ κ ⊗ ratio Z) (L ⊖ v ⊗ R z) κ (more .1) (less .1) κ-finite rest) in
-    sub-antitone (v ⊖ (L ⊖ v ⊗ R z)) (κ ⊖ (L ⊖ κ ⊗ ratio Z)) H (less .2) (more .2) (unfold ofBits in tt) whole
+    falling κ v (κ ⊗ ratio Z) (v ⊗ R z) v-finite κ-finite h less more product
 
-pub negative-least : (κ v : Float) → T (le (neg half) v) → T (lt v (neg (f32 0x32800000))) → T (le v κ) → T (finite κ) → T (finite (κ ⊖ f32 0)) → T (le (negativeLeast κ) (acosMiddle v))
+-- a factor below zero turns the order
+turned-product : (x y c : Float) → T (finite x) → T (finite y) → T (finite c) → T (le x y) → T (le c (f32 0)) → T (le (c ⊗ y) (c ⊗ x))
+turned-product x y c f g k h l =
+    let d = neg c in
+    let m = mul-monotone-finite x y d f g (neg-finite c k) h (le-trans (f32 0) (neg (f32 0)) d (minus-zero-le .1) (neg-le c (f32 0) l)) in
+    rw (mul-commutative c y, mul-commutative c x) (subst (λ (a : Float). T (le (y ⊗ a) (x ⊗ a))) (neg-neg c) (rw (mul-neg y d g (neg-finite c k), mul-neg x d f (neg-finite c k)) (neg-le (x ⊗ d) (y ⊗ d) m)))
+
+pub negative-least : (κ v : Float) → T (le (neg half) v) → T (lt v (neg (f32 0x32800000))) → T (le v κ) → T (le κ (f32 0)) → T (finite (κ ⊗ κ)) → T (le (f32 0) (lowRatio (κ ⊗ κ))) → T (le (negativeLeast κ) (acosMiddle v))
 unfolding acosMiddle
-negative-least κ v lo b h f k =
+negative-least κ v lo b h o f k =
     let z = v ⊗ v in
     let u = neg v in
     let sq = square-positive u (turned v b) (subst (λ (x : Float). T (le u x)) (neg-neg half) (neg-le (neg half) v lo)) in
     let p : T (positive z) = subst (λ (x : Float). T (positive x)) (square-neg v) (sq .0) in
     let m : T (le z quarter) = subst (λ (x : Float). T (le x quarter)) (square-neg v) (sq .1) in
-    let under : T (le v (f32 0)) = le-trans v (neg (f32 0x32800000)) (f32 0) (lt-le v (neg (f32 0x32800000)) b) (unfold le neg ofBits in tt) in
-    let v-bounded : Bounded v half = record { upper = le-trans v (f32 0) half under (unfold le ofBits in tt); lower = lo } in
+    let v-bounded : Bounded v half = record { upper = le-trans v κ half h (le-trans κ (f32 0) half o (unfold le ofBits in tt)); lower = lo } in
+    let κ-bounded : Bounded κ half = record { upper = le-trans κ (f32 0) half o (unfold le ofBits in tt); lower = le-trans (neg half) v κ lo h } in
     let v-finite = bounded-finite v half (unfold ofBits in tt) v-bounded in
-    let q = taken-finite v (R z) v-bounded (R-bounded z p m) in
-    let product : T (le (v ⊗ R z) (f32 0)) = mul-nonpositive v (R z) v-finite (R-finite z p m) under (unsigned-le (R z) (ratio-plain z p m)) in
-    let rest : T (le (f32 0) (L ⊖ v ⊗ R z)) = sub-nonnegative L (v ⊗ R z) (unfold ofBits in tt) (q .0) (le-trans (v ⊗ R z) (f32 0) L product (unfold le ofBits in tt)) in
-    let whole : T (le (v ⊖ (L ⊖ v ⊗ R z)) (κ ⊖ f32 0)) =
-    le-trans (v ⊖ (L ⊖ v ⊗ R z)) (v ⊖ f32 0) (κ ⊖ f32 0) (sub-antitone (f32 0) (L ⊖ v ⊗ R z) v (unfold ofBits in tt) (q .1) v-finite rest) (sub-monotone v κ (f32 0) v-finite f (unfold ofBits in tt) h) in
-    sub-antitone (v ⊖ (L ⊖ v ⊗ R z)) (κ ⊖ f32 0) H (q .2) k (unfold ofBits in tt) whole
+    let κ-finite = bounded-finite κ half (unfold ofBits in tt) κ-bounded in
+    let l = lowRatio (κ ⊗ κ) in
+    let r-bounded = R-bounded z p m in
+    let r-finite = R-finite z p m in
+    let l-le : T (le l (R z)) = ratio-least z p m (κ ⊗ κ) f (square-antitone κ v o h) in
+    let l-bounded : Bounded l (ratio quarter) = record { upper = le-trans l (R z) (ratio quarter) l-le (r-bounded .upper); lower = le-trans (neg (ratio quarter)) (f32 0) l (unfold le neg div mul ofBits in tt) k } in
+    let l-finite = bounded-finite l (ratio quarter) (unfold div mul ofBits in tt) l-bounded in
+    let less = taken-finite v (R z) v-bounded r-bounded in
+    let more = taken-finite κ l κ-bounded l-bounded in
+    let product : T (le (v ⊗ R z) (κ ⊗ l)) =
+    le-trans (v ⊗ R z) (κ ⊗ R z) (κ ⊗ l) (mul-monotone-finite v κ (R z) v-finite κ-finite r-finite h (unsigned-le (R z) (ratio-plain z p m))) (turned-product l (R z) κ l-finite r-finite κ-finite l-le o) in
+    falling κ v (κ ⊗ l) (v ⊗ R z) v-finite κ-finite h less more product
   where
     turned : (v : Float) → T (lt v (neg (f32 0x32800000))) → T (lt (f32 0x32800000) (neg v))
     turned v h = subst (λ (x : Float). T (lt x (neg v))) (neg-neg (f32 0x32800000)) (neg-lt v (neg (f32 0x32800000)) h)

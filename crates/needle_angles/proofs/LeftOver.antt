@@ -75,8 +75,9 @@ floor-below r m = go (le half (f32 r))
 
 -- ---- steps
 
--- numbers by their bits: a cosine from t on has an opposite of at least r, by the factors τ and ρ; m and n are floors
+-- a cosine from t on has an opposite of at least r, by the factors τ and ρ and the part s; m and n are floors; numbers by their bits, but s
 pub record Step : Type 0 where
+  pub s : ℕ
   pub t : ℕ
   pub τ : ℕ
   pub ρ : ℕ
@@ -84,14 +85,14 @@ pub record Step : Type 0 where
   pub m : ℕ
   pub n : ℕ
 
-unfoldable pub step : ℕ → ℕ → ℕ → ℕ → ℕ → ℕ → Step
-step t τ ρ r m n = record { t = t; τ = τ; ρ = ρ; r = r; m = m; n = n }
+unfoldable pub step : ℕ → ℕ → ℕ → ℕ → ℕ → ℕ → ℕ → Step
+step s t τ ρ r m n = record { s = s; t = t; τ = τ; ρ = ρ; r = r; m = m; n = n }
 
 -- for cosines below κ
 abbrev isStep : ℕ → Float → ℕ → Step → Bool
 isStep K θ κ s =
     lt (f32 (s .t)) (f32 κ)
-    && (areApart K (s .t) (s .τ) (s .ρ) (s .r)
+    && (areApart K (s .s) (s .t) (s .τ) (s .ρ) (s .r)
     && (isFloor κ (f32 (s .m)) && (isFloorBelow (s .r) (f32 (s .n)) && (leftUnder θ (f32 (s .m)) (f32 (s .n)) && leftUnder θ (f32 (s .n)) (f32 (s .m))))))
 
 unfoldable pub areSteps : ℕ → Float → ℕ → List Step → Bool
@@ -131,17 +132,17 @@ module _ (K : ℕ) (θ : Float) where
 
   -- w is at most the opposite of v, but for a margin
   abbrev pub Turned : Float → Float → Type 0
-  Turned v w = (t τ ρ r : ℕ) → T (areApart K t τ ρ r) → T (le (f32 t) v) → T (le w (neg (f32 r)))
+  Turned v w = (s t τ ρ r : ℕ) → T (areApart K s t τ ρ r) → T (le (f32 t) v) → T (le w (neg (f32 r)))
 
   module _ (v w : Float) (f : T (fits binary32 v)) (g : T (fits binary32 w)) (turned : Turned v w) where
     one-step : (κ : ℕ) (s : Step) → T (isStep K θ κ s) → T (lt v (f32 κ)) → T (le (f32 (s .t)) v) → Small v w
     one-step κ s h' b k =
         let h = and-r (lt (f32 (s .t)) (f32 κ)) _ h' in
-        let h1 = and-r (areApart K (s .t) (s .τ) (s .ρ) (s .r)) _ h in
+        let h1 = and-r (areApart K (s .s) (s .t) (s .τ) (s .ρ) (s .r)) _ h in
         let h2 = and-r (isFloor κ (f32 (s .m))) _ h1 in
         let h3 = and-r (isFloorBelow (s .r) (f32 (s .n))) _ h2 in
         let y = floor-is κ (f32 (s .m)) (and-l (isFloor κ (f32 (s .m))) _ h1) .least v f (lt-le v (f32 κ) b) in
-        let z = floor-below (s .r) (f32 (s .n)) (and-l (isFloorBelow (s .r) (f32 (s .n))) _ h2) .least w g (turned (s .t) (s .τ) (s .ρ) (s .r) (and-l (areApart K (s .t) (s .τ) (s .ρ) (s .r)) _ h) k) in
+        let z = floor-below (s .r) (f32 (s .n)) (and-l (isFloorBelow (s .r) (f32 (s .n))) _ h2) .least w g (turned (s .s) (s .t) (s .τ) (s .ρ) (s .r) (and-l (areApart K (s .s) (s .t) (s .τ) (s .ρ) (s .r)) _ h) k) in
         by-left v w (left-under θ (f32 (s .m)) (f32 (s .n)) (held v) (held w) (and-l (leftUnder θ (f32 (s .m)) (f32 (s .n))) _ h3) y z) (left-under θ (f32 (s .n)) (f32 (s .m)) (held w) (held v) (and-r (leftUnder θ (f32 (s .m)) (f32 (s .n))) _ h3) z y)
 
     walk : (κ : ℕ) (steps : List Step) → T (areSteps K θ κ steps) → T (lt v (f32 κ)) → T (le (f32 (lastOf κ steps)) v) → Small v w

@@ -1,91 +1,153 @@
--- The two cosines of a needle, over whole numbers: a, b and c are the edges, w units to 1. Where c² + a² - b² is from y on, c² - b² - a² is from y' on, rounding included (`opposite`). Assumes nothing.
+-- The two cosines of a needle, over whole numbers: a, b and c are the edges, w units to 1. Where c² + a² - b² is from y on, c² - b² - a² is from y' on, rounding included (`opposite`); and a is much shorter by the squares (`edges-near`, `edges-far`). Assumes nothing.
 use mathlib.Core.Path.{_≡_, refl, sym, ap, subst}
 use Prim.Native.Nat.{ℕ, _+_, _-_, _*_, _^_, _≤_, _<_}
 use native.Mathlib.Nat.{mul-le-mul, mul-le-mul-left, mul-le-mul-right, le-of-mul-le-mul-right, mul-pos, le-trans}
 use native.Mathlib.Omega.{arith}
 use native.Mathlib.Bridge.{IsLe, le-by-compare}
 use native.Mathlib.Decide.{decLe}
+use mathlib.Core.Bool.{Bool}
+use lib.Dec.{T, leb, leb→le}
 use Rattle.rounding_errors.proofs.Near.{Near, near-le, near-eq, near-trans, near-times, near-mul, near-add, near-cancel, near-within, square-back}
 
--- what the factors τ and ρ of y and y' have to satisfy
-abbrev pub Apart : ℕ → ℕ → ℕ → ℕ → Type 0
-Apart K w τ ρ = (8193 * 6000 * (K * w) + 16777216 * 6000 * w + 16777215 * 6001 * (K * ρ)) * (1000001 * 1000001) ≤ 16777215 * 6000 * (1000000 * 1000000) * (K * τ)
+-- What the factors τ and ρ of y and y' have to satisfy, with edges K times as long: c is longer than b by a part s of
+-- 4096 of a, and that makes up for the rounding errors of the sums and for what is left of a².
+abbrev pub isLonger : ℕ → ℕ → ℕ → ℕ → Bool
+isLonger K s w τ = leb ((4096 * 19 * 8193 * (K * w) + 4096 * 100000019 * w + 200000000 * (s * (K * w))) * 1000001) (4096 * 100000000 * 2 * 1000000 * (K * τ))
+
+abbrev pub isApart : ℕ → ℕ → ℕ → ℕ → ℕ → Bool
+isApart K s w τ ρ = leb ((4096 * 8193 * (K * w) + (16777216 * 4096 * w - 16777215 * (ρ * s)) + 4096 * 16777215 * (K * ρ)) * (1000001 * 1000001)) (4096 * 16777215 * (1000000 * 1000000) * (K * τ))
+
+-- three roundings
+rounded : (b B y P q : ℕ) → b * 100000000 ≤ B * 100000006 → B + y ≤ P → P * 100000000 ≤ q * 100000012 → b * 100000000 + y * 100000000 ≤ q * 100000019
+rounded b B y P q h i j = omega arith
 
 -- a is at most a part of K of c, and at least one of 8193
-module _ (K w a b c : ℕ) (large : 79 ≤ K) (W : 0 < w) (near : a * K ≤ c) (far : c ≤ a * 8193) where
-  -- b is not much longer than c
-  not-longer : (A B C P : ℕ) → B ≤ P → Near 1 P (C + A) → Near 1 (b * b) (B * w) → Near 1 (A * w) (a * a) → Near 1 (C * w) (c * c) → b * 6000 ≤ c * 6001
-  unfolding IsLe
-  not-longer A B C P h p u x z =
-      let s : Near 1 (C * w + A * w) (c * c + a * a) = near-add z x in
-      let t : Near 1 (P * w) (C * w + A * w) = near-eq refl (spread C A) (near-times w p) in
-      let n : Near 3 (b * b) (c * c + a * a) = near-trans (near-trans (near-trans u (near-le (mul-le-mul-right w h))) t) s in
-      let i = near-within {p = b * b} {q = c * c + a * a} 3 1000000 1000001 (le-by-compare (1000000 * 16777216 ^ 3) (1000001 * 16777215 ^ 3) tt) n in
-      let l : a * 79 ≤ c = le-trans (mul-le-mul-left a large) near in
-      let j : a * 79 * (a * 79) ≤ c * c = mul-le-mul l l in
-      square-back (b * 6000) (c * 6001) (squares i j)
-    where
-      spread : (C A : ℕ) → (C + A) * w ≡ C * w + A * w
-      spread C A = omega arith
-
-      squares : b * b * 1000000 ≤ (c * c + a * a) * 1000001 → a * 79 * (a * 79) ≤ c * c → b * 6000 * (b * 6000) ≤ c * 6001 * (c * 6001)
-      squares i j = omega arith
-
-  -- the rounding errors of the sums, against y - y'
-  module _ (τ ρ A C y y' : ℕ) (apart : Apart K w τ ρ) (C-most : Near 1 (C * w) (c * c)) (A-most : Near 1 (A * w) (a * a)) (y-least : Near 3 (τ * (2 * c * a)) (y * w * w)) (y'-most : Near 3 (y' * w * w) (ρ * (2 * b * a))) where
-    margin : b * 6000 ≤ c * 6001 → 2 * C + 2 * 16777216 * A + 16777215 * y' ≤ 16777215 * y
+module _ (K s w a b c : ℕ) (large : 0 < K) (part : s ≤ 4096) (W : 0 < w) (near : a * K ≤ c) (far : c ≤ a * 8193) where
+  module _ (τ A C y : ℕ) (longer : T (isLonger K s w τ)) (C-most : Near 1 (C * w) (c * c)) (A-most : Near 1 (A * w) (a * a)) (y-least : Near 3 (τ * (2 * c * a)) (y * w * w)) where
+    -- c is longer than b
+    linear : (B P : ℕ) → B + y ≤ P → Near 1 P (C + A) → Near 1 (b * b) (B * w) → 4096 * (b * b) + 2 * s * (c * a) ≤ 4096 * (c * c)
     unfolding IsLe
-    margin l =
-        let i = near-within {p = C * w} {q = c * c} 1 1000000 1000001 (le-by-compare (1000000 * 16777216 ^ 1) (1000001 * 16777215 ^ 1) tt) C-most in
-        let j = near-within {p = A * w} {q = a * a} 1 1000000 1000001 (le-by-compare (1000000 * 16777216 ^ 1) (1000001 * 16777215 ^ 1) tt) A-most in
-        let k = near-within {p = y' * w * w} {q = ρ * (2 * b * a)} 3 1000000 1000001 (le-by-compare (1000000 * 16777216 ^ 3) (1000001 * 16777215 ^ 3) tt) y'-most in
+    linear B P h p u =
+        let i = near-within {p = b * b} {q = B * w} 1 100000000 100000006 (le-by-compare (100000000 * 16777216 ^ 1) (100000006 * 16777215 ^ 1) tt) u in
+        let t : Near 2 (P * w) (c * c + a * a) = near-trans (near-eq refl (spread C A) (near-times w p)) (near-add C-most A-most) in
+        let j = near-within {p = P * w} {q = c * c + a * a} 2 100000000 100000012 (le-by-compare (100000000 * 16777216 ^ 2) (100000012 * 16777215 ^ 2) tt) t in
         let m = near-within {p = τ * (2 * c * a)} {q = y * w * w} 3 1000000 1000001 (le-by-compare (1000000 * 16777216 ^ 3) (1000001 * 16777215 ^ 3) tt) y-least in
+        let r = rounded (b * b) (B * w) (y * w) (P * w) (c * c + a * a) i (add-under-w B P h) j in
+        let r' : (b * b * 100000000 + y * w * 100000000) * w ≤ (c * c + a * a) * 100000019 * w = mul-le-mul-right w r in
         let f : c * (c * w) ≤ a * 8193 * (c * w) = mul-le-mul-right (c * w) far in
         let n : a * K * (a * w) ≤ c * (a * w) = mul-le-mul-right (a * w) near in
-        let o : b * 6000 * (ρ * a) ≤ c * 6001 * (ρ * a) = mul-le-mul-right (ρ * a) l in
-        let i' : C * w * 1000000 * w ≤ c * c * 1000001 * w = mul-le-mul-right w i in
-        let j' : A * w * 1000000 * w ≤ a * a * 1000001 * w = mul-le-mul-right w j in
-        let g = mul-le-mul-right (c * a) apart in
-        le-of-mul-le-mul-right (gathered (whole (C * w * w * K) (A * w * w * K) (y' * w * w * K) (y * w * w * K) (K * (w * (c * a))) (w * (c * a)) (K * (ρ * (c * a))) (K * (τ * (c * a)))
-        (times (C * w * w) 1000000 (w * (c * a)) (8193 * 1000001) (first i' f)) (second j' n) (times (y' * w * w) (1000000 * 6000) (ρ * (c * a)) (2 * 6001 * 1000001) (third k o)) (fourth m) (fifth g))) (mul-pos (mul-pos W W) (le-trans (le-by-compare 1 79 tt) large))
+        let g = mul-le-mul-right (c * a) (leb→le _ (4096 * 100000000 * 2 * 1000000 * (K * τ)) longer) in
+        let v : (4096 * (b * b) + 2 * s * (c * a)) * (w * K) ≤ 4096 * (c * c) * (w * K) =
+        gathered (whole (b * b * w * K) (y * w * w * K) (c * c * w * K) (a * a * w * K) (K * (w * (c * a))) (w * (c * a)) (s * (K * (w * (c * a)))) (K * (τ * (c * a))) (first r') (second f) (third n) (fourth m) (fifth g)) in
+        le-of-mul-le-mul-right v (mul-pos W large)
       where
-        times : (x m y n : ℕ) → x * m ≤ y * n → x * K * m ≤ K * y * n
-        times x m y n h = let i = mul-le-mul-right K h in omega arith
+        add-under-w : (B P : ℕ) → B + y ≤ P → B * w + y * w ≤ P * w
+        add-under-w B P h = let i = mul-le-mul-right w h in omega arith
 
-        first : C * w * 1000000 * w ≤ c * c * 1000001 * w → c * (c * w) ≤ a * 8193 * (c * w) → C * w * w * 1000000 ≤ w * (c * a) * (8193 * 1000001)
-        first i f = omega arith
+        spread : (C A : ℕ) → (C + A) * w ≡ C * w + A * w
+        spread C A = omega arith
 
-        second : A * w * 1000000 * w ≤ a * a * 1000001 * w → a * K * (a * w) ≤ c * (a * w) → A * w * w * K * 1000000 ≤ w * (c * a) * 1000001
-        second j n = let i = mul-le-mul-right K j in omega arith
+        first : (b * b * 100000000 + y * w * 100000000) * w ≤ (c * c + a * a) * 100000019 * w → b * b * w * K * 100000000 + y * w * w * K * 100000000 ≤ (c * c * w * K + a * a * w * K) * 100000019
+        first r = let i = mul-le-mul-right K r in omega arith
 
-        third : y' * w * w * 1000000 ≤ ρ * (2 * b * a) * 1000001 → b * 6000 * (ρ * a) ≤ c * 6001 * (ρ * a) → y' * w * w * (1000000 * 6000) ≤ ρ * (c * a) * (2 * 6001 * 1000001)
-        third k o = omega arith
+        second : c * (c * w) ≤ a * 8193 * (c * w) → c * c * w * K ≤ 8193 * (K * (w * (c * a)))
+        second f = let i = mul-le-mul-right K f in omega arith
+
+        third : a * K * (a * w) ≤ c * (a * w) → a * a * w * K ≤ w * (c * a)
+        third n = omega arith
 
         fourth : τ * (2 * c * a) * 1000000 ≤ y * w * w * 1000001 → K * (τ * (c * a)) * (2 * 1000000) ≤ y * w * w * K * 1000001
         fourth m = let i = mul-le-mul-right K m in omega arith
 
-        fifth : (8193 * 6000 * (K * w) + 16777216 * 6000 * w + 16777215 * 6001 * (K * ρ)) * (1000001 * 1000001) * (c * a) ≤ 16777215 * 6000 * (1000000 * 1000000) * (K * τ) * (c * a)
-            → (8193 * 6000 * (K * (w * (c * a))) + 16777216 * 6000 * (w * (c * a)) + 16777215 * 6001 * (K * (ρ * (c * a)))) * (1000001 * 1000001) ≤ 16777215 * 6000 * (1000000 * 1000000) * (K * (τ * (c * a)))
+        fifth : (4096 * 19 * 8193 * (K * w) + 4096 * 100000019 * w + 200000000 * (s * (K * w))) * 1000001 * (c * a) ≤ 4096 * 100000000 * 2 * 1000000 * (K * τ) * (c * a)
+            → (4096 * 19 * 8193 * (K * (w * (c * a))) + 4096 * 100000019 * (w * (c * a)) + 200000000 * (s * (K * (w * (c * a))))) * 1000001 ≤ 4096 * 100000000 * 2 * 1000000 * (K * (τ * (c * a)))
         fifth g = omega arith
 
-        whole : (x z r s k p q t : ℕ) → x * 1000000 ≤ k * (8193 * 1000001) → z * 1000000 ≤ p * 1000001 → r * (1000000 * 6000) ≤ q * (2 * 6001 * 1000001) → t * (2 * 1000000) ≤ s * 1000001
-            → (8193 * 6000 * k + 16777216 * 6000 * p + 16777215 * 6001 * q) * (1000001 * 1000001) ≤ 16777215 * 6000 * (1000000 * 1000000) * t
-            → 2 * x + 2 * 16777216 * z + 16777215 * r ≤ 16777215 * s
-        whole x z r s k p q t i j l m g = omega arith
-
-        gathered : 2 * (C * w * w * K) + 2 * 16777216 * (A * w * w * K) + 16777215 * (y' * w * w * K) ≤ 16777215 * (y * w * w * K) → (2 * C + 2 * 16777216 * A + 16777215 * y') * (w * w * K) ≤ 16777215 * y * (w * w * K)
+        gathered : 4096 * (b * b * w * K) + 2 * (s * (K * (w * (c * a)))) ≤ 4096 * (c * c * w * K) → (4096 * (b * b) + 2 * s * (c * a)) * (w * K) ≤ 4096 * (c * c) * (w * K)
         gathered h = omega arith
 
-    pub opposite : (B P Q : ℕ) → B + y ≤ P → Near 1 P (C + A) → Near 1 Q (B + A) → Near 1 (b * b) (B * w) → Q + y' ≤ C
-    unfolding IsLe
-    opposite B P Q h p q u =
-        let m = margin (not-longer A B C P (omega arith) p u A-most C-most) in
-        let i = near-within {p = P} {q = C + A} 1 16777215 16777216 (le-by-compare (16777215 * 16777216 ^ 1) (16777216 * 16777215 ^ 1) tt) p in
-        let j = near-within {p = Q} {q = B + A} 1 16777215 16777216 (le-by-compare (16777215 * 16777216 ^ 1) (16777216 * 16777215 ^ 1) tt) q in
-        last m i j
+        whole : (x y c a k p q t : ℕ) → x * 100000000 + y * 100000000 ≤ (c + a) * 100000019 → c ≤ 8193 * k → a ≤ p → t * (2 * 1000000) ≤ y * 1000001
+            → (4096 * 19 * 8193 * k + 4096 * 100000019 * p + 200000000 * q) * 1000001 ≤ 4096 * 100000000 * 2 * 1000000 * t
+            → 4096 * x + 2 * q ≤ 4096 * c
+        whole x y c a k p q t i j l m g = omega arith
+
+    shorter : (B P : ℕ) → B + y ≤ P → Near 1 P (C + A) → Near 1 (b * b) (B * w) → b * 4096 + s * a ≤ c * 4096
+    shorter B P h p u = go (c * 4096 - s * a) fits (linear B P h p u)
       where
-        last : 2 * C + 2 * 16777216 * A + 16777215 * y' ≤ 16777215 * y → P * 16777215 ≤ (C + A) * 16777216 → Q * 16777215 ≤ (B + A) * 16777216 → Q + y' ≤ C
-        last m i j = omega arith
+        short : a ≤ c
+        short = let i : a * 1 ≤ a * K = mul-le-mul-left a large in omega arith
+
+        fits : (c * 4096 - s * a) + s * a ≡ c * 4096
+        fits = let i : s * a ≤ 4096 * c = mul-le-mul part short in omega arith
+
+        go : (d : ℕ) → d + s * a ≡ c * 4096 → 4096 * (b * b) + 2 * s * (c * a) ≤ 4096 * (c * c) → b * 4096 + s * a ≤ c * 4096
+        go d e l =
+            let i = ap (λ (x : ℕ). x * d) e in
+            let j = ap (λ (x : ℕ). x * (s * a)) e in
+            let k = ap (λ (x : ℕ). x * (c * 4096)) e in
+            let m = square-back (b * 4096) d (omega arith) in
+            omega arith
+
+    -- the rounding errors of the sums, against y - y'
+    module _ (ρ y' : ℕ) (apart : T (isApart K s w τ ρ)) (y'-most : Near 3 (y' * w * w) (ρ * (2 * b * a))) where
+      margin : b * 4096 + s * a ≤ c * 4096 → 2 * C + 2 * 16777216 * A + 16777215 * y' ≤ 16777215 * y
+      unfolding IsLe
+      margin l =
+          let i = near-within {p = C * w} {q = c * c} 1 1000000 1000001 (le-by-compare (1000000 * 16777216 ^ 1) (1000001 * 16777215 ^ 1) tt) C-most in
+          let j = near-within {p = A * w} {q = a * a} 1 1000000 1000001 (le-by-compare (1000000 * 16777216 ^ 1) (1000001 * 16777215 ^ 1) tt) A-most in
+          let k = near-within {p = y' * w * w} {q = ρ * (2 * b * a)} 3 1000000 1000001 (le-by-compare (1000000 * 16777216 ^ 3) (1000001 * 16777215 ^ 3) tt) y'-most in
+          let m = near-within {p = τ * (2 * c * a)} {q = y * w * w} 3 1000000 1000001 (le-by-compare (1000000 * 16777216 ^ 3) (1000001 * 16777215 ^ 3) tt) y-least in
+          let e = 16777216 * 4096 * w - 16777215 * (ρ * s) in
+          let f : c * (c * w) ≤ a * 8193 * (c * w) = mul-le-mul-right (c * w) far in
+          let n : a * K * (a * e) ≤ c * (a * e) = mul-le-mul-right (a * e) near in
+          let d : 16777216 * 4096 * w * (a * a * K) ≤ (e + 16777215 * (ρ * s)) * (a * a * K) = mul-le-mul-right (a * a * K) (omega arith) in
+          let o : (b * 4096 + s * a) * (ρ * a) ≤ c * 4096 * (ρ * a) = mul-le-mul-right (ρ * a) l in
+          let i' : C * w * 1000000 * w ≤ c * c * 1000001 * w = mul-le-mul-right w i in
+          let j' : A * w * 1000000 * w ≤ a * a * 1000001 * w = mul-le-mul-right w j in
+          let g = mul-le-mul-right (c * a) (leb→le _ (4096 * 16777215 * (1000000 * 1000000) * (K * τ)) apart) in
+          le-of-mul-le-mul-right
+          (gathered (whole (C * w * w * K) (A * w * w * K) (y' * w * w * K) (y * w * w * K) (K * (w * (c * a))) (a * a * w * K) (ρ * s * (a * a) * K) (e * (c * a)) (K * (ρ * (c * a))) (K * (τ * (c * a)))
+          (first i' f) (second j') (third k o) (fourth m) (sixth e d n) (fifth e g)))
+          (mul-pos (mul-pos W W) large)
+        where
+          first : C * w * 1000000 * w ≤ c * c * 1000001 * w → c * (c * w) ≤ a * 8193 * (c * w) → C * w * w * K * 1000000 ≤ K * (w * (c * a)) * (8193 * 1000001)
+          first i f = let j = mul-le-mul-right K i in let k = mul-le-mul-right K f in omega arith
+
+          second : A * w * 1000000 * w ≤ a * a * 1000001 * w → A * w * w * K * 1000000 ≤ a * a * w * K * 1000001
+          second j = let i = mul-le-mul-right K j in omega arith
+
+          third : y' * w * w * 1000000 ≤ ρ * (2 * b * a) * 1000001 → (b * 4096 + s * a) * (ρ * a) ≤ c * 4096 * (ρ * a) → y' * w * w * K * (1000000 * 4096) + ρ * s * (a * a) * K * (2 * 1000001) ≤ K * (ρ * (c * a)) * (2 * 4096 * 1000001)
+          third k o = let i = mul-le-mul-right K k in let j = mul-le-mul-right K o in omega arith
+
+          fourth : τ * (2 * c * a) * 1000000 ≤ y * w * w * 1000001 → K * (τ * (c * a)) * (2 * 1000000) ≤ y * w * w * K * 1000001
+          fourth m = let i = mul-le-mul-right K m in omega arith
+
+          sixth : (e : ℕ) → 16777216 * 4096 * w * (a * a * K) ≤ (e + 16777215 * (ρ * s)) * (a * a * K) → a * K * (a * e) ≤ c * (a * e) → 16777216 * 4096 * (a * a * w * K) ≤ e * (c * a) + 16777215 * (ρ * s * (a * a) * K)
+          sixth e d n = omega arith
+
+          fifth : (e : ℕ) → (4096 * 8193 * (K * w) + e + 4096 * 16777215 * (K * ρ)) * (1000001 * 1000001) * (c * a) ≤ 4096 * 16777215 * (1000000 * 1000000) * (K * τ) * (c * a)
+              → (4096 * 8193 * (K * (w * (c * a))) + e * (c * a) + 4096 * 16777215 * (K * (ρ * (c * a)))) * (1000001 * 1000001) ≤ 4096 * 16777215 * (1000000 * 1000000) * (K * (τ * (c * a)))
+          fifth e g = omega arith
+
+          whole : (x z r s k p u e q t : ℕ) → x * 1000000 ≤ k * (8193 * 1000001) → z * 1000000 ≤ p * 1000001 → r * (1000000 * 4096) + u * (2 * 1000001) ≤ q * (2 * 4096 * 1000001) → t * (2 * 1000000) ≤ s * 1000001
+              → 16777216 * 4096 * p ≤ e + 16777215 * u
+              → (4096 * 8193 * k + e + 4096 * 16777215 * q) * (1000001 * 1000001) ≤ 4096 * 16777215 * (1000000 * 1000000) * t
+              → 2 * x + 2 * 16777216 * z + 16777215 * r ≤ 16777215 * s
+          whole x z r s k p u e q t i j l m n g = omega arith
+
+          gathered : 2 * (C * w * w * K) + 2 * 16777216 * (A * w * w * K) + 16777215 * (y' * w * w * K) ≤ 16777215 * (y * w * w * K) → (2 * C + 2 * 16777216 * A + 16777215 * y') * (w * w * K) ≤ 16777215 * y * (w * w * K)
+          gathered h = omega arith
+
+      pub opposite : (B P Q : ℕ) → B + y ≤ P → Near 1 P (C + A) → Near 1 Q (B + A) → Near 1 (b * b) (B * w) → Q + y' ≤ C
+      unfolding IsLe
+      opposite B P Q h p q u =
+          let m = margin (shorter B P h p u) in
+          let i = near-within {p = P} {q = C + A} 1 16777215 16777216 (le-by-compare (16777215 * 16777216 ^ 1) (16777216 * 16777215 ^ 1) tt) p in
+          let j = near-within {p = Q} {q = B + A} 1 16777215 16777216 (le-by-compare (16777215 * 16777216 ^ 1) (16777216 * 16777215 ^ 1) tt) q in
+          last m i j
+        where
+          last : 2 * C + 2 * 16777216 * A + 16777215 * y' ≤ 16777215 * y → P * 16777215 ≤ (C + A) * 16777216 → Q * 16777215 ≤ (B + A) * 16777216 → Q + y' ≤ C
+          last m i j = omega arith
 
 -- ---- a product of a factor and two edges, and its quotient
 
@@ -131,8 +193,11 @@ module _ (w τ D y g : ℕ) (positive : 0 < D) where
 
 -- ---- the angle opposite to a
 
--- its cosine is at least 1023 / 1024, where v units are 2 ^ -10
-module _ (w v a b c : ℕ) (U : 0 < v) (W : w ≡ 1024 * v) (near : a * 79 ≤ b) (near' : a * 79 ≤ c) where
+parts-under : (q g x z t s : ℕ) → 2 * g ≤ q → q * 1000000 ≤ s * 1000001 → x * 1000000 ≤ t * 1000001 → z * 8192 * 1000000 ≤ 8187 * (2 * g) * 1000001 → t * 961 ≤ g → x + z ≤ s
+parts-under q g x z t s h i j k l = omega arith
+
+-- its cosine is at least 8187 / 8192, where v units are 2 ^ -13
+module _ (w v a b c : ℕ) (U : 0 < v) (W : w ≡ 8192 * v) (near : a * 31 ≤ b) (near' : a * 31 ≤ c) where
   squares : 2 * b * c ≤ b * b + c * c
   squares = go (decLe b c)
     where
@@ -146,29 +211,36 @@ module _ (w v a b c : ℕ) (U : 0 < v) (W : w ≡ 1024 * v) (near : a * 79 ≤ b
           let h = subst (λ (x : ℕ). 2 * c * x ≤ c * c + x * x) (sym e) (from c (b - c)) in
           omega arith
 
-  pub under-sum : (A B C S y : ℕ) → Near 1 (A * w) (a * a) → Near 1 (b * b) (B * w) → Near 1 (c * c) (C * w) → Near 1 (B + C) S → Near 3 (y * w * w) (1023 * v * (2 * b * c)) → A + y ≤ S
+  pub under-sum : (A B C S y : ℕ) → Near 1 (A * w) (a * a) → Near 1 (b * b) (B * w) → Near 1 (c * c) (C * w) → Near 1 (B + C) S → Near 3 (y * w * w) (8187 * v * (2 * b * c)) → A + y ≤ S
   unfolding IsLe
   under-sum A B C S y h i j k l =
       let s : Near 1 (b * b + c * c) (B * w + C * w) = near-add i j in
       let t : Near 2 (b * b + c * c) (S * w) = near-trans s (near-eq (spread B C) refl (near-times w k)) in
       let m = near-within {p = b * b + c * c} {q = S * w} 2 1000000 1000001 (le-by-compare (1000000 * 16777216 ^ 2) (1000001 * 16777215 ^ 2) tt) t in
       let n = near-within {p = A * w} {q = a * a} 1 1000000 1000001 (le-by-compare (1000000 * 16777216 ^ 1) (1000001 * 16777215 ^ 1) tt) h in
-      let o : Near 3 (y * w * 1024) (1023 * (2 * b * c)) = near-cancel v U (near-eq scaled moved l) in
-      let p = near-within {p = y * w * 1024} {q = 1023 * (2 * b * c)} 3 1000000 1000001 (le-by-compare (1000000 * 16777216 ^ 3) (1000001 * 16777215 ^ 3) tt) o in
-      let q : a * 79 * (a * 79) ≤ b * c = mul-le-mul near near' in
-      le-of-mul-le-mul-right (whole squares m n p q) (omega arith)
+      let o : Near 3 (y * w * 8192) (8187 * (2 * b * c)) = near-cancel v U (near-eq scaled moved l) in
+      let p = near-within {p = y * w * 8192} {q = 8187 * (2 * b * c)} 3 1000000 1000001 (le-by-compare (1000000 * 16777216 ^ 3) (1000001 * 16777215 ^ 3) tt) o in
+      let q : a * 31 * (a * 31) ≤ b * c = mul-le-mul near near' in
+      let e = parts-under (b * b + c * c) (b * c) (A * w) (y * w) (a * a) (S * w) (subst (λ (x : ℕ). x ≤ b * b + c * c) doubled squares) m n (subst (λ (x : ℕ). y * w * 8192 * 1000000 ≤ 8187 * x * 1000001) doubled p) (subst (λ (x : ℕ). x ≤ b * c) square q) in
+      le-of-mul-le-mul-right (gathered e) (omega arith)
     where
       spread : (B C : ℕ) → (B + C) * w ≡ B * w + C * w
       spread B C = omega arith
 
-      scaled : y * w * w ≡ y * w * 1024 * v
+      scaled : y * w * w ≡ y * w * 8192 * v
       scaled = let e = ap (λ (x : ℕ). y * w * x) W in omega arith
 
-      moved : 1023 * v * (2 * b * c) ≡ 1023 * (2 * b * c) * v
+      moved : 8187 * v * (2 * b * c) ≡ 8187 * (2 * b * c) * v
       moved = omega arith
 
-      whole : 2 * b * c ≤ b * b + c * c → (b * b + c * c) * 1000000 ≤ S * w * 1000001 → A * w * 1000000 ≤ a * a * 1000001 → y * w * 1024 * 1000000 ≤ 1023 * (2 * b * c) * 1000001 → a * 79 * (a * 79) ≤ b * c → (A + y) * w ≤ S * w
-      whole f m n p q = omega arith
+      doubled : 2 * b * c ≡ 2 * (b * c)
+      doubled = omega arith
+
+      square : a * 31 * (a * 31) ≡ a * a * 961
+      square = omega arith
+
+      gathered : A * w + y * w ≤ S * w → (A + y) * w ≤ S * w
+      gathered h = omega arith
 
 -- ---- edges by their squares
 

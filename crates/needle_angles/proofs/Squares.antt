@@ -1,4 +1,4 @@
--- Needles by the squares of their edges' lengths, in three classes (`needle-80`, `needle-131`, `needle-512`). Assumes nothing.
+-- Needles by the squares of their edges' lengths, in three classes (`needle-32`, `needle-64`, `needle-128`). Assumes nothing.
 use mathlib.Core.Path.{refl}
 use Prim.Native.Nat.{ℕ, _*_, _^_, _≤_}
 use native.Mathlib.Bridge.{IsLe, le-by-compare}
@@ -41,8 +41,8 @@ pub record Plain (least most long : Float) : Type 0 where
   pub far : T (le long (least ⊗ huge))
 
 -- a class: edges K times as long, by the square's factor h, of k
-module _ (K : ℕ) (large : 79 ≤ K) (θ : Float) (κ : ℕ) (m : Float) (steps : List Step) (all : T (areAll K θ κ m steps)) (top : T (le (f32 κ) (f32 0x3f7fb000)))
-    (h : Float) (k : ℕ) (uh : Units h (k * 2 ^ 149) 161 168) (square : K * K * 1000001 ≤ k * 1000000) (rises : T (le tiny (tiny ⊗ h)))
+module _ (K : ℕ) (large : 31 ≤ K) (θ : Float) (κ : ℕ) (m : Float) (steps : List Step) (all : T (areAll K θ κ m steps)) (top : T (le (f32 κ) (f32 0x3f7fd000)))
+    (h : Float) (k : ℕ) (uh : Units h (k * 2 ^ 149) 159 165) (square : K * K * 1000001 ≤ k * 1000000) (rises : T (le tiny (tiny ⊗ h)))
     (least most short long : Float) (p : Plain least most long) (apart : T (le (most ⊗ h) short)) where
   module _ (x : Float) (fx : T (fits binary32 x)) (lo : T (le least x)) (hi : T (le x most)) where
     x-from : T (le tiny x)
@@ -79,7 +79,7 @@ module _ (K : ℕ) (large : 79 ≤ K) (θ : Float) (κ : ℕ) (m : Float) (steps
       near =
           let i = root-units 128 163 fx (x-units .1) tt in
           let j = root-units 128 163 fy (y-units .1) tt in
-          let z = mul-units 121 194 (x-units .1) uh tt in
+          let z = mul-units 119 191 (x-units .1) uh tt in
           edges-near w (i .n) (j .n) (x-units .0) (y-units .0) (z .n) (pow-pos 149) K k square (i .below) (z .above) (units-le (z .is) (y-units .1) times) (j .above)
 
       not-far : root-units 128 163 fy (y-units .1) tt .n ≤ root-units 128 163 fx (x-units .1) tt .n * 8193
@@ -101,26 +101,26 @@ module _ (K : ℕ) (large : 79 ≤ K) (θ : Float) (κ : ℕ) (m : Float) (steps
 -- ---- the classes
 
 module _ {least most short long : Float} (p : Plain least most long) where
-  pub needle-80 : T (le (most ⊗ f32 0x45c80800) short) → NeedleAngle least most short long (f32 0x3de147ae)
+  pub needle-32 : T (le (most ⊗ f32 0x44802000) short) → NeedleAngle least most short long (f32 0x3d8f5c29)
   unfolding IsLe
-  needle-80 h = of-class 80 (le-by-compare 79 80 tt) (f32 0x3de147ae) 0x3f7e8000 (f32 0x3fc2cf04) first first-all (unfold le ofBits in tt) (f32 0x45c80800) 6401 units (le-by-compare (80 * 80 * 1000001) (6401 * 1000000) tt) (unfold le mul ofBits in tt) least most short long p h
+  needle-32 h = of-class 32 (le-by-compare 31 32 tt) (f32 0x3d8f5c29) 0x3f7f6000 (f32 0x3fc4bf94) first first-all (unfold le ofBits in tt) (f32 0x44802000) 1025 units (le-by-compare (32 * 32 * 1000001) (1025 * 1000000) tt) (unfold le mul ofBits in tt) least most short long p h
     where
-      units : Units (f32 0x45c80800) (6401 * 2 ^ 149) 161 168
-      units = unfold ofBits in record { value = (refl, refl); low = le-by-compare (2 ^ 161) (6401 * 2 ^ 149) tt; high = le-by-compare (6401 * 2 ^ 149) (2 ^ 168) tt }
+      units : Units (f32 0x44802000) (1025 * 2 ^ 149) 159 165
+      units = unfold ofBits in record { value = (refl, refl); low = le-by-compare (2 ^ 159) (1025 * 2 ^ 149) tt; high = le-by-compare (1025 * 2 ^ 149) (2 ^ 165) tt }
 
-  pub needle-131 : T (le (most ⊗ f32 0x46861400) short) → NeedleAngle least most short long (f32 0x3da3d70a)
+  pub needle-64 : T (le (most ⊗ f32 0x45800800) short) → NeedleAngle least most short long (f32 0x3d4ccccd)
   unfolding IsLe
-  needle-131 h = of-class 131 (le-by-compare 79 131 tt) (f32 0x3da3d70a) 0x3f7f3000 (f32 0x3fc42f75) second second-all (unfold le ofBits in tt) (f32 0x46861400) 17162 units (le-by-compare (131 * 131 * 1000001) (17162 * 1000000) tt) (unfold le mul ofBits in tt) least most short long p h
+  needle-64 h = of-class 64 (le-by-compare 31 64 tt) (f32 0x3d4ccccd) 0x3f7fb000 (f32 0x3fc5efc0) second second-all (unfold le ofBits in tt) (f32 0x45800800) 4097 units (le-by-compare (64 * 64 * 1000001) (4097 * 1000000) tt) (unfold le mul ofBits in tt) least most short long p h
     where
-      units : Units (f32 0x46861400) (17162 * 2 ^ 149) 161 168
-      units = unfold ofBits in record { value = (refl, refl); low = le-by-compare (2 ^ 161) (17162 * 2 ^ 149) tt; high = le-by-compare (17162 * 2 ^ 149) (2 ^ 168) tt }
+      units : Units (f32 0x45800800) (4097 * 2 ^ 149) 159 165
+      units = unfold ofBits in record { value = (refl, refl); low = le-by-compare (2 ^ 159) (4097 * 2 ^ 149) tt; high = le-by-compare (4097 * 2 ^ 149) (2 ^ 165) tt }
 
-  pub needle-512 : T (le (most ⊗ f32 0x48800020) short) → NeedleAngle least most short long (f32 0x3d4ccccd)
+  pub needle-128 : T (le (most ⊗ f32 0x46800200) short) → NeedleAngle least most short long (f32 0x3d23d70a)
   unfolding IsLe
-  needle-512 h = of-class 512 (le-by-compare 79 512 tt) (f32 0x3d4ccccd) 0x3f7fb000 (f32 0x3fc5efc0) third third-all (unfold le ofBits in tt) (f32 0x48800020) 262145 units (le-by-compare (512 * 512 * 1000001) (262145 * 1000000) tt) (unfold le mul ofBits in tt) least most short long p h
+  needle-128 h = of-class 128 (le-by-compare 31 128 tt) (f32 0x3d23d70a) 0x3f7fd000 (f32 0x3fc68fcd) third third-all (unfold le ofBits in tt) (f32 0x46800200) 16385 units (le-by-compare (128 * 128 * 1000001) (16385 * 1000000) tt) (unfold le mul ofBits in tt) least most short long p h
     where
-      units : Units (f32 0x48800020) (262145 * 2 ^ 149) 161 168
-      units = unfold ofBits in record { value = (refl, refl); low = le-by-compare (2 ^ 161) (262145 * 2 ^ 149) tt; high = le-by-compare (262145 * 2 ^ 149) (2 ^ 168) tt }
+      units : Units (f32 0x46800200) (16385 * 2 ^ 149) 159 165
+      units = unfold ofBits in record { value = (refl, refl); low = le-by-compare (2 ^ 159) (16385 * 2 ^ 149) tt; high = le-by-compare (16385 * 2 ^ 149) (2 ^ 165) tt }
 
 pub no-needle : (least most short long : Float) → NeedleAngle least most short long nan
 no-needle least most short long = record { bound = λ x y z fx fy fz a b c d e f. record { most = λ u v t o n. absurd (unfold isNan in n) } }

@@ -5,7 +5,7 @@ use lib.Ieee.{Float, le}
 use borrow.Author.Tests.{not-false}
 use Rattle.numbers.specs.Rounded.{f32, _⊗_}
 use Rattle.numbers.proofs.RootSpecial.{no-number}
-use Rattle.needle_angles.proofs.Squares.{Plain, needle-80, needle-131, needle-512, no-needle}
+use Rattle.needle_angles.proofs.Squares.{Plain, needle-32, needle-64, needle-128, no-needle}
 use Rattle.needle_angles.proofs.needle_angle.Statement.{statement}
 use Rattle.needle_angles.proofs.needle_angle.Tie as tie
 
@@ -33,19 +33,19 @@ returns-5 : tie.Need-returns-5
 returns-5 c =
     let x = c .before in
     let a = x .before .before .before .before .args in
-    needle-512 (plain (a .least) (a .most) (a .long) (x .before .before .before .if1 .left) (x .before .before .if2 .left) (x .before .if3 .left) (x .if4 .left)) (rw (c .if5 .taken) tt)
+    needle-128 (plain (a .least) (a .most) (a .long) (x .before .before .before .if1 .left) (x .before .before .if2 .left) (x .before .if3 .left) (x .if4 .left)) (rw (c .if5 .taken) tt)
 
 returns-6 : tie.Need-returns-6
 returns-6 c =
     let x = c .before .before in
     let a = x .before .before .before .before .args in
-    needle-131 (plain (a .least) (a .most) (a .long) (x .before .before .before .if1 .left) (x .before .before .if2 .left) (x .before .if3 .left) (x .if4 .left)) (rw (c .if6 .taken) tt)
+    needle-64 (plain (a .least) (a .most) (a .long) (x .before .before .before .if1 .left) (x .before .before .if2 .left) (x .before .if3 .left) (x .if4 .left)) (rw (c .if6 .taken) tt)
 
 returns-7 : tie.Need-returns-7
 returns-7 c =
     let x = c .before .before .before in
     let a = x .before .before .before .before .args in
-    needle-80 (plain (a .least) (a .most) (a .long) (x .before .before .before .if1 .left) (x .before .before .if2 .left) (x .before .if3 .left) (x .if4 .left)) (rw (c .if7 .taken) tt)
+    needle-32 (plain (a .least) (a .most) (a .long) (x .before .before .before .if1 .left) (x .before .before .if2 .left) (x .before .if3 .left) (x .if4 .left)) (rw (c .if7 .taken) tt)
 
 returns-8 : tie.Need-returns-8
 returns-8 c = rw no-number (no-needle _ _ _ _)
