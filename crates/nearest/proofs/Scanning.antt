@@ -24,7 +24,7 @@ use Rattle.nearest.specs.declared.Best.{Best}
 use Rattle.nearest.specs.Scan.{Near, lengthTo}
 use Rattle.nearest.specs.Parts.{closer, scanned, Length, nearOf, Limited, Keeps}
 use Rattle.nearest.specs.Boxes.{reachOf, boxesBelow, secondAt, Known, Held, Boxed, leaf, node, Ready}
-use Rattle.nearest.specs.Least.{Few}
+use Rattle.nearest.specs.Least.{AllFinite}
 use Rattle.nearest.proofs.Lengths.{distance-length}
 use Rattle.nearest.proofs.Bounds.{reach-least, inside-finite}
 use Rattle.nearest.proofs.AnyOrder.{found, any-order}
@@ -170,7 +170,7 @@ second-boxed : {points : List Float} {words xs : List ℕ} {at width : ℕ} → 
 second-boxed (leaf h k) l = absurd (omega arith)
 second-boxed (node h k a b) l = b
 
-pub lengths : {points : List Float} {spot : Point3f} {xs : List ℕ} → Few points spot xs → (v : ℕ) → In v xs → Length (lengthTo points spot v)
+pub lengths : {points : List Float} {spot : Point3f} {xs : List ℕ} → AllFinite points spot xs → (v : ℕ) → In v xs → Length (lengthTo points spot v)
 lengths {points} {spot} f v i = distance-length (pointAt points v) spot (f .all-finite v i) (f .spot-finite)
 
 -- ---- the search of a part
@@ -181,11 +181,11 @@ module _ {points : List Float} {spot : Point3f} {words : List ℕ} {at width : �
   pub here : Held points words xs at
   here = held (r .boxed)
 
-  pub few-here : Few points spot xs
-  few-here = record { spot-finite = r .spot-finite; all-finite = λ v i. inside-finite words at spot (pointAt points v) (r .spot-finite) (here .inside v i) }
+  pub finite-here : AllFinite points spot xs
+  finite-here = record { spot-finite = r .spot-finite; all-finite = λ v i. inside-finite words at spot (pointAt points v) (r .spot-finite) (here .inside v i) }
 
   good : (v : ℕ) → In v xs → Length (key v)
-  good = lengths few-here
+  good = lengths finite-here
 
   pub left-out : lt (best .limit) square ≡ true → Keeps best (scanned key xs (nearOf best))
   left-out e = beyond points spot xs best (r .best-limit) (reachOf words at spot) (ap (λ (z : Float). lt (best .limit) z) (sym (r .square-is)) ∙ e)

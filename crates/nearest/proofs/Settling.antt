@@ -24,7 +24,7 @@ use Rattle.nearest.specs.declared.Least.{Least}
 use Rattle.nearest.specs.Scan.{Near, lengthTo, nearAt}
 use Rattle.nearest.specs.Parts.{scanned, Length, nearOf, Limited, Keeps}
 use Rattle.nearest.specs.Boxes.{greater, lesser}
-use Rattle.nearest.specs.Least.{squareTo, nearerNumber, nextLeast, Few, TwoLeast}
+use Rattle.nearest.specs.Least.{squareTo, nearerNumber, nextLeast, AllFinite, TwoLeast}
 use Rattle.nearest.proofs.AnyOrder.{NotAfter, itself, strictly, Found, found, only-found}
 use Rattle.nearest.proofs.Scanning.{false-of, beyond, lengths}
 
@@ -156,13 +156,13 @@ module _ (squares : ℕ → Float) {xs : List ℕ} {i : ℕ} {l : Least} (d : Se
   unfolding lesser nearerNumber nextLeast
   seen-step e = subst⁻¹ (λ (z : Least). Seen squares xs (i + 1) z) e (cases (lt s (l .first)) refl)
 
-pub seen-next : {points : List Float} {spot : Point3f} {xs : List ℕ} {i : ℕ} {l : Least} → Few points spot xs → Seen (squareTo points spot) xs i l → i < length xs
+pub seen-next : {points : List Float} {spot : Point3f} {xs : List ℕ} {i : ℕ} {l : Least} → AllFinite points spot xs → Seen (squareTo points spot) xs i l → i < length xs
     → {p : Point3f} {s : Float} {r : Least} → p ≡ pointAt points (getD xs i 0) → s ≡ squared p spot → r ≡ nextLeast l s (getD xs i 0) → Seen (squareTo points spot) xs (i + 1) r
-seen-next {points} {spot} {xs} {i} few d h {p} {s} ep es er =
+seen-next {points} {spot} {xs} {i} finite d h {p} {s} ep es er =
     let v = getD xs i 0 in
     let e : s ≡ squareTo points spot v = es ∙ ap (λ (q : Point3f). squared q spot) ep in
     seen-step (squareTo points spot) d h e (subst⁻¹ (λ (z : Float). T (fits binary32 z)) e (squared-fits (pointAt points v) spot))
-    (subst⁻¹ (λ (z : Float). T (not (isNan z))) e (unsigned-number _ (squared-unsigned (pointAt points v) spot (few .all-finite v (in-at xs i h)) (few .spot-finite)))) er
+    (subst⁻¹ (λ (z : Float). T (not (isNan z))) e (unsigned-number _ (squared-unsigned (pointAt points v) spot (finite .all-finite v (in-at xs i h)) (finite .spot-finite)))) er
 
 all-at : (P : ℕ → Type 0) (xs : List ℕ) → ((k : ℕ) → k < length xs → P (getD xs k 0)) → (v : ℕ) → In v xs → P v
 all-at P [] h v i = absurd (omega (arith, i))
@@ -177,7 +177,7 @@ seen-end squares {xs} {i} {l} d h = record {
 }
 
 -- ---- who is nearest
-module _ {points : List Float} {spot : Point3f} {xs : List ℕ} {best : Best} (lim : Limited best) (len : Length (root (best .square))) (few : Few points spot xs) {l : Least} (t : TwoLeast (squareTo points spot) xs l) where
+module _ {points : List Float} {spot : Point3f} {xs : List ℕ} {best : Best} (lim : Limited best) (len : Length (root (best .square))) (finite : AllFinite points spot xs) {l : Least} (t : TwoLeast (squareTo points spot) xs l) where
   abbrev key : ℕ → Float
   key v = lengthTo points spot v
 
@@ -201,7 +201,7 @@ module _ {points : List Float} {spot : Point3f} {xs : List ℕ} {best : Best} (l
     r-is = let d : root (l .first) ≡ key (l .number) = ap root (a-point .1) ∙ sym (distance-is (pointAt points (l .number)) spot) in λ i. record { distance = d i; number = l .number }
 
     size : Length (root (l .first))
-    size = subst⁻¹ (λ (z : Near). Length (z .distance)) r-is (lengths few (l .number) (a-point .0))
+    size = subst⁻¹ (λ (z : Near). Length (z .distance)) r-is (lengths finite (l .number) (a-point .0))
 
     below : (v : ℕ) → T (le (l .second) (squareTo points spot v)) → T (lt (root (l .first)) (key v))
     below v o = subst⁻¹ (λ (z : Float). T (lt (root (l .first)) z)) (distance-is (pointAt points v) spot)
@@ -217,6 +217,6 @@ module _ {points : List Float} {spot : Point3f} {xs : List ℕ} {best : Best} (l
 
     pub settles : Keeps (record { square = l .first; number = l .number; limit = m }) (scanned key xs (nearOf best))
     settles = record {
-      found-is = only-found key xs (nearOf best) r (scanned key xs (nearOf best)) r-found (found key xs (lengths few) (nearOf best) len);
+      found-is = only-found key xs (nearOf best) r (scanned key xs (nearOf best)) r-found (found key xs (lengths finite) (nearOf best) len);
       limited = record { is-f32 = t .is-f32; above = lm };
     }

@@ -18,7 +18,7 @@ abbrev pub squareTo : List Float → Point3f → ℕ → Float
 squareTo points spot v = squared (pointAt points v) spot
 
 -- finite points, and a finite spot
-pub record Few (points : List Float) (spot : Point3f) (xs : List ℕ) : Type 0 where
+pub record AllFinite (points : List Float) (spot : Point3f) (xs : List ℕ) : Type 0 where
   pub spot-finite : Finite spot
   pub all-finite : (v : ℕ) → In v xs → Finite (pointAt points v)
 

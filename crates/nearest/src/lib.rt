@@ -13,7 +13,7 @@ ghost use Rattle.vector.specs.Vector.{distance};
 ghost use Rattle.nearest.specs.Scan.{lengthTo};
 ghost use Rattle.nearest.specs.Parts.{closer, scanned, Length, nearOf, bestOf, placeOf, Limited, Keeps};
 ghost use Rattle.nearest.specs.Boxes.{wordAt, greater, lesser, gap, reachOf, boxesBelow, Six, Known, Ready};
-ghost use Rattle.nearest.specs.Least.{squareTo, nearerNumber, nextLeast, TwoLeast, Few};
+ghost use Rattle.nearest.specs.Least.{squareTo, nearerNumber, nextLeast, TwoLeast, AllFinite};
 
 // The nearest point so far, by its square. A square above the limit has a root above this one's, so that few points
 // need a root.
@@ -143,7 +143,7 @@ fn next_least(least: Least, square: f32, number: u32) -> Least
 // The two least squares of a list's points.
 fn two_least(points: &[f32], spot: Point3f, order: &[u32]) -> Least
     requires { ⌜ Known (now points) (now order) ⌝ }
-    requires { ⌜ Few (now points) spot (now order) ⌝ }
+    requires { ⌜ AllFinite (now points) spot (now order) ⌝ }
     ensures { λ r. ⌜ TwoLeast (squareTo (now (points .entry)) spot) (now (order .entry)) r ⌝ }
 {
     let mut least = Least {
@@ -166,7 +166,7 @@ fn two_least(points: &[f32], spot: Point3f, order: &[u32]) -> Least
 // square is clearly below all others it settles who is nearest.
 fn scan_leaf(points: &[f32], spot: Point3f, order: &[u32], near: u32, best: &mut [f32; 2]) -> u32
     requires { ⌜ Limited (bestOf (now best) near) × Length (root (bestOf (now best) near .square)) ⌝ }
-    requires { ⌜ Known (now points) (now order) × Few (now points) spot (now order) ⌝ }
+    requires { ⌜ Known (now points) (now order) × AllFinite (now points) spot (now order) ⌝ }
     ensures { λ r. ⌜ Keeps (bestOf (now (best .exit)) r) (scanned (lengthTo (now (points .entry)) spot)
         (now (order .entry)) (nearOf (bestOf (now (best .entry)) near))) ⌝ }
 {

@@ -6,7 +6,7 @@ use borrow.Fn.Kinds.{In}
 use borrow.Fn.PlainCycle.{Measures, is, falls, and}
 use lib.ListN.{length}
 use lib.Seq.{length-take-le}
-use Rattle.nearest.proofs.Scanning.{second-size, here, left-out, first-held, second-held, first-ready, second-ready, first-size, second-length, in-turn, turned, few-here}
+use Rattle.nearest.proofs.Scanning.{second-size, here, left-out, first-held, second-held, first-ready, second-ready, first-size, second-length, in-turn, turned, finite-here}
 use Rattle.nearest.proofs.search.Reads as search′
 use Rattle.nearest.proofs.search.Kinds as search-kinds
 use Rattle.nearest.proofs.+search.Lts-search as search-lts
@@ -95,7 +95,7 @@ search-scan-leaf-requires : (t : ℕ) → search-lts.Need-scan-leaf-requires (
   search-below t,
   search′.Post,
 ) (search-at t) search′.Post
-search-scan-leaf-requires t c κs = let r = c .before .before .before .before .before .before .before .before .before .before .pre .1 in ((r .best-limit, r .best-length), (here r .known, few-here r))
+search-scan-leaf-requires t c κs = let r = c .before .before .before .before .before .before .before .before .before .before .pre .1 in ((r .best-limit, r .best-length), (here r .known, finite-here r))
 
 search-returns-2 : (t : ℕ) → search-lts.Need-returns-2 (
   scan-leaf-reads.Asked,
