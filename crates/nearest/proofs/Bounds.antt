@@ -10,10 +10,10 @@ use lib.Ieee.{Float, binary32, lt, le, nanBits}
 use lib.Ieee.Scale.{finite}
 use lib.ListN.{length, getD}
 use Rattle.numbers.specs.Rounded.{_⊕_, _⊖_, _⊗_}
-use Rattle.numbers.proofs.OrderLaws.{finite-number, lt-le, le-refl, le-trans, le-or-lt, le-not-lt, not-lt-le, unsigned-number}
+use Rattle.numbers.proofs.OrderLaws.{finite-number, lt-le, le-refl, le-trans, le-or-lt, not-lt-le, unsigned-number}
 use Rattle.numbers.specs.Bounds.{unsigned}
 use Rattle.numbers.proofs.SumOrder.{add-commutative, add-unsigned, add-monotone-left, sub-number}
-use Rattle.numbers.proofs.ProductOrder.{square-unsigned, square-turned, square-beyond}
+use Rattle.numbers.proofs.ProductOrder.{square-unsigned, square-beyond}
 use Rattle.vector.specs.Vector.{Finite, point, magnitudeSquared, squared}
 use Rattle.vector.specs.declared.Point3f.{Point3f}
 use Rattle.vector.proofs.Distances.{square, squared-is}
@@ -29,9 +29,9 @@ reach-is words at spot ex ey ez eq er = er ∙ ap magnitudeSquared (eq ∙ (λ i
 pub gap-is : (v : Float) {a b lo hi r : Float} → a ≡ lo → b ≡ hi → r ≡ gap v a b → r ≡ gap v lo hi
 gap-is v ea eb er = er ∙ (λ i. gap v (ea i) (eb i))
 
-pub gap-of : (v lo hi : Float) {a b : Float} → a ≡ greater lo v → b ≡ lesser a hi → v ⊖ b ≡ gap v lo hi
+pub gap-of : (v lo hi : Float) {a b : Float} → a ≡ greater lo v → b ≡ lesser a hi → b ⊖ v ≡ gap v lo hi
 unfolding gap
-gap-of v lo hi ea eb = ap (λ (z : Float). v ⊖ z) (eb ∙ ap (λ (z : Float). lesser z hi) ea)
+gap-of v lo hi ea eb = ap (λ (z : Float). z ⊖ v) (eb ∙ ap (λ (z : Float). lesser z hi) ea)
 
 -- ---- on one axis
 module _ (v lo hi p : Float) (f : T (finite v)) (b : Between lo hi p) where
@@ -41,14 +41,11 @@ module _ (v lo hi p : Float) (f : T (finite v)) (b : Between lo hi p) where
     least : T (le (g ⊗ g) (square p v))
 
   -- a number between v and the point
-  between : (h : Float) → T (finite h) → (T (le v h) × T (le h p)) ⊎ (T (le h v) × T (le p h)) → Within (v ⊖ h)
-  between h k o = record {
-    sign = square-unsigned (v ⊖ h) (sub-number v h f k);
-    least = subst (λ (s : Float). T (le s (square p v))) (square-turned h v) (square-beyond v h p f k (b .v-finite) o);
-  }
+  between : (h : Float) → T (finite h) → (T (le v h) × T (le h p)) ⊎ (T (le h v) × T (le p h)) → Within (h ⊖ v)
+  between h k o = record { sign = square-unsigned (h ⊖ v) (sub-number h v k f); least = square-beyond v h p f k (b .v-finite) o }
 
-  not-above : (x y : Float) → T (finite x) → T (finite y) → lt x y ≡ false → T (le y x)
-  not-above x y g h e = not-lt-le x y (finite-number x g) (finite-number y h) (subst⁻¹ (λ (z : Bool). T (not z)) e tt)
+  not-less : (x y : Float) → T (finite x) → T (finite y) → lt x y ≡ false → T (le y x)
+  not-less x y g h e = not-lt-le x y (finite-number x g) (finite-number y h) (subst⁻¹ (λ (z : Bool). T (not z)) e tt)
 
   itself : T (le v v)
   itself = le-refl v (finite-number v f)
@@ -56,15 +53,15 @@ module _ (v lo hi p : Float) (f : T (finite v)) (b : Between lo hi p) where
   within : Within (v ⊖ v)
   within = between v f (⊎-elim (λ o. inl (itself, o)) (λ o. inr (itself, lt-le p v o)) (le-or-lt v p (finite-number v f) (finite-number p (b .v-finite))))
 
-  cases : (x y : Bool) → lt lo v ≡ x → lt hi (cond x v lo) ≡ y → Within (v ⊖ cond y hi (cond x v lo))
-  cases true true e g = between hi (b .hi-finite) (inr (lt-le hi v (subst⁻¹ T g tt), b .below))
-  cases true false e g = within
-  cases false true e g = absurd (le-not-lt lo hi (le-trans lo p hi (b .above) (b .below)) (subst⁻¹ T g tt))
-  cases false false e g = between lo (b .lo-finite) (inl (not-above lo v (b .lo-finite) f e, b .above))
+  cases : (x y : Bool) → lt lo v ≡ x → lt (cond x v lo) hi ≡ y → Within (cond y (cond x v lo) hi ⊖ v)
+  cases true true e g = within
+  cases true false e g = between hi (b .hi-finite) (inr (not-less v hi f (b .hi-finite) g, b .below))
+  cases false true e g = between lo (b .lo-finite) (inl (not-less lo v (b .lo-finite) f e, b .above))
+  cases false false e g = between hi (b .hi-finite) (inl (le-trans v lo hi (not-less lo v (b .lo-finite) f e) (le-trans lo p hi (b .above) (b .below)), le-trans hi lo p (not-less lo hi (b .lo-finite) (b .hi-finite) g) (b .above)))
 
   on-axis : Within (gap v lo hi)
   unfolding gap greater lesser
-  on-axis = cases (lt lo v) (lt hi (cond (lt lo v) v lo)) refl refl
+  on-axis = cases (lt lo v) (lt (cond (lt lo v) v lo) hi) refl refl
 
 -- ---- the three together
 square-sign : (x y : Float) → T (finite x) → T (finite y) → T (unsigned (square x y))

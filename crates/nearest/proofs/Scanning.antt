@@ -33,7 +33,7 @@ true-of : (b : Bool) → T b → b ≡ true
 true-of true h = refl
 true-of false h = absurd h
 
-pub false-of : (b : Bool) → (T b → ⊥) → b ≡ false
+false-of : (b : Bool) → (T b → ⊥) → b ≡ false
 false-of true h = absurd (h tt)
 false-of false h = refl
 

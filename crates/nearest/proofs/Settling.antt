@@ -26,28 +26,28 @@ use Rattle.nearest.specs.Parts.{scanned, Length, nearOf, Limited, Keeps}
 use Rattle.nearest.specs.Boxes.{greater, lesser}
 use Rattle.nearest.specs.Least.{squareTo, nearerNumber, nextLeast, AllFinite, TwoLeast}
 use Rattle.nearest.proofs.AnyOrder.{NotAfter, itself, strictly, Found, found, only-found}
-use Rattle.nearest.proofs.Scanning.{false-of, beyond, lengths}
+use Rattle.nearest.proofs.Scanning.{beyond, lengths}
 
 not-less : (x y : Float) → T (not (isNan x)) → T (not (isNan y)) → lt x y ≡ false → T (le y x)
 not-less x y n m e = not-lt-le x y n m (subst⁻¹ (λ (z : Bool). T (not z)) e tt)
 
 -- ---- the lesser and the greater of two
 module _ (a b : Float) (n : T (not (isNan a))) (m : T (not (isNan b))) where
-  left-cases : (x : Bool) → lt b a ≡ x → T (le (cond x b a) a)
-  left-cases true e = lt-le b a (subst⁻¹ T e tt)
-  left-cases false e = le-refl a n
+  left-cases : (x : Bool) → lt a b ≡ x → T (le (cond x a b) a)
+  left-cases true e = le-refl a n
+  left-cases false e = not-less a b n m e
 
   lesser-left : T (le (lesser a b) a)
   unfolding lesser
-  lesser-left = left-cases (lt b a) refl
+  lesser-left = left-cases (lt a b) refl
 
-  right-cases : (x : Bool) → lt b a ≡ x → T (le (cond x b a) b)
-  right-cases true e = le-refl b m
-  right-cases false e = not-less b a m n e
+  right-cases : (x : Bool) → lt a b ≡ x → T (le (cond x a b) b)
+  right-cases true e = lt-le a b (subst⁻¹ T e tt)
+  right-cases false e = le-refl b m
 
   lesser-right : T (le (lesser a b) b)
   unfolding lesser
-  lesser-right = right-cases (lt b a) refl
+  lesser-right = right-cases (lt a b) refl
 
   above-cases : (x : Bool) → lt a b ≡ x → T (le a (cond x b a))
   above-cases true e = lt-le a b (subst⁻¹ T e tt)
@@ -73,9 +73,18 @@ module _ (a b : Float) (n : T (not (isNan a))) (m : T (not (isNan b))) where
   unfolding greater
   greater-second e = second-cases e (lt a b) refl
 
-  lesser-stays : lesser a (greater a b) ≡ a
+  same-cases : (x : Bool) → cond x a a ≡ a
+  same-cases true = refl
+  same-cases false = refl
+
+  stays-cases : (x : Bool) → lt a b ≡ x → lesser a (cond x b a) ≡ a
   unfolding lesser
-  lesser-stays = rw (false-of (lt (greater a b) a) (λ k. le-not-lt a (greater a b) greater-above k))
+  stays-cases true e = rw e
+  stays-cases false e = same-cases (lt a a)
+
+  lesser-stays : lesser a (greater a b) ≡ a
+  unfolding greater
+  lesser-stays = stays-cases (lt a b) refl
 
 -- ---- the loop: what is known of those passed
 pub record Seen (squares : ℕ → Float) (xs : List ℕ) (i : ℕ) (l : Least) : Type 0 where
@@ -87,7 +96,7 @@ pub record Seen (squares : ℕ → Float) (xs : List ℕ) (i : ℕ) (l : Least) 
   pub first-least : (k : ℕ) → k < i → T (le (l .first) (squares (getD xs k 0)))
   pub others : (k : ℕ) → k < i → (getD xs k 0 ≡ l .number) ⊎ T (le (l .second) (squares (getD xs k 0)))
 
-pub next-is : (l : Least) (q : Float) (v : ℕ) {f g s : Float} {n : ℕ} → f ≡ lesser (l .first) q → g ≡ greater (l .first) q → s ≡ lesser (l .second) g → n ≡ nearerNumber l q v
+pub next-is : (l : Least) (q : Float) (v : ℕ) {f g s : Float} {n : ℕ} → f ≡ lesser q (l .first) → g ≡ greater (l .first) q → s ≡ lesser (l .second) g → n ≡ nearerNumber l q v
     → _≡_ {A = Least} (record { first = f; second = s; number = n }) (nextLeast l q v)
 unfolding nextLeast
 next-is l q v {f} {g} {s} ef eg es en =

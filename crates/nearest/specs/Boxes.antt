@@ -24,12 +24,12 @@ unfoldable pub greater : Float → Float → Float
 greater a b = cond (lt a b) b a
 
 unfoldable pub lesser : Float → Float → Float
-lesser a b = cond (lt b a) b a
+lesser a b = cond (lt a b) a b
 
--- how far v is from the nearest number between lo and hi, below zero where it is less
+-- how far the nearest number between lo and hi is from v, below zero where it is less
 unfoldable pub gap : Float → Float → Float → Float
 unfolding greater lesser
-gap v lo hi = v ⊖ lesser (greater lo v) hi
+gap v lo hi = lesser (greater lo v) hi ⊖ v
 
 -- how far the spot is, on each axis, from the box at a word: three least coordinates, then three greatest
 abbrev pub gaps : List ℕ → ℕ → Point3f → Point3f

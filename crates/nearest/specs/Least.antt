@@ -30,7 +30,7 @@ nearerNumber l square number = cond (lt square (l .first)) number (l .number)
 unfoldable pub nextLeast : Least → Float → ℕ → Least
 unfolding greater lesser nearerNumber
 nextLeast l square number = record {
-  first = lesser (l .first) square;
+  first = lesser square (l .first);
   second = lesser (l .second) (greater (l .first) square);
   number = nearerNumber l square number;
 }

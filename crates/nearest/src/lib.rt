@@ -42,10 +42,10 @@ fn greater(a: f32, b: f32) -> f32
 fn lesser(a: f32, b: f32) -> f32
     ensures { λ r. ⌜ r ≡ lesser a b ⌝ }
 {
-    if b < a {
-        return b;
+    if a < b {
+        return a;
     }
-    a
+    b
 }
 
 // A number such that each square above it has a root above the given square's. No rounding comes near to a part in a
@@ -134,7 +134,7 @@ fn next_least(least: Least, square: f32, number: u32) -> Least
     ensures { λ r. ⌜ r ≡ nextLeast least square number ⌝ }
 {
     Least {
-        first: lesser(least.first, square),
+        first: lesser(square, least.first),
         second: lesser(least.second, greater(least.first, square)),
         number: nearer_number(least, square, number),
     }
@@ -192,11 +192,11 @@ fn scan_leaf(points: &[f32], spot: Point3f, order: &[u32], near: u32, best: &mut
     found.number
 }
 
-// How far v is from the nearest number between lo and hi, below zero where it is less.
+// How far the nearest number between lo and hi is from v, below zero where it is less.
 fn gap(v: f32, lo: f32, hi: f32) -> f32
     ensures { λ r. ⌜ r ≡ gap v lo hi ⌝ }
 {
-    v - lesser(greater(lo, v), hi)
+    lesser(greater(lo, v), hi) - v
 }
 
 // The coordinate whose bits a word has.
