@@ -26,6 +26,9 @@ pub struct Site {
     pub limits: Limits,
 }
 
+// A list of so many points or fewer is gone through pair by pair.
+const SHORT: usize = 32;
+
 // How often a list is halved at most.
 const HALVINGS: usize = 12;
 
@@ -162,6 +165,10 @@ fn pay_found(
     let s = p.scene;
     let limits = p.limits;
     let count = keep_left(s, w, found, lo, i);
+    if count <= SHORT {
+        let each = seedless_pairs::range_of(s, points, w, 0, count);
+        return seedless_pairs::pay_each(s, points, w, p.radius, limits, i, each, each, purse);
+    }
     order_listed(s, points, w, count);
     let all = seedless_pairs::range_of(s, points, w, 0, count);
     seedless_pairs::pay_ranges(s, points, w, p.radius, limits, i, all, all, purse)

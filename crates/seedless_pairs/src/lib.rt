@@ -80,7 +80,7 @@ fn later(a: usize, b: usize) -> usize
 }
 
 // The same once it is told of each point of a range and the later points of another.
-fn pay_each(
+pub fn pay_each(
     s: Scene,
     points: &[f32],
     w: &[u32],
