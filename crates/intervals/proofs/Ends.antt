@@ -107,7 +107,7 @@ unlike-not false false = refl
 mul-neg : (x c : Float) → T (finite x) → T (finite c) → x ⊗ neg c ≡ neg (x ⊗ c)
 mul-neg = of-finite (λ x c. x ⊗ neg c ≡ neg (x ⊗ c)) (λ s m e t n d. unfold mul neg in rw (unlike-not s t) (round-neg binary32 (unlike s t) (m * up e * (n * up d)) (down e * down d)))
 
-mul-antitone : (x y c : Float) → T (finite x) → T (finite y) → T (finite c) → T (le x y) → T (le c (f32 0)) → T (le (y ⊗ c) (x ⊗ c))
+pub mul-antitone : (x y c : Float) → T (finite x) → T (finite y) → T (finite c) → T (le x y) → T (le c (f32 0)) → T (le (y ⊗ c) (x ⊗ c))
 mul-antitone x y c f g k h z =
     let w : T (le (f32 0) (neg c)) = le-trans (f32 0) (neg (f32 0)) (neg c) (minus-zero-le .1) (neg-le c (f32 0) z) in
     let i : T (le (neg (x ⊗ c)) (neg (y ⊗ c))) = rw (← mul-neg x c f k, ← mul-neg y c g k) (mul-monotone-finite x y (neg c) f g (neg-finite c k) h w) in

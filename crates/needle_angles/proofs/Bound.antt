@@ -1,7 +1,7 @@
 -- The least angle of a needle in each order of its edges: four orders measure the angle opposite to the short edge, and two leave it over (`needle-bound`). Assumes nothing.
-use mathlib.Core.Path.{_≡_, refl, ap}
-use Prim.Native.Nat.{ℕ, _+_, _*_, _^_, _≤_, _<_}
-use native.Mathlib.Nat.{mul-pos, mul-le-mul-left, mul-le-mul-right, le-of-mul-le-mul-right}
+use mathlib.Core.Path.{refl}
+use Prim.Native.Nat.{ℕ, _*_, _^_, _≤_, _<_}
+use native.Mathlib.Nat.{mul-le-mul-left, mul-le-mul-right}
 use native.Mathlib.Nat as nat
 use native.Mathlib.Omega.{arith}
 use native.Mathlib.Bridge.{IsLe, le-by-compare}
@@ -12,11 +12,10 @@ use lib.Pow.{pow-add, pow-pos}
 use lib.Ieee.{Float, binary32, le, fits, isNan, ofBits}
 use lib.Ieee.Fits.{mul-fits, div-fits}
 use lib.Ieee.Order.{le-of-values}
-use lib.Ieee.Positive.{positive-finite, den, den-pos}
+use lib.Ieee.Positive.{positive-finite}
 use Rattle.numbers.specs.Rounded.{f32, _⊕_, _⊖_, _⊗_, _⊘_}
-use Rattle.numbers.proofs.OrderLaws.{plus, minus, le-left, le-trans}
-use Rattle.numbers.proofs.RoundedOrder.{rounds-le, rounds-own}
-use Rattle.numbers.proofs.SumOrder.{rounds-sub, sub-number}
+use Rattle.numbers.proofs.OrderLaws.{le-left, le-trans}
+use Rattle.numbers.proofs.SumOrder.{sub-number}
 use Rattle.numbers.proofs.QuotientOrder.{div-monotone, div-number}
 use Rattle.quality.specs.Measures.{angle, least}
 use Rattle.rounding_errors.proofs.Rounding.{Units, units-pos, units-positive}
@@ -24,33 +23,13 @@ use Rattle.rounding_errors.proofs.Operations.{mul-units, div-units, add-units}
 use Rattle.six_orders.specs.SixOrders.{InOrder, abc, acb, bac, bca, cab, cba, leastAngle, AngleBound}
 use Rattle.six_orders.proofs.Positive.{least-first, least-second}
 use Rattle.slivers.specs.Slivers.{cosineOf}
-use Rattle.slivers.proofs.Arc.{w, sizes}
+use Rattle.slivers.proofs.Arc.{w, difference-over}
 use Rattle.needle_angles.proofs.Opposite.{under-sum, product-most, quotient-least}
 use Rattle.needle_angles.proofs.Cosines.{two-units, opposed}
 use Rattle.needle_angles.proofs.LeftOver.{Step, areAll, small-angle, left-over}
 
 abbrev two : Float
 two = f32 0x40000000
-
--- x - p is rounded to at least y where it is at least y
-difference-over : {x p y : Float} {a b c i j k l m n : ℕ} → T (fits binary32 y) → Units x a i j → Units p b k l → Units y c m n → b + c ≤ a → T (le y (x ⊖ p))
-difference-over {x} {p} {y} {a} {b} {c} f u v t h =
-    let sx = sizes u in
-    let sp = sizes v in
-    let sy = sizes t in
-    rounds-le (den-pos y) (mul-pos (den-pos x) (den-pos p)) (rounds-own y f (positive-finite y (units-positive t))) (rounds-sub x p (positive-finite x (units-positive u)) (positive-finite p (units-positive v)))
-    (fractions (plus x) (minus x) (den x) (plus p) (minus p) (den p) (plus y) (minus y) (den y) w (sx .0) (sp .0) (sy .0) (sx .1) (sp .1) (sy .1) (pow-pos 149))
-  where
-    fractions : (X mx dx P mp dp Y my dy o : ℕ) → mx ≡ 0 → mp ≡ 0 → my ≡ 0 → X * o ≡ a * dx → P * o ≡ b * dp → Y * o ≡ c * dy → 0 < o
-        → Y * (dx * dp) + (P * dx + mx * dp) * dy ≤ (X * dp + mp * dx) * dy + my * (dx * dp)
-    fractions X mx dx P mp dp Y my dy o ex ep ey i j k W =
-        let q = ap (λ (r : ℕ). r * (dp * dy)) i in
-        let r = ap (λ (s : ℕ). s * (dx * dy)) j in
-        let s = ap (λ (t : ℕ). t * (dx * dp)) k in
-        let t : (b + c) * (dx * dp * dy) ≤ a * (dx * dp * dy) = mul-le-mul-right (dx * dp * dy) h in
-        let g : (Y * (dx * dp) + P * dx * dy) * o ≤ X * dp * dy * o = omega arith in
-        let z : Y * (dx * dp) + P * dx * dy ≤ X * dp * dy = le-of-mul-le-mul-right g W in
-        rw (ex, ep, ey) (omega arith)
 
 -- ---- the angle opposite to the short edge
 

@@ -1,29 +1,26 @@
 -- Of the two cosines of a needle whose angles are not small, one is at most the other's opposite but for a margin (`opposed`). Assumes nothing.
-use mathlib.Core.Path.{_≡_, refl, sym, ap, subst}
+use mathlib.Core.Path.{refl}
 use Prim.Native.Nat.{ℕ, suc, _+_, _*_, _^_, _≤_, _<_}
-use native.Mathlib.Nat.{mul-pos, mul-le-mul-right, le-of-mul-le-mul-right}
+use native.Mathlib.Nat.{mul-le-mul-right}
 use native.Mathlib.Omega.{arith}
 use native.Mathlib.Bridge.{IsLe, le-by-compare}
 use native.Mathlib.Decide.{decLe}
 use mathlib.Core.Bool.{Bool, _&&_}
 use lib.Dec.{T, leb, leb→le}
-use lib.Pow.{pow-add, pow-pos}
-use lib.Ieee.{Float, binary32, neg, le, fits, ofBits}
-use lib.Ieee.Fits.{and-l, and-r, mul-fits, neg-fits}
+use lib.Pow.{pow-pos}
+use lib.Ieee.{Float, binary32, neg, le, ofBits}
+use lib.Ieee.Fits.{and-l, and-r, mul-fits}
 use lib.Ieee.Order.{le-of-values}
-use lib.Ieee.Scale.{finite}
-use lib.Ieee.Positive.{positive, positive-finite, num, den, den-pos, value→cross}
 use Rattle.numbers.specs.Rounded.{f32, _⊕_, _⊖_, _⊗_, _⊘_}
-use Rattle.numbers.proofs.OrderLaws.{plus, minus, le-trans}
-use Rattle.numbers.proofs.RoundedOrder.{neg-le, rounds-le, rounds-own}
-use Rattle.numbers.proofs.SumOrder.{rounds-sub}
+use Rattle.numbers.proofs.OrderLaws.{le-trans}
+use Rattle.numbers.proofs.RoundedOrder.{neg-le}
 use Rattle.numbers.proofs.QuotientOrder.{div-monotone}
 use Rattle.patterns.specs.Pattern.{unitsOf}
 use Rattle.patterns.proofs.Pattern.{bits-value}
 use Rattle.rounding_errors.proofs.Rounding.{Units, units-pos, units-positive}
 use Rattle.rounding_errors.proofs.Operations.{mul-units, div-units, add-units, units-le}
 use Rattle.slivers.specs.Slivers.{cosineOf}
-use Rattle.slivers.proofs.Arc.{w, sizes, difference-le, negated, div-neg}
+use Rattle.slivers.proofs.Arc.{w, difference-le, difference-under, div-neg}
 use Rattle.needle_angles.proofs.Opposite.{isLonger, isApart, opposite, product-least, product-most, quotient-most, quotient-least}
 
 abbrev two : Float
@@ -32,26 +29,6 @@ two = f32 0x40000000
 pub two-units : Units two (2 * 2 ^ 149) 150 150
 unfolding ofBits IsLe
 two-units = record { value = (refl, refl); low = le-by-compare (2 ^ 150) (2 * 2 ^ 149) tt; high = le-by-compare (2 * 2 ^ 149) (2 ^ 150) tt }
-
--- x - p is rounded to at most -y where p - x is at least y
-difference-under : {x p y : Float} {a b c i j k l m n : ℕ} → T (fits binary32 y) → Units x a i j → Units p b k l → Units y c m n → a + c ≤ b → T (le (x ⊖ p) (neg y))
-difference-under {x} {p} {y} {a} {b} {c} f u v t h =
-    let sx = sizes u in
-    let sp = sizes v in
-    let q = negated y (units-positive t) in
-    rounds-le (mul-pos (den-pos x) (den-pos p)) (subst (λ (d : ℕ). 0 < d) (sym (q .2)) (den-pos y)) (rounds-sub x p (positive-finite x (units-positive u)) (positive-finite p (units-positive v))) (rounds-own (neg y) (neg-fits binary32 y f) (q .3))
-    (rw (q .0, q .1, q .2) (fractions (plus x) (minus x) (den x) (plus p) (minus p) (den p) (num y) (den y) w (sx .0) (sp .0) (sx .1) (sp .1) (value→cross y c w (t .value)) (pow-pos 149)))
-  where
-    fractions : (X mx dx P mp dp Y dy o : ℕ) → mx ≡ 0 → mp ≡ 0 → X * o ≡ a * dx → P * o ≡ b * dp → Y * o ≡ c * dy → 0 < o
-        → (X * dp + mp * dx) * dy + Y * (dx * dp) ≤ 0 * (dx * dp) + (P * dx + mx * dp) * dy
-    fractions X mx dx P mp dp Y dy o ex ep i j k W =
-        let q = ap (λ (r : ℕ). r * (dp * dy)) i in
-        let r = ap (λ (s : ℕ). s * (dx * dy)) j in
-        let s = ap (λ (t : ℕ). t * (dx * dp)) k in
-        let t : (a + c) * (dx * dp * dy) ≤ b * (dx * dp * dy) = mul-le-mul-right (dx * dp * dy) h in
-        let g : (Y * (dx * dp) + X * dp * dy) * o ≤ P * dx * dy * o = omega arith in
-        let z : Y * (dx * dp) + X * dp * dy ≤ P * dx * dy = le-of-mul-le-mul-right g W in
-        rw (ex, ep) (omega arith)
 
 -- ---- factors, by their bits
 

@@ -1,18 +1,16 @@
 -- A number that no arc cosine of a number up to κ is below, as a test that computes for each κ (`floor-holds`). Assumes nothing.
 use mathlib.Core.Path.{_≡_, refl, sym, _∙_, subst}
 use Prim.Native.Nat.{ℕ, _*_}
-use mathlib.Core.Logic.{inl, inr}
-use mathlib.Core.Bool.{Bool, true, false, not, _&&_, _||_, cond}
+use mathlib.Core.Bool.{Bool, true, false, not, _&&_, cond}
 use lib.Dec.{T, not-T, eqb, eqb→eq}
-use lib.IntN.{ℤ}
 use lib.Ieee.{Float, nan, inf, fin, up, down, level, binary32, neg, mul, div, lt, le, eq, fits, isNan, ofBits}
 use lib.Ieee.Bits.{is-false, ofBits-fits}
 use lib.Ieee.Fits.{and-l, and-r, and-i, eq→eqb}
 use lib.Ieee.Scale.{finite}
-use Rattle.numbers.specs.Rounded.{f32, _⊖_, _⊗_}
+use Rattle.numbers.specs.Rounded.{f32, _⊗_}
 use Rattle.numbers.specs.Order.{clamp}
 use Rattle.numbers.specs.Acos.{abs, acosMiddle, acosLow, acosHigh, acosInside, acos}
-use Rattle.numbers.proofs.OrderLaws.{le-left, le-right, lt-le, le-trans, le-lt-trans, lt-le-trans, not-lt-le, not-le-lt, le-not-lt}
+use Rattle.numbers.proofs.OrderLaws.{le-left, lt-le, le-trans, le-lt-trans, lt-le-trans, not-lt-le, not-le-lt, le-not-lt}
 use Rattle.numbers.proofs.RoundedOrder.{neg-le}
 use Rattle.numbers.proofs.Bounded.{neg-neg}
 use Rattle.slivers.proofs.Angle.{level-le, strict}

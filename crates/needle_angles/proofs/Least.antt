@@ -1,10 +1,9 @@
 -- No arc cosine of a number up to κ is below a number that is worked out from κ (`high-least`, `low-least`, `middle-least`, `negative-least`): each part of it is bounded by what the number has in its place. Assumes nothing.
-use mathlib.Core.Path.{_≡_, refl, sym, subst}
+use mathlib.Core.Path.{_≡_, subst}
 use mathlib.Core.Logic.{inl, inr}
-use Prim.Native.Nat.{_*_}
-use mathlib.Core.Bool.{Bool, true, false, not}
+use mathlib.Core.Bool.{false}
 use lib.Dec.{T}
-use lib.Ieee.{Float, inf, binary32, unlike, up, down, neg, add, sub, mul, div, lt, le, fits, ofBits}
+use lib.Ieee.{Float, inf, binary32, neg, add, sub, mul, div, lt, le, fits, ofBits}
 use lib.Ieee.Fits.{neg-fits}
 use lib.Ieee.Scale.{finite}
 use lib.Ieee.Positive.{positive, positive-finite, between}
@@ -13,16 +12,17 @@ use Rattle.numbers.specs.Root.{root}
 use Rattle.numbers.specs.Bounds.{unsigned, Bounded}
 use Rattle.numbers.specs.Acos.{R, highPart, acosMiddle, acosLow, acosHigh}
 use Rattle.numbers.proofs.Above.{positive-signless, finite-under}
-use Rattle.numbers.proofs.OrderLaws.{of-finite, le-left, le-right, lt-le, le-or-lt, le-not-lt, le-trans, le-lt-trans, lt-le-trans, unsigned-le}
-use Rattle.numbers.proofs.RoundedOrder.{neg-le, round-neg, minus-zero-le}
-use Rattle.numbers.proofs.SumOrder.{neg-finite, sub-monotone, sub-antitone}
+use Rattle.numbers.proofs.OrderLaws.{le-left, le-right, lt-le, le-or-lt, le-not-lt, le-trans, le-lt-trans, lt-le-trans, unsigned-le}
+use Rattle.numbers.proofs.RoundedOrder.{neg-le}
+use Rattle.numbers.proofs.SumOrder.{sub-monotone, sub-antitone}
 use Rattle.numbers.proofs.ProductOrder.{mul-monotone-finite, mul-commutative, square-monotone, square-antitone, square-neg}
 use Rattle.numbers.proofs.QuotientOrder.{div-monotone, div-unsigned}
 use Rattle.numbers.proofs.RootMonotone.{root-monotone}
-use Rattle.numbers.proofs.Bounded.{neg-neg, neg-bounded, bounded-finite, add-bounded, sub-bounded, mul-unsigned, mul-bounded}
-use Rattle.score_bounds.proofs.Aspect.{Low, add-under, doubled-le}
-use Rattle.slivers.proofs.Arc.{Parts, parts, zOf, z-fits, z-falls}
-use Rattle.slivers.proofs.Angle.{low-finite, plain-bounded, quarter, ratio, ratio-plain, ratio-most, ratio-least, ratio-bounded, first-bounded, product-most, root-most}
+use Rattle.numbers.proofs.Bounded.{neg-neg, bounded-finite, add-bounded, sub-bounded, mul-unsigned, mul-bounded}
+use Rattle.intervals.proofs.Ends.{mul-antitone}
+use Rattle.score_bounds.proofs.Aspect.{add-under, doubled-le}
+use Rattle.slivers.proofs.Arc.{parts, zOf, z-fits, z-falls}
+use Rattle.slivers.proofs.Angle.{low-finite, plain-bounded, quarter, ratio, ratio-plain, ratio-most, ratio-least, first-bounded, product-most, root-most}
 
 abbrev half : Float
 half = f32 0x3f000000
@@ -73,15 +73,6 @@ module _ (z : Float) (p : T (positive z)) (h : T (le z quarter)) where
       (div-monotone (z ⊗ f32 0x3e3851ec) (quarter ⊗ f32 0x3e3851ec) (f32 0x3f51eb85) (unfold ofBits in tt) (mul-monotone-finite z quarter (f32 0x3e3851ec) (positive-finite z p) (unfold ofBits in tt) (unfold ofBits in tt) h (unfold le ofBits in tt))) (unfold le neg div mul ofBits in tt)
 
 -- ---- signs changed
-
-unlike-not : (s t : Bool) → unlike s (not t) ≡ not (unlike s t)
-unlike-not true true = refl
-unlike-not true false = refl
-unlike-not false true = refl
-unlike-not false false = refl
-
-mul-neg : (x c : Float) → T (finite x) → T (finite c) → x ⊗ neg c ≡ neg (x ⊗ c)
-mul-neg = of-finite (λ x c. x ⊗ neg c ≡ neg (x ⊗ c)) (λ s m e t n d. unfold mul neg in rw (unlike-not s t) (round-neg binary32 (unlike s t) (m * up e * (n * up d)) (down e * down d)))
 
 pub neg-lt : (x y : Float) → T (lt x y) → T (lt (neg y) (neg x))
 neg-lt x y h =
@@ -251,13 +242,6 @@ middle-least κ v lo h hi =
     (rw (mul-commutative κ (R z), mul-commutative κ (ratio Z)) (mul-monotone-finite (R z) (ratio Z) κ r-finite q-finite κ-finite r-le above-κ)) in
     falling κ v (κ ⊗ ratio Z) (v ⊗ R z) v-finite κ-finite h less more product
 
--- a factor below zero turns the order
-turned-product : (x y c : Float) → T (finite x) → T (finite y) → T (finite c) → T (le x y) → T (le c (f32 0)) → T (le (c ⊗ y) (c ⊗ x))
-turned-product x y c f g k h l =
-    let d = neg c in
-    let m = mul-monotone-finite x y d f g (neg-finite c k) h (le-trans (f32 0) (neg (f32 0)) d (minus-zero-le .1) (neg-le c (f32 0) l)) in
-    rw (mul-commutative c y, mul-commutative c x) (subst (λ (a : Float). T (le (y ⊗ a) (x ⊗ a))) (neg-neg c) (rw (mul-neg y d g (neg-finite c k), mul-neg x d f (neg-finite c k)) (neg-le (x ⊗ d) (y ⊗ d) m)))
-
 pub negative-least : (κ v : Float) → T (le (neg half) v) → T (lt v (neg (f32 0x32800000))) → T (le v κ) → T (le κ (f32 0)) → T (finite (κ ⊗ κ)) → T (le (f32 0) (lowRatio (κ ⊗ κ))) → T (le (negativeLeast κ) (acosMiddle v))
 unfolding acosMiddle
 negative-least κ v lo b h o f k =
@@ -279,7 +263,7 @@ negative-least κ v lo b h o f k =
     let less = taken-finite v (R z) v-bounded r-bounded in
     let more = taken-finite κ l κ-bounded l-bounded in
     let product : T (le (v ⊗ R z) (κ ⊗ l)) =
-    le-trans (v ⊗ R z) (κ ⊗ R z) (κ ⊗ l) (mul-monotone-finite v κ (R z) v-finite κ-finite r-finite h (unsigned-le (R z) (ratio-plain z p m))) (turned-product l (R z) κ l-finite r-finite κ-finite l-le o) in
+    le-trans (v ⊗ R z) (κ ⊗ R z) (κ ⊗ l) (mul-monotone-finite v κ (R z) v-finite κ-finite r-finite h (unsigned-le (R z) (ratio-plain z p m))) (rw (mul-commutative κ (R z), mul-commutative κ l) (mul-antitone l (R z) κ l-finite r-finite κ-finite l-le o)) in
     falling κ v (κ ⊗ l) (v ⊗ R z) v-finite κ-finite h less more product
   where
     turned : (v : Float) → T (lt v (neg (f32 0x32800000))) → T (lt (f32 0x32800000) (neg v))

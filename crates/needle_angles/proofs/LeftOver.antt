@@ -1,22 +1,20 @@
 -- The angle that is left over of a needle: from two cosines of which one is at most the other's opposite but for a margin, in steps that a test goes through (`left-over`). Assumes nothing.
-use mathlib.Core.Path.{_≡_, refl}
 use Prim.Native.Nat.{ℕ}
 use mathlib.Core.Logic.{_⊎_, inl, inr}
 use mathlib.Core.Bool.{Bool, true, false, not, _&&_, cond}
 use mathlib.Core.List.{List, [], _∷_}
 use lib.Dec.{T}
-use lib.Ieee.{Float, inf, binary32, neg, sub, add, lt, le, fits, isNan, ofBits}
+use lib.Ieee.{Float, inf, binary32, neg, sub, lt, le, fits, isNan, ofBits}
 use lib.Ieee.Bits.{ofBits-fits}
 use lib.Ieee.Fits.{and-l, and-r}
-use Rattle.numbers.specs.Rounded.{f32, _⊕_, _⊖_, _⊗_}
+use Rattle.numbers.specs.Rounded.{f32, _⊖_}
 use Rattle.numbers.specs.Order.{clamp}
 use Rattle.numbers.specs.Acos.{acos}
 use Rattle.numbers.proofs.OrderLaws.{le-left, le-right, lt-le, le-or-lt, le-not-lt, le-trans}
 use Rattle.numbers.proofs.RoundedOrder.{neg-le}
 use Rattle.quality.specs.Measures.{least}
-use Rattle.score_bounds.proofs.Aspect.{Low, add-under}
+use Rattle.score_bounds.proofs.Aspect.{add-under}
 use Rattle.six_orders.proofs.Positive.{least-first, least-second, least-third}
-use Rattle.slivers.specs.Slivers.{AngleLimit}
 use Rattle.slivers.proofs.Arc.{zOf}
 use Rattle.slivers.proofs.Angle.{limit, angle-limit-is}
 use Rattle.needle_angles.proofs.Floor.{Floor, floorHigh, floorMiddle, floorNegative, floorLow, floor-high, floor-middle, floor-negative, floor-low}

@@ -1,13 +1,13 @@
 -- The two cosines of a needle, over whole numbers: a, b and c are the edges, w units to 1. Where c² + a² - b² is from y on, c² - b² - a² is from y' on, rounding included (`opposite`); and a is much shorter by the squares (`edges-near`, `edges-far`). Assumes nothing.
 use mathlib.Core.Path.{_≡_, refl, sym, ap, subst}
 use Prim.Native.Nat.{ℕ, _+_, _-_, _*_, _^_, _≤_, _<_}
-use native.Mathlib.Nat.{mul-le-mul, mul-le-mul-left, mul-le-mul-right, le-of-mul-le-mul-right, mul-pos, le-trans}
+use native.Mathlib.Nat.{mul-le-mul, mul-le-mul-left, mul-le-mul-right, le-of-mul-le-mul-right, mul-pos}
 use native.Mathlib.Omega.{arith}
 use native.Mathlib.Bridge.{IsLe, le-by-compare}
 use native.Mathlib.Decide.{decLe}
 use mathlib.Core.Bool.{Bool}
 use lib.Dec.{T, leb, leb→le}
-use Rattle.rounding_errors.proofs.Near.{Near, near-le, near-eq, near-trans, near-times, near-mul, near-add, near-cancel, near-within, square-back}
+use Rattle.rounding_errors.proofs.Near.{Near, near-le, near-eq, near-trans, near-times, near-add, near-cancel, near-within, square-back}
 
 -- What the factors τ and ρ of y and y' have to satisfy, with edges K times as long: c is longer than b by a part s of
 -- 4096 of a, and that makes up for the rounding errors of the sums and for what is left of a².

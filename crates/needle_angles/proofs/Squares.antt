@@ -14,7 +14,6 @@ use Rattle.numbers.proofs.Above.{positive-signless}
 use Rattle.numbers.proofs.ProductOrder.{mul-monotone-finite}
 use Rattle.rounding_errors.proofs.Rounding.{Units, units-positive}
 use Rattle.rounding_errors.proofs.Operations.{between-units, mul-units, root-units, units-le}
-use Rattle.six_orders.specs.SixOrders.{AngleBound}
 use Rattle.slivers.proofs.Arc.{w}
 use Rattle.needle_angles.specs.NeedleAngles.{NeedleAngle}
 use Rattle.needle_angles.proofs.Opposite.{edges-near, edges-far}

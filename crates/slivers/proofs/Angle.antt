@@ -194,7 +194,7 @@ module _ (κ : Float) (f : T (fits binary32 κ)) (lo : T (le (f32 0x3f000000) κ
       div-unsigned (Z ⊗ f32 0x3e3851ec) (f32 0x3f51eb85) (bounded-finite (Z ⊗ f32 0x3e3851ec) (quarter ⊗ f32 0x3e3851ec) (unfold mul ofBits in tt) thinned-bounded)
       (mul-unsigned Z (f32 0x3e3851ec) Z-finite (unfold ofBits in tt) (positive-signless Z (known .z-positive)) (unfold ofBits in tt)) (unfold ofBits in tt)
 
-  pub ratio-bounded : Bounded (ratio Z) (ratio quarter)
+  ratio-bounded : Bounded (ratio Z) (ratio quarter)
   ratio-bounded = plain-bounded (ratio Z) (ratio quarter) ratio-unsigned (div-monotone (Z ⊗ f32 0x3e3851ec) (quarter ⊗ f32 0x3e3851ec) (f32 0x3f51eb85) (unfold ofBits in tt) (thinned-bounded .upper)) (unfold le neg div mul ofBits in tt)
 
   ratio-finite : T (finite (ratio Z))

@@ -19,8 +19,8 @@ use lib.Ieee.Positive.{positive, positive-finite, between, num, den, den-pos, va
 use Rattle.numbers.specs.Rounded.{f32, _⊕_, _⊖_, _⊗_, _⊘_}
 use Rattle.numbers.specs.Root.{root}
 use Rattle.numbers.specs.Acos.{highPart}
-use Rattle.numbers.proofs.OrderLaws.{plus, minus, le-not-lt, lt-le, le-trans, le-lt-trans, finite-number, unsigned-le}
-use Rattle.numbers.proofs.RoundedOrder.{neg-le, round-neg, rounds-le, rounds-own, nonnegative-minus, nonnegative-plus}
+use Rattle.numbers.proofs.OrderLaws.{plus, minus, side, le-not-lt, lt-le, le-trans, le-lt-trans, finite-number, unsigned-le}
+use Rattle.numbers.proofs.RoundedOrder.{Rounds, neg-le, round-neg, rounds-le, rounds-own, nonnegative-minus, nonnegative-plus}
 use Rattle.numbers.proofs.RootMonotone.{root-above}
 use Rattle.numbers.proofs.Above.{positive-signless}
 use Rattle.numbers.proofs.SumOrder.{rounds-sub, sub-antitone}
@@ -143,64 +143,113 @@ cleared-units s n f u =
 
 -- ---- a difference
 
-pub sizes : {x : Float} {n i j : ℕ} → Units x n i j → (minus x ≡ 0) × (plus x * w ≡ n * den x)
+sizes : {x : Float} {n i j : ℕ} → Units x n i j → (minus x ≡ 0) × (plus x * w ≡ n * den x)
 sizes {x} {n} u =
     let q = units-positive u in
     let f = positive-finite x q in
     let l = unsigned-le x (positive-signless x q) in
     (nonnegative-minus x f l, rw (nonnegative-plus x f l) (value→cross x n w (u .value)))
 
--- x - p is rounded to at most y where it is at most y
-pub difference-le : {x p y : Float} {a b c i j k l m n : ℕ} → T (fits binary32 y) → Units x a i j → Units p b k l → Units y c m n → a ≤ b + c → T (le (x ⊖ p) y)
-difference-le {x} {p} {y} {a} {b} {c} f u v t h =
-    let sx = sizes u in
-    let sp = sizes v in
-    let sy = sizes t in
-    let fx = positive-finite x (units-positive u) in
-    let fp = positive-finite p (units-positive v) in
-    let fy = positive-finite y (units-positive t) in
-    rounds-le (mul-pos (den-pos x) (den-pos p)) (den-pos y) (rounds-sub x p fx fp) (rounds-own y f fy)
-    (fractions (plus x) (minus x) (den x) (plus p) (minus p) (den p) (plus y) (minus y) (den y) w (sx .0) (sp .0) (sy .0) (sx .1) (sp .1) (sy .1) (pow-pos 149))
-  where
-    fractions : (X mx dx P mp dp Y my dy w : ℕ) → mx ≡ 0 → mp ≡ 0 → my ≡ 0 → X * w ≡ a * dx → P * w ≡ b * dp → Y * w ≡ c * dy → 0 < w
-        → (X * dp + mp * dx) * dy + my * (dx * dp) ≤ Y * (dx * dp) + (P * dx + mx * dp) * dy
-    fractions X mx dx P mp dp Y my dy w ex ep ey i j k W =
-        let q = ap (λ (r : ℕ). r * (dp * dy)) i in
-        let r = ap (λ (s : ℕ). s * (dx * dy)) j in
-        let s = ap (λ (t : ℕ). t * (dx * dp)) k in
-        let t : a * (dx * dp * dy) ≤ (b + c) * (dx * dp * dy) = mul-le-mul-right (dx * dp * dy) h in
-        let g : X * dp * dy * w ≤ (Y * (dx * dp) + P * dx * dy) * w = omega arith in
-        let o : X * dp * dy ≤ Y * (dx * dp) + P * dx * dy = le-of-mul-le-mul-right g W in
-        rw (ex, ep, ey) (omega arith)
+-- z is u units, or v below zero
+record Signed (z : Float) (u v : ℕ) : Type 0 where
+  fitting : T (fits binary32 z)
+  finite-is : T (finite z)
+  plus-is : plus z * w ≡ u * den z
+  minus-is : minus z * w ≡ v * den z
 
-pub negated : (y : Float) → T (positive y) → (plus (neg y) ≡ 0) × (minus (neg y) ≡ num y) × (den (neg y) ≡ den y) × T (finite (neg y))
+none : (p q : ℕ) → 0 * p ≡ 0 * q
+none p q = omega arith
+
+signed-units : {y : Float} {n i j : ℕ} → T (fits binary32 y) → Units y n i j → Signed y n 0
+signed-units {y} {n} f t =
+    let s = sizes t in
+    record { fitting = f; finite-is = positive-finite y (units-positive t); plus-is = s .1; minus-is = rw (s .0) (none w (den y)) }
+
+negated : (y : Float) → T (positive y) → (plus (neg y) ≡ 0) × (minus (neg y) ≡ num y) × (den (neg y) ≡ den y) × T (finite (neg y))
 unfolding neg
 negated nan p = absurd p
 negated (inf s) p = absurd p
 negated (fin true m e) p = absurd p
 negated (fin false m e) p = (refl, refl, refl, tt)
 
--- and to at least -y where p - x is at most y
-difference-ge : {x p y : Float} {a b c i j k l m n : ℕ} → T (fits binary32 y) → Units x a i j → Units p b k l → Units y c m n → b ≤ a + c → T (le (neg y) (x ⊖ p))
-difference-ge {x} {p} {y} {a} {b} {c} f u v t h =
-    let sx = sizes u in
-    let sp = sizes v in
-    let fx = positive-finite x (units-positive u) in
-    let fp = positive-finite p (units-positive v) in
+signed-neg : {y : Float} {n i j : ℕ} → T (fits binary32 y) → Units y n i j → Signed (neg y) 0 n
+signed-neg {y} {n} f t =
     let q = negated y (units-positive t) in
-    rounds-le (subst (λ (d : ℕ). 0 < d) (sym (q .2)) (den-pos y)) (mul-pos (den-pos x) (den-pos p)) (rounds-own (neg y) (neg-fits binary32 y f) (q .3)) (rounds-sub x p fx fp)
-    (rw (q .0, q .1, q .2) (fractions (plus x) (minus x) (den x) (plus p) (minus p) (den p) (num y) (den y) w (sx .0) (sp .0) (sx .1) (sp .1) (value→cross y c w (t .value)) (pow-pos 149)))
-  where
-    fractions : (X mx dx P mp dp Y dy w : ℕ) → mx ≡ 0 → mp ≡ 0 → X * w ≡ a * dx → P * w ≡ b * dp → Y * w ≡ c * dy → 0 < w
-        → 0 * (dx * dp) + (P * dx + mx * dp) * dy ≤ (X * dp + mp * dx) * dy + Y * (dx * dp)
-    fractions X mx dx P mp dp Y dy w ex ep i j k W =
-        let q = ap (λ (r : ℕ). r * (dp * dy)) i in
-        let r = ap (λ (s : ℕ). s * (dx * dy)) j in
-        let s = ap (λ (t : ℕ). t * (dx * dp)) k in
-        let t : b * (dx * dp * dy) ≤ (a + c) * (dx * dp * dy) = mul-le-mul-right (dx * dp * dy) h in
-        let g : P * dx * dy * w ≤ (Y * (dx * dp) + X * dp * dy) * w = omega arith in
-        let o : P * dx * dy ≤ Y * (dx * dp) + X * dp * dy = le-of-mul-le-mul-right g W in
-        rw (ex, ep) (omega arith)
+    record { fitting = neg-fits binary32 y f; finite-is = q .3; plus-is = rw (q .0) (none w (den (neg y))); minus-is = rw (q .1, q .2) (value→cross y n w (t .value)) }
+
+scaled : (X o a d e f g : ℕ) → d * e * f ≡ g → X * o ≡ a * d → X * e * f * o ≡ a * g
+scaled X o a d e f g i h =
+    let q = ap (λ (r : ℕ). r * (e * f)) h in
+    let r = ap (λ (r : ℕ). a * r) i in
+    omega arith
+
+-- x - p against z, each a fraction of plus and minus
+module _ (a b u v X mx dx P mp dp Z mz dz o : ℕ) (ex : mx ≡ 0) (ep : mp ≡ 0) (i : X * o ≡ a * dx) (j : P * o ≡ b * dp) (k : Z * o ≡ u * dz) (l : mz * o ≡ v * dz) (W : 0 < o) where
+  fraction-x : X * dp * dz * o ≡ a * (dx * dp * dz)
+  fraction-x = scaled X o a dx dp dz (dx * dp * dz) refl i
+
+  fraction-p : P * dx * dz * o ≡ b * (dx * dp * dz)
+  fraction-p = scaled P o b dp dx dz (dx * dp * dz) (omega arith) j
+
+  fraction-z : Z * dx * dp * o ≡ u * (dx * dp * dz)
+  fraction-z = scaled Z o u dz dx dp (dx * dp * dz) (omega arith) k
+
+  fraction-m : mz * dx * dp * o ≡ v * (dx * dp * dz)
+  fraction-m = scaled mz o v dz dx dp (dx * dp * dz) (omega arith) l
+
+  under-fraction : a + v ≤ b + u → (X * dp + mp * dx) * dz + mz * (dx * dp) ≤ Z * (dx * dp) + (P * dx + mx * dp) * dz
+  under-fraction h = rw (ex, ep) (last (le-of-mul-le-mul-right (gathered (X * dp * dz) (mz * dx * dp) (Z * dx * dp) (P * dx * dz) (dx * dp * dz) fraction-x fraction-m fraction-z fraction-p) W))
+    where
+      gathered : (x m z p e : ℕ) → x * o ≡ a * e → m * o ≡ v * e → z * o ≡ u * e → p * o ≡ b * e → (x + m) * o ≤ (z + p) * o
+      gathered x m z p e q r s t = let y = mul-le-mul-right e h in omega arith
+
+      last : X * dp * dz + mz * dx * dp ≤ Z * dx * dp + P * dx * dz → (X * dp + 0 * dx) * dz + mz * (dx * dp) ≤ Z * (dx * dp) + (P * dx + 0 * dp) * dz
+      last y = omega arith
+
+  over-fraction : b + u ≤ a + v → Z * (dx * dp) + (P * dx + mx * dp) * dz ≤ (X * dp + mp * dx) * dz + mz * (dx * dp)
+  over-fraction h = rw (ex, ep) (last (le-of-mul-le-mul-right (gathered (X * dp * dz) (mz * dx * dp) (Z * dx * dp) (P * dx * dz) (dx * dp * dz) fraction-x fraction-m fraction-z fraction-p) W))
+    where
+      gathered : (x m z p e : ℕ) → x * o ≡ a * e → m * o ≡ v * e → z * o ≡ u * e → p * o ≡ b * e → (z + p) * o ≤ (x + m) * o
+      gathered x m z p e q r s t = let y = mul-le-mul-right e h in omega arith
+
+      last : Z * dx * dp + P * dx * dz ≤ X * dp * dz + mz * dx * dp → Z * (dx * dp) + (P * dx + 0 * dp) * dz ≤ (X * dp + 0 * dx) * dz + mz * (dx * dp)
+      last y = omega arith
+
+module _ {x p z : Float} {a b u v i j k l : ℕ} (ux : Units x a i j) (up : Units p b k l) (sz : Signed z u v) where
+  rounds-x : Rounds (x ⊖ p) (side x p) (side p x) (den x * den p)
+  rounds-x = rounds-sub x p (positive-finite x (units-positive ux)) (positive-finite p (units-positive up))
+
+  -- x - p is rounded to at most z where it is at most z
+  signed-le : a + v ≤ b + u → T (le (x ⊖ p) z)
+  signed-le h =
+      rounds-le (mul-pos (den-pos x) (den-pos p)) (den-pos z) rounds-x (rounds-own z (sz .fitting) (sz .finite-is))
+      (under-fraction a b u v (plus x) (minus x) (den x) (plus p) (minus p) (den p) (plus z) (minus z) (den z) w (sizes ux .0) (sizes up .0) (sizes ux .1) (sizes up .1) (sz .plus-is) (sz .minus-is) (pow-pos 149) h)
+
+  -- and to at least z where it is at least z
+  signed-ge : b + u ≤ a + v → T (le z (x ⊖ p))
+  signed-ge h =
+      rounds-le (den-pos z) (mul-pos (den-pos x) (den-pos p)) (rounds-own z (sz .fitting) (sz .finite-is)) rounds-x
+      (over-fraction a b u v (plus x) (minus x) (den x) (plus p) (minus p) (den p) (plus z) (minus z) (den z) w (sizes ux .0) (sizes up .0) (sizes ux .1) (sizes up .1) (sz .plus-is) (sz .minus-is) (pow-pos 149) h)
+
+left : (a b : ℕ) → a ≤ b → a + 0 ≤ b
+left a b h = omega arith
+
+right : (a b : ℕ) → a ≤ b → a ≤ b + 0
+right a b h = omega arith
+
+-- with a number above zero, and with one below
+module _ {x p y : Float} {a b c i j k l m n : ℕ} (f : T (fits binary32 y)) (ux : Units x a i j) (up : Units p b k l) (uy : Units y c m n) where
+  pub difference-le : a ≤ b + c → T (le (x ⊖ p) y)
+  difference-le h = signed-le ux up (signed-units f uy) (left a (b + c) h)
+
+  pub difference-over : b + c ≤ a → T (le y (x ⊖ p))
+  difference-over h = signed-ge ux up (signed-units f uy) (right (b + c) a h)
+
+  pub difference-ge : b ≤ a + c → T (le (neg y) (x ⊖ p))
+  difference-ge h = signed-ge ux up (signed-neg f uy) (left b (a + c) h)
+
+  pub difference-under : a + c ≤ b → T (le (x ⊖ p) (neg y))
+  difference-under h = signed-le ux up (signed-neg f uy) (right (a + c) b h)
 
 -- a quotient of a number with its sign changed
 pub div-neg : (x c : Float) → T (positive x) → T (positive c) → neg x ⊘ c ≡ neg (x ⊘ c)
