@@ -26,15 +26,17 @@ pub fn angle_limit(cosine: f32) -> f32
 
 // Limits for a threshold. The edges' part of three times the score is at most 1, which leaves `share` to the other two:
 // 6 / pi times the least angle and twice the aspect ratio, which is at most the square of an angle that bounds the two
-// small ones. A guess and a test: where it fails the cosine is not a number, and nothing is at least that.
+// small ones, and at least 2 ^ -9, below which `thin` refuses nothing. A guess and a test: where it fails the cosine is
+// not a number, and nothing is at least that.
 pub fn sliver_limits(threshold: f32) -> SliverLimits
     ensures { λ r. ⌜ Slivers threshold (r .cosine) (r .aspect) ⌝ }
 {
     let share = 3.0 * threshold - 1.0;
-    let angle = 1.99 * share / (1.91 + numbers::sqrt(3.65 + 8.8 * share));
+    let most = 1.99 * share / (1.91 + numbers::sqrt(3.65 + 8.8 * share));
+    let aspect = numbers::max(1.1 * most * most, 0.001953125);
+    let angle = (0.995 * share - 2.0 * aspect) / 1.91;
     let square = angle * angle;
     let cosine = 1.0 - square * (0.5 - square / 24.0);
-    let aspect = 1.1 * square;
     let low = quality::score(angle_limit(cosine), aspect, 1.0) < threshold;
     if 0.0 < threshold && low {
         return SliverLimits { cosine, aspect };

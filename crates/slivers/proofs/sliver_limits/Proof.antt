@@ -8,6 +8,9 @@ use Rattle.slivers.proofs.sliver_limits.Tie as tie
 sqrt-requires : tie.Need-sqrt-requires
 sqrt-requires c κs = search needs
 
+max-requires : tie.Need-max-requires
+max-requires c κs = search needs
+
 angle-limit-requires : tie.Need-angle-limit-requires
 angle-limit-requires c κs = search needs
 
@@ -17,11 +20,11 @@ score-requires c κs = search needs
 returns : tie.Need-returns
 returns c =
     let m = c .before .before .before .angle-limit in
-    slivers-are (c .before .before .before .before .before .args .threshold) _ _ (m .result) (rw (c .before .if1 .taken) tt) (m .ensures) (rw (← c .before .before .score .ensures, c .if2 .taken) tt)
+    slivers-are (c .before .before .before .before .before .before .args .threshold) _ _ (m .result) (rw (c .before .if1 .taken) tt) (m .ensures) (rw (← c .before .before .score .ensures, c .if2 .taken) tt)
 
 returns-2 : tie.Need-returns-2
 returns-2 c = rw no-number (no-slivers _ _)
 
 pub sliver-limits-spec : {M : Type 1} → statement M
 sliver-limits-spec =
-    tie.close (tie.spec sqrt-requires angle-limit-requires score-requires returns returns-2)
+    tie.close (tie.spec sqrt-requires max-requires angle-limit-requires score-requires returns returns-2)
