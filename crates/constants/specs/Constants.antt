@@ -72,7 +72,7 @@ pub record Constants : Type 0 where
   -- the squares of two ratios of edges, and what the larger takes off the limit, see `cosines`
   pub ratio-square : f32 0x43800000 ≡ decimal 256 1
   pub far-ratio-square : f32 0x47800000 ≡ decimal 65536 1
-  pub far-margin : f32 0x3a700000 ≡ decimal 480 (2 ^ 19)
+  pub far-margin : f32 0x39f00000 ≡ decimal 240 (2 ^ 19)
   -- about 1e-12, and the next f32: squares of the plain path's cross product, see `plain`
   pub thin : f32 0x2b8cbccd ≡ decimal 9223373 (2 ^ 63)
   pub thin-next : f32 0x2b8cbcce ≡ decimal 9223374 (2 ^ 63)

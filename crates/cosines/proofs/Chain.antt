@@ -2,7 +2,7 @@
 -- which is twice the dot product, z the product of the computed lengths of p q and p t, and w is 2 ^ 149, the units of 1. Assumes nothing.
 use mathlib.Core.Path.{_≡_, refl, sym, ap, _∙_, subst}
 use Prim.Native.Nat.{ℕ, _+_, _*_, _^_, _≤_, _<_}
-use native.Mathlib.Nat.{mul-pos, mul-le-mul, mul-le-mul-left, mul-le-mul-right, le-of-mul-le-mul-right, add-mul}
+use native.Mathlib.Nat.{le-trans, le-of-eq, mul-pos, mul-le-mul, mul-le-mul-left, mul-le-mul-right, le-of-mul-le-mul-right, add-mul}
 use native.Mathlib.Omega.{arith}
 use native.Mathlib.Bridge.{IsLe, le-by-compare}
 use Rattle.rounding_errors.proofs.Near.{Near, near-le, near-eq, near-self, near-trans, near-add, near-more, near-times, near-root, near-within}
@@ -65,23 +65,28 @@ module _ (w A C X m S t n : ℕ) (W : 0 < w) where
 
 -- ---- the dot product
 
--- v is what the limit t leaves for the cosine
-pub dot-above : (w A C X E t v z : ℕ) → 4 * (A * C) ≡ E * E + 4 * X → 32 * (X * w) ≤ 33 * (t * (A * C)) → 32 * (v * v) + 33 * (t * w) ≤ 32 * (w * w) → Near 18 (z * z) (A * C) → Near 9 (2 * v * z) (E * w)
-dot-above w A C X E t v z h k l i =
+-- j of 32 w is what the limit t leaves
+pub dot-above : (w A C X E t j z : ℕ) → 4 * (A * C) ≡ E * E + 4 * X → 32 * (X * w) ≤ 33 * (t * (A * C)) → j + 33 * t ≡ 32 * w → Near 18 (z * z) (A * C) → Near 9 (2 * j * z) (E * (32 * w))
+dot-above w A C X E t j z h k l i =
     let P = A * C in
-    let a = ap (λ (x : ℕ). x * (w * w)) h in
-    let b = mul-le-mul-left P l in
-    let c = mul-le-mul-right w k in
-    near-root (near-eq {k = 18} (left v z) (squares E w) (near-trans (near-times (4 * (v * v)) i) (near-le (step P (E * E) a b c))))
+    let a = ap (λ (v : ℕ). v * (32 * w)) h in
+    let b = ap (λ (v : ℕ). 4 * P * v) l in
+    let c : 4 * P * j ≤ E * E * (32 * w) = step P (E * E) a b k in
+    let d : 4 * P * j * j ≤ E * E * (32 * w) * j = mul-le-mul-right j c in
+    let g : E * E * (32 * w) * j ≤ E * E * (32 * w) * (32 * w) = mul-le-mul-left (E * E * (32 * w)) (omega arith) in
+    near-root (near-eq {k = 18} (left j z) refl (near-trans (near-times (4 * (j * j)) i) (near-le (le-trans (le-of-eq (right P j)) (le-trans d (le-trans g (le-of-eq (squares E (32 * w)))))))))
   where
-    step : (P Q : ℕ) → 4 * P * (w * w) ≡ (Q + 4 * X) * (w * w) → P * (32 * (v * v) + 33 * (t * w)) ≤ P * (32 * (w * w)) → 32 * (X * w) * w ≤ 33 * (t * P) * w → P * (4 * (v * v)) ≤ Q * (w * w)
-    step P Q a b c = omega arith
+    step : (P Q : ℕ) → 4 * P * (32 * w) ≡ (Q + 4 * X) * (32 * w) → 4 * P * (j + 33 * t) ≡ 4 * P * (32 * w) → 32 * (X * w) ≤ 33 * (t * P) → 4 * P * j ≤ Q * (32 * w)
+    step P Q a b k = omega arith
 
-    left : (v z : ℕ) → z * z * (4 * (v * v)) ≡ 2 * v * z * (2 * v * z)
-    left v z = omega arith
+    left : (j z : ℕ) → z * z * (4 * (j * j)) ≡ 2 * j * z * (2 * j * z)
+    left j z = omega arith
 
-    squares : (E w : ℕ) → E * E * (w * w) ≡ E * w * (E * w)
-    squares E w = omega arith
+    right : (P j : ℕ) → P * (4 * (j * j)) ≡ 4 * P * j * j
+    right P j = omega arith
+
+    squares : (E h : ℕ) → E * E * h * h ≡ E * h * (E * h)
+    squares E h = omega arith
 
 -- ---- the edges against each other
 
@@ -117,15 +122,16 @@ third-below A B C r h k l =
 -- ---- the cosine
 
 -- k is the bound, g is w / 2 ^ 19, s the computed sum of the squares of the lengths of p q and p t, b the computed square of that of q t
-module _ (w g k r E A B C z s b : ℕ) (W : w ≡ 524288 * g) (G : 0 < g) (K : w ≤ 2 * k) (H : k + (r + 1) * g ≤ w) (R : r ≤ 256) (dot : Near 9 (2 * (k + (r + 1) * g) * z) (E * w)) (whole : E + B ≡ A + C) (sum : Near 11 (A + C) (s * w)) (third : Near 10 (b * w) B) (edges : A + B + C ≤ 4 * (r * z)) where
+module _ (w g k r j E A B C z s b : ℕ) (W : w ≡ 524288 * g) (G : 0 < g) (K : w ≤ 2 * k) (J : 32 * (k + (r + 1) * g) ≤ j) (H : j ≤ 32 * w) (R : r ≤ 256) (dot : Near 9 (2 * j * z) (E * (32 * w))) (whole : E + B ≡ A + C) (sum : Near 11 (A + C) (s * w)) (third : Near 10 (b * w) B) (edges : A + B + C ≤ 4 * (r * z)) where
   dot-large : 2097152 * ((k + (r + 1) * g) * z) ≤ 1048577 * (E * w)
   unfolding IsLe
   dot-large =
       let a = near-within 9 1048576 1048577 (le-by-compare (1048576 * 16777216 ^ 9) (1048577 * 16777215 ^ 9) tt) dot in
-      ended (k + (r + 1) * g) a
+      let b = mul-le-mul-right z J in
+      ended (k + (r + 1) * g) a b
     where
-      ended : (v : ℕ) → 2 * v * z * 1048576 ≤ E * w * 1048577 → 2097152 * (v * z) ≤ 1048577 * (E * w)
-      ended v a = omega arith
+      ended : (v : ℕ) → 2 * j * z * 1048576 ≤ E * (32 * w) * 1048577 → 32 * v * z ≤ j * z → 2097152 * (v * z) ≤ 1048577 * (E * w)
+      ended v a b = omega arith
 
   difference-large : 1048576 * E + 1048576 * (b * w) ≤ 1048576 * (s * w) + 4 * (r * z)
   unfolding IsLe
@@ -160,7 +166,7 @@ module _ (w g k r E A B C z s b : ℕ) (W : w ≡ 524288 * g) (G : 0 < g) (K : w
       let a : 1048576 * E ≤ 1048576 * (d * w) + 4 * (r * z) = first t in
       let c = mul-le-mul-right w a in
       let e : 4 * (r * z) * w ≡ 2097152 * (r * (z * g)) = second in
-      let vz : v ≤ w * z = mul-le-mul-right z H in
+      let vz : v ≤ w * z = mul-le-mul-right z (omega arith) in
       let o : w * z ≡ 524288 * (z * g) = third' in
       let kz : k * z ≤ w * z = mul-le-mul-right z (omega arith) in
       let x : v ≡ k * z + r * (z * g) + z * g = omega arith in

@@ -1,5 +1,5 @@
 -- The computed cosine is at least the bound (`cosine-above`): the errors of each operation from the squares on, put into the chain of `Chain`. Assumes nothing.
-use mathlib.Core.Path.{_≡_, refl, ap, _∙_, subst}
+use mathlib.Core.Path.{_≡_, refl, sym, ap, _∙_, subst}
 use Prim.Native.Nat.{ℕ, _+_, _-_, _*_, _^_, _≤_, _<_}
 use native.Mathlib.Nat.{le-refl, mul-comm, mul-le-mul, mul-le-mul-right, le-of-mul-le-mul-right}
 use native.Mathlib.Omega.{arith}
@@ -9,7 +9,7 @@ use lib.Ieee.{Float, le, ofBits}
 use lib.Ieee.Order.{le-of-values}
 use Rattle.numbers.specs.Rounded.{f32}
 use Rattle.numbers.specs.Root.{root}
-use Rattle.rounding_errors.proofs.Near.{Near, near-eq, near-trans, near-mul, near-add, near-times, near-cancel, square-back}
+use Rattle.rounding_errors.proofs.Near.{Near, near-eq, near-trans, near-mul, near-add, near-times, near-cancel}
 use Rattle.rounding_errors.proofs.Rounding.{Units, units-pos}
 use Rattle.rounding_errors.proofs.Operations.{mul-units, div-units, add-units, root-units}
 use Rattle.rounding_errors.proofs.Signed.{sub-units}
@@ -63,9 +63,12 @@ lengths-below a c h k = near-eq {k = 18} (grouped a c) refl (near-mul h k)
 lengths-above : {A C : ℕ} (a c : ℕ) → Near 9 A (a * a) → Near 9 C (c * c) → Near 18 (A * C) (a * c * (a * c))
 lengths-above a c h k = near-eq {k = 18} refl (grouped a c) (near-mul h k)
 
--- what the limit leaves is at most 1
-at-most : (v l w : ℕ) → 32 * (v * v) + 33 * (l * w) ≤ 32 * (w * w) → v ≤ w
-at-most v l w h = square-back v w (omega arith)
+-- what the limit leaves
+left-over : (w l s : ℕ) → s + 33 * l ≤ 32 * w → (j : ℕ) × (j + 33 * l ≡ 32 * w) × (s ≤ j)
+left-over w l s h = (32 * w - 33 * l, omega arith, omega arith)
+
+at-most : (j l w : ℕ) → j + l ≡ w → j ≤ w
+at-most j l w e = omega arith
 
 doubled : (v w k : ℕ) → w ≡ 2 * v → v ≤ k → w ≤ 2 * k
 doubled v w k e h = omega arith
@@ -120,16 +123,16 @@ cosine-above xa xc xb κ t {A} {C} {B} {X} {r} sa sc sb m R h =
     let E = A + C - B in
     let third = h .third in
     let whole : E + B ≡ A + C = omega (arith, third) in
-    let v = m .k + (r + 1) * 2 ^ 130 in
-    let dot = dot-above w A C X E (m .l) v z (h .identity E whole) (h .small) (m .short) zb in
+    let j = left-over w (m .l) (32 * (m .k + (r + 1) * 2 ^ 130)) (m .short) in
+    let dot = dot-above w A C X E (m .l) (j .0) z (h .identity E whole) (h .small) (j .1) zb in
     let sum : Near 11 (A + C) (s .n * w) = sums-near w A C (aa .n) (cc' .n) (s .n) (near-trans na (aa .above)) (near-trans nc (cc' .above)) (s .above) in
     let bs : Near 10 (bb .n * w) B = near-trans (bb .below) (near-trans (rb .below) (sb .below)) in
     let edges = h .sum z (lengths-above (ra .n) (rc .n) na nc) in
     let K = doubled (2 ^ 148) w (m .k) refl (m .half) in
-    let some = difference-some w (2 ^ 130) (m .k) r E A B C z (s .n) (bb .n) refl (pow-pos 130) K (at-most v (m .l) w (m .short)) R dot whole sum bs edges in
+    let some = difference-some w (2 ^ 130) (m .k) r (j .0) E A B C z (s .n) (bb .n) refl (pow-pos 130) K (j .2) (at-most (j .0) (33 * m .l) (32 * w) (j .1)) R dot whole sum bs edges in
     let d = rest w z (bb .n) (s .n) (2 ^ 105) W some (mul-le-mul (ra .is .low) (rc .is .low)) in
-    let large = cosine-large w (2 ^ 130) (m .k) r E A B C z (s .n) (bb .n) refl (pow-pos 130) K (at-most v (m .l) w (m .short)) R dot whole sum bs edges (d .0) (d .1) in
+    let large = cosine-large w (2 ^ 130) (m .k) r (j .0) E A B C z (s .n) (bb .n) refl (pow-pos 130) K (j .2) (at-most (j .0) (33 * m .l) (32 * w) (j .1)) R dot whole sum bs edges (d .0) (d .1) in
     let x = sub-units 105 (d .0) (s .is) (bb .is) (d .1) (d .2) tt in
-    let y = div-units 76 219 (x .is) (p .is) tt in
-    le-of-values κ (cosineOf (root xb) (root xa) (root xc)) (m .k) w (y .n) w W W (m .bound) (y .is .value)
-    (mul-le-mul-right w (quotient-large w (m .k) z (d .0) (x .n) (p .n) (y .n) W (units-pos (p .is)) large (x .above) (product-near w (ra .n) (rc .n) (q .n) (p .n) (p .below) (two-times w (2 ^ 150) (ra .n) (q .n) W refl (q .below))) (y .above)))
+    let v = div-units 76 219 (x .is) (p .is) tt in
+    le-of-values κ (cosineOf (root xb) (root xa) (root xc)) (m .k) w (v .n) w W W (m .bound) (v .is .value)
+    (mul-le-mul-right w (quotient-large w (m .k) z (d .0) (x .n) (p .n) (v .n) W (units-pos (p .is)) large (x .above) (product-near w (ra .n) (rc .n) (q .n) (p .n) (p .below) (two-times w (2 ^ 150) (ra .n) (q .n) W refl (q .below))) (v .above)))

@@ -241,10 +241,10 @@ module _ (κ cr al ah cl ch bl bh : Float) (fa : T (fits binary32 al)) (fc : T (
   unfolding limitAt isSmall
   narrow-at limit N s = go (isNear al ah cl ch (f32 0x43800000)) (isNear al ah cl ch (f32 0x47800000)) alike-16 alike-256 (and-l (le (f32 0x35800000) (limitAt al ah cl ch limit)) _ s) (and-r (le (f32 0x35800000) (limitAt al ah cl ch limit)) _ s)
     where
-      go : (a b : Bool) → (T a → (x : Exactly p q t) → Alike (x .A) (x .C) 16) → (T b → (x : Exactly p q t) → Alike (x .A) (x .C) 256) → T (le (f32 0x35800000) (cond a limit (cond b (limit ⊖ f32 0x3a700000) (f32 0))))
-          → T (le cr (cond a limit (cond b (limit ⊖ f32 0x3a700000) (f32 0)) ⊗ (al ⊗ cl))) → AtLeast κ (root (squared q t)) (root (squared q p)) (root (squared t p))
+      go : (a b : Bool) → (T a → (x : Exactly p q t) → Alike (x .A) (x .C) 16) → (T b → (x : Exactly p q t) → Alike (x .A) (x .C) 256) → T (le (f32 0x35800000) (cond a limit (cond b (limit ⊖ f32 0x39f00000) (f32 0))))
+          → T (le cr (cond a limit (cond b (limit ⊖ f32 0x39f00000) (f32 0)) ⊗ (al ⊗ cl))) → AtLeast κ (root (squared q t)) (root (squared q p)) (root (squared t p))
       go true b f g l k = at-limit limit (N .margin l) l k (f tt)
-      go false true f g l k = at-limit (limit ⊖ f32 0x3a700000) (wide-limit κ limit N l) l k (g tt)
+      go false true f g l k = at-limit (limit ⊖ f32 0x39f00000) (wide-limit κ limit N l) l k (g tt)
       go false false f g l k = absurd (unfold le ofBits in l)
 
 -- ---- the test

@@ -27,11 +27,11 @@ arePlain al ah cl ch bl bh = isPlain al ah && (isPlain cl ch && isPlain bl bh)
 unfoldable pub isNear : Float → Float → Float → Float → Float → Bool
 isNear al ah cl ch times = le ah (times ⊗ cl) && le ch (times ⊗ al)
 
--- for edges whose ratio is at most 16 the limit itself, up to 256 it less 480 / 2 ^ 19, beyond that none
+-- for edges whose ratio is at most 16 the limit itself, up to 256 it less 240 / 2 ^ 19, beyond that none
 unfoldable pub limitAt : Float → Float → Float → Float → Float → Float
 limitAt al ah cl ch limit =
     cond (isNear al ah cl ch (f32 0x43800000)) limit
-    (cond (isNear al ah cl ch (f32 0x47800000)) (limit ⊖ f32 0x3a700000) (f32 0))
+    (cond (isNear al ah cl ch (f32 0x47800000)) (limit ⊖ f32 0x39f00000) (f32 0))
 
 -- Q T is not the longest edge
 unfoldable pub isShort : Float → Float → Float → Bool
@@ -43,15 +43,15 @@ isSmall al cl cross t = le (f32 0x35800000) t && le cross (t ⊗ (al ⊗ cl))
 
 -- ---- what it says
 
--- κ is k / 2 ^ 149 and at least a half, t is l / 2 ^ 149, and the square of κ + (r + 1) / 2 ^ 19, with 33/32 t, is at
--- most 1: t is that of a sine. r is the ratio of the edges at P, on which rounding depends
+-- κ is k / 2 ^ 149 and at least a half, t is l / 2 ^ 149, and κ + 33/32 t + (r + 1) / 2 ^ 19 is at most 1;
+-- r is the ratio of the edges at P, on which rounding depends
 pub record Margin (r : ℕ) (κ t : Float) : Type 0 where
   pub k : ℕ
   pub l : ℕ
   pub bound : HasValue κ false k (2 ^ 149)
   pub limit : HasValue t false l (2 ^ 149)
   pub half : 2 ^ 148 ≤ k
-  pub short : 32 * ((k + (r + 1) * 2 ^ 130) * (k + (r + 1) * 2 ^ 130)) + 33 * (l * 2 ^ 149) ≤ 32 * (2 ^ 149 * 2 ^ 149)
+  pub short : 32 * (k + (r + 1) * 2 ^ 130) + 33 * l ≤ 32 * 2 ^ 149
 
 -- t is a limit for the bound κ; below 2 ^ -20 it passes no triangle, so that nothing is asked of it
 pub record NarrowLimit (κ t : Float) : Type 0 where

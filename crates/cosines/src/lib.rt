@@ -12,7 +12,7 @@ pub fn narrow_limit(cosine: f32) -> f32
 {
     if cosine >= 0.5 {
         if cosine <= 0.9998779296875 {
-            return (1.0 - cosine - 0.000032424927) * (1.0 + cosine) * 0.96875;
+            return (1.0 - cosine - 0.000032424927) * 0.96875;
         }
     }
     0.0
@@ -40,7 +40,7 @@ fn limit_at(al: f32, ah: f32, cl: f32, ch: f32, limit: f32) -> f32
         return limit;
     }
     if is_near(al, ah, cl, ch, 65536.0) {
-        return limit - 0.00091552734375;
+        return limit - 0.000457763671875;
     }
     0.0
 }
