@@ -69,10 +69,13 @@ pub record Constants : Type 0 where
   pub low-limit : f32 0x35800000 ≡ decimal 1 (2 ^ 20)
   -- the least square of an edge there, see `long_edges`
   pub low-edge : f32 0x2b800000 ≡ decimal 1 (2 ^ 40)
-  -- the squares of two ratios of edges, and what the larger takes off the limit, see `cosines`
-  pub ratio-square : f32 0x43800000 ≡ decimal 256 1
-  pub far-ratio-square : f32 0x47800000 ≡ decimal 65536 1
-  pub far-margin : f32 0x39f00000 ≡ decimal 240 (2 ^ 19)
+  -- the squares of the larger ratios of edges, and what they take off the limit, see `cosines`
+  pub ratio-16 : f32 0x43800000 ≡ decimal (16 ^ 2) 1
+  pub ratio-64 : f32 0x45800000 ≡ decimal (64 ^ 2) 1
+  pub ratio-256 : f32 0x47800000 ≡ decimal (256 ^ 2) 1
+  pub margin-16 : f32 0x37c00000 ≡ decimal 12 (2 ^ 19)
+  pub margin-64 : f32 0x38f00000 ≡ decimal 60 (2 ^ 19)
+  pub margin-256 : f32 0x39fc0000 ≡ decimal 252 (2 ^ 19)
   -- about 1e-12, and the next f32: squares of the plain path's cross product, see `plain`
   pub thin : f32 0x2b8cbccd ≡ decimal 9223373 (2 ^ 63)
   pub thin-next : f32 0x2b8cbcce ≡ decimal 9223374 (2 ^ 63)

@@ -27,7 +27,7 @@ use Rattle.cosines.specs.Cosine.{isPlain, arePlain, isNear, limitAt, isS
 use Rattle.cosines.proofs.Points.{Square, plain-units, finite-between, Exactly, exact-of}
 use Rattle.cosines.proofs.Chain.{cross-small, edge-below, edges-sum, third-below}
 use Rattle.cosines.proofs.Lengths.{Flat, flat-swapped, cosine-above}
-use Rattle.cosines.proofs.Limit.{limit-units, wide-limit}
+use Rattle.cosines.proofs.Limit.{limit-units, less-12, less-60, less-252, wide-limit}
 
 -- ---- the test's products over whole numbers
 
@@ -76,25 +76,31 @@ ratio-near w v c n y a b A C W e h i j f g =
     grouped : (b w c : ℕ) → b * w * c ≡ c * b * w
     grouped b w c = omega arith
 
--- 256 and 65536
-square-16 : Units (f32 0x43800000) (2 ^ 157) 157 157
-unfolding ofBits
-square-16 = record { value = (refl, refl); low = le-refl (2 ^ 157); high = le-refl (2 ^ 157) }
+-- ratios of edges, and the f32 of their squares
+record Ratio (r : ℕ) (times : Float) : Type 0 where
+  is : Units times (r * r * 2 ^ 149) 153 165
+  few : r ≤ 256
 
-square-256 : Units (f32 0x47800000) (2 ^ 165) 165 165
-unfolding ofBits
-square-256 = record { value = (refl, refl); low = le-refl (2 ^ 165); high = le-refl (2 ^ 165) }
+ratio-4 : Ratio 4 (f32 0x41800000)
+unfolding ofBits IsLe
+ratio-4 = record { is = record { value = (refl, refl); low = le-by-compare (2 ^ 153) (4 * 4 * 2 ^ 149) tt; high = le-by-compare (4 * 4 * 2 ^ 149) (2 ^ 165) tt }; few = le-by-compare 4 256 tt }
 
-module _ {x y lo : Float} (hi : Float) {A C n : ℕ} (a : Square x A) (c : Square y C) (u : Units lo n 109 175) (h : T (le lo y)) (k : T (le x hi)) where
-  near-16 : T (le hi (f32 0x43800000 ⊗ lo)) → Near 13 A (16 * 16 * C)
-  near-16 l =
-      let r = mul-units 117 183 square-16 u tt in
-      ratio-near (2 ^ 149) (2 ^ 157) 256 (r .n) n (a .m) (c .m) A C (pow-pos 149) refl (r .below) (units-le (a .is) (r .is) (order.le-trans x hi (f32 0x43800000 ⊗ lo) k l)) (units-le u (c .is) h) (a .above) (c .below)
+ratio-16 : Ratio 16 (f32 0x43800000)
+unfolding ofBits IsLe
+ratio-16 = record { is = record { value = (refl, refl); low = le-by-compare (2 ^ 153) (16 * 16 * 2 ^ 149) tt; high = le-by-compare (16 * 16 * 2 ^ 149) (2 ^ 165) tt }; few = le-by-compare 16 256 tt }
 
-  near-256 : T (le hi (f32 0x47800000 ⊗ lo)) → Near 13 A (256 * 256 * C)
-  near-256 l =
-      let r = mul-units 125 191 square-256 u tt in
-      ratio-near (2 ^ 149) (2 ^ 165) 65536 (r .n) n (a .m) (c .m) A C (pow-pos 149) refl (r .below) (units-le (a .is) (r .is) (order.le-trans x hi (f32 0x47800000 ⊗ lo) k l)) (units-le u (c .is) h) (a .above) (c .below)
+ratio-64 : Ratio 64 (f32 0x45800000)
+unfolding ofBits IsLe
+ratio-64 = record { is = record { value = (refl, refl); low = le-by-compare (2 ^ 153) (64 * 64 * 2 ^ 149) tt; high = le-by-compare (64 * 64 * 2 ^ 149) (2 ^ 165) tt }; few = le-by-compare 64 256 tt }
+
+ratio-256 : Ratio 256 (f32 0x47800000)
+unfolding ofBits IsLe
+ratio-256 = record { is = record { value = (refl, refl); low = le-by-compare (2 ^ 153) (256 * 256 * 2 ^ 149) tt; high = le-by-compare (256 * 256 * 2 ^ 149) (2 ^ 165) tt }; few = le-refl 256 }
+
+near-at : {x y lo : Float} (hi : Float) {A C n r : ℕ} {times : Float} → Ratio r times → Square x A → Square y C → Units lo n 109 175 → T (le lo y) → T (le x hi) → T (le hi (times ⊗ lo)) → Near 13 A (r * r * C)
+near-at {x} {y} {lo} hi {A} {C} {n} {r} {times} R a c u h k l =
+    let p = mul-units 113 191 (R .is) u tt in
+    ratio-near (2 ^ 149) (r * r * 2 ^ 149) (r * r) (p .n) n (a .m) (c .m) A C (pow-pos 149) refl (p .below) (units-le (a .is) (p .is) (order.le-trans x hi (times ⊗ lo) k l)) (units-le u (c .is) h) (a .above) (c .below)
 
 -- the third square is below the first
 third-near : {x y : Float} {A B : ℕ} (a : Square x A) (b : Square y B) → T (le y x) → Near 12 B A
@@ -221,31 +227,33 @@ module _ (κ cr al ah cl ch bl bh : Float) (fa : T (fits binary32 al)) (fc : T (
       let x = exactly (finite-between (crossSquared p q t) bound nonnegative (order.le-trans (crossSquared p q t) cr bound h k) (positive-finite bound (units-positive (p2 .is)))) in
       both p q t al cl bh (ua .1) (uc .1) ha hc kb x cr t' κ m lo h k (alike x) short
 
-  alike-16 : T (isNear al ah cl ch (f32 0x43800000)) → (x : Exactly p q t) → Alike (x .A) (x .C) 16
-  unfolding isNear IsLe
-  alike-16 n x = record {
-    first = near-16 ah (x .first) (x .second) (uc .1) hc ka (and-l (le ah (f32 0x43800000 ⊗ cl)) _ n);
-    second = near-16 ch (x .second) (x .first) (ua .1) ha kc (and-r (le ah (f32 0x43800000 ⊗ cl)) _ n);
-    few = le-by-compare 16 256 tt;
-  }
-
-  alike-256 : T (isNear al ah cl ch (f32 0x47800000)) → (x : Exactly p q t) → Alike (x .A) (x .C) 256
+  alike-at : {r : ℕ} {times : Float} → Ratio r times → T (isNear al ah cl ch times) → (x : Exactly p q t) → Alike (x .A) (x .C) r
   unfolding isNear
-  alike-256 n x = record {
-    first = near-256 ah (x .first) (x .second) (uc .1) hc ka (and-l (le ah (f32 0x47800000 ⊗ cl)) _ n);
-    second = near-256 ch (x .second) (x .first) (ua .1) ha kc (and-r (le ah (f32 0x47800000 ⊗ cl)) _ n);
-    few = le-refl 256;
+  alike-at {r} {times} R n x = record {
+    first = near-at ah R (x .first) (x .second) (uc .1) hc ka (and-l (le ah (times ⊗ cl)) _ n);
+    second = near-at ch R (x .second) (x .first) (ua .1) ha kc (and-r (le ah (times ⊗ cl)) _ n);
+    few = R .few;
   }
 
   narrow-at : (limit : Float) → NarrowLimit κ limit → T (isSmall al cl cr (limitAt al ah cl ch limit)) → AtLeast κ (root (squared q t)) (root (squared q p)) (root (squared t p))
   unfolding limitAt isSmall
-  narrow-at limit N s = go (isNear al ah cl ch (f32 0x43800000)) (isNear al ah cl ch (f32 0x47800000)) alike-16 alike-256 (and-l (le (f32 0x35800000) (limitAt al ah cl ch limit)) _ s) (and-r (le (f32 0x35800000) (limitAt al ah cl ch limit)) _ s)
+  narrow-at limit N s =
+      go (isNear al ah cl ch (f32 0x41800000)) (isNear al ah cl ch (f32 0x43800000)) (isNear al ah cl ch (f32 0x45800000)) (isNear al ah cl ch (f32 0x47800000)) (alike-at ratio-4) (alike-at ratio-16) (alike-at ratio-64) (alike-at ratio-256)
+      (and-l (le (f32 0x35800000) (limitAt al ah cl ch limit)) _ s) (and-r (le (f32 0x35800000) (limitAt al ah cl ch limit)) _ s)
     where
-      go : (a b : Bool) → (T a → (x : Exactly p q t) → Alike (x .A) (x .C) 16) → (T b → (x : Exactly p q t) → Alike (x .A) (x .C) 256) → T (le (f32 0x35800000) (cond a limit (cond b (limit ⊖ f32 0x39f00000) (f32 0))))
-          → T (le cr (cond a limit (cond b (limit ⊖ f32 0x39f00000) (f32 0)) ⊗ (al ⊗ cl))) → AtLeast κ (root (squared q t)) (root (squared q p)) (root (squared t p))
-      go true b f g l k = at-limit limit (N .margin l) l k (f tt)
-      go false true f g l k = at-limit (limit ⊖ f32 0x39f00000) (wide-limit κ limit N l) l k (g tt)
-      go false false f g l k = absurd (unfold le ofBits in l)
+      Near-by : ℕ → Type 0
+      Near-by r = (x : Exactly p q t) → Alike (x .A) (x .C) r
+
+      chosen : Bool → Bool → Bool → Bool → Float
+      chosen a b c d = cond a limit (cond b (limit ⊖ f32 0x37c00000) (cond c (limit ⊖ f32 0x38f00000) (cond d (limit ⊖ f32 0x39fc0000) (f32 0))))
+
+      go : (a b c d : Bool) → (T a → Near-by 4) → (T b → Near-by 16) → (T c → Near-by 64) → (T d → Near-by 256) → T (le (f32 0x35800000) (chosen a b c d)) → T (le cr (chosen a b c d ⊗ (al ⊗ cl)))
+          → AtLeast κ (root (squared q t)) (root (squared q p)) (root (squared t p))
+      go true b c d f g h i l k = at-limit limit (N .margin l) l k (f tt)
+      go false true c d f g h i l k = at-limit (limit ⊖ f32 0x37c00000) (wide-limit less-12 κ limit N l) l k (g tt)
+      go false false true d f g h i l k = at-limit (limit ⊖ f32 0x38f00000) (wide-limit less-60 κ limit N l) l k (h tt)
+      go false false false true f g h i l k = at-limit (limit ⊖ f32 0x39fc0000) (wide-limit less-252 κ limit N l) l k (i tt)
+      go false false false false f g h i l k = absurd (unfold le ofBits in l)
 
 -- ---- the test
 

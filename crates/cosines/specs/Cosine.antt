@@ -27,11 +27,14 @@ arePlain al ah cl ch bl bh = isPlain al ah && (isPlain cl ch && isPlain bl bh)
 unfoldable pub isNear : Float → Float → Float → Float → Float → Bool
 isNear al ah cl ch times = le ah (times ⊗ cl) && le ch (times ⊗ al)
 
--- for edges whose ratio is at most 16 the limit itself, up to 256 it less 240 / 2 ^ 19, beyond that none
+-- for edges whose ratio is at most 4 the limit itself, up to 16, 64 and 256 it less 12, 60 and 252 / 2 ^ 19, beyond
+-- that none
 unfoldable pub limitAt : Float → Float → Float → Float → Float → Float
 limitAt al ah cl ch limit =
-    cond (isNear al ah cl ch (f32 0x43800000)) limit
-    (cond (isNear al ah cl ch (f32 0x47800000)) (limit ⊖ f32 0x39f00000) (f32 0))
+    cond (isNear al ah cl ch (f32 0x41800000)) limit
+    (cond (isNear al ah cl ch (f32 0x43800000)) (limit ⊖ f32 0x37c00000)
+    (cond (isNear al ah cl ch (f32 0x45800000)) (limit ⊖ f32 0x38f00000)
+    (cond (isNear al ah cl ch (f32 0x47800000)) (limit ⊖ f32 0x39fc0000) (f32 0))))
 
 -- Q T is not the longest edge
 unfoldable pub isShort : Float → Float → Float → Bool
@@ -55,7 +58,7 @@ pub record Margin (r : ℕ) (κ t : Float) : Type 0 where
 
 -- t is a limit for the bound κ; below 2 ^ -20 it passes no triangle, so that nothing is asked of it
 pub record NarrowLimit (κ t : Float) : Type 0 where
-  pub margin : T (le (f32 0x35800000) t) → Margin 16 κ t
+  pub margin : T (le (f32 0x35800000) t) → Margin 4 κ t
 
 -- a point whose coordinates are f32
 pub record Coordinates (p : Point3f) : Type 0 where

@@ -11,8 +11,8 @@ pub fn narrow_limit(cosine: f32) -> f32
     ensures { λ t. ⌜ NarrowLimit cosine t ⌝ }
 {
     if cosine >= 0.5 {
-        if cosine <= 0.9998779296875 {
-            return (1.0 - cosine - 0.000032424927) * 0.96875;
+        if cosine <= 0.999969482421875 {
+            return (1.0 - cosine - 0.0000095367431640625) * 0.96875;
         }
     }
     0.0
@@ -32,15 +32,22 @@ fn is_near(al: f32, ah: f32, cl: f32, ch: f32, times: f32) -> bool
     ah <= times * cl && ch <= times * al
 }
 
-// The limit for edges whose ratio is at most 16, or 256, where rounding adds more to the cosine's error.
+// The limit for edges whose ratio is at most 4, 16, 64 or 256: the more unlike they are, the larger is the cosine's
+// error by rounding.
 fn limit_at(al: f32, ah: f32, cl: f32, ch: f32, limit: f32) -> f32
     ensures { λ r. ⌜ r ≡ limitAt al ah cl ch limit ⌝ }
 {
-    if is_near(al, ah, cl, ch, 256.0) {
+    if is_near(al, ah, cl, ch, 16.0) {
         return limit;
     }
+    if is_near(al, ah, cl, ch, 256.0) {
+        return limit - 0.00002288818359375;
+    }
+    if is_near(al, ah, cl, ch, 4096.0) {
+        return limit - 0.00011444091796875;
+    }
     if is_near(al, ah, cl, ch, 65536.0) {
-        return limit - 0.000457763671875;
+        return limit - 0.00048065185546875;
     }
     0.0
 }
