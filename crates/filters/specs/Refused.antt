@@ -42,9 +42,14 @@ pub data Refused (l : Limits) (p q t : Point3f) : Type 0 where
   far : T (lt (l .far) (squared q t)) → Refused l p q t
   thin : AllThin (l .thin) (squared p q) (squared p t) (squared q t) (crossSquared p q t) → Refused l p q t
 
--- limits refuse the triangle of p, q and t whichever of them comes first: q and t are too far apart, or it is refused
--- in each order
+-- the score of the triangle of p, q and t is too low in each order of them, if the limits are those of a threshold
+pub record Sliver (l : Limits) (p q t : Point3f) : Type 0 where
+  pub low : (threshold : Float) → Filtering threshold (l .slivers) → LowEach threshold p q t
+
+-- limits refuse the triangle of p, q and t whichever of them comes first: q and t are too far apart, it is a sliver, or
+-- it is refused in each order
 pub data RefusedThroughout (l : Limits) (p q t : Point3f) : Type 0 where
+  sliver : Sliver l p q t → RefusedThroughout l p q t
   distant : T (lt (l .far) (squared q t)) → RefusedThroughout l p q t
   each : Refused l p q t → Refused l q p t → Refused l t p q → RefusedThroughout l p q t
 
@@ -60,10 +65,6 @@ pub record RefusedEach (s : Scene) (r : Float) (p q t : Point3f) : Type 0 where
 -- an interval holds a number that is one
 pub record Only (x : Float) (i : Interval) : Type 0 where
   pub own : T (le x x) → Holds i x
-
--- the score of the triangle of p, q and t is too low in each order of them, if the limits are those of a threshold
-pub record Sliver (l : Limits) (p q t : Point3f) : Type 0 where
-  pub low : (threshold : Float) → Filtering threshold (l .slivers) → LowEach threshold p q t
 
 -- points that are close at a radius have finite distances, and no triangle has an area large enough and edges short
 -- enough

@@ -1,4 +1,4 @@
--- Three points that are too far apart or that limits refuse make no seed (`apart-seedless`, `refused-seedless`). Assumes nothing.
+-- Three points that are too far apart or that limits refuse, slivers among them, make no seed (`apart-seedless`, `refused-seedless`). Assumes nothing.
 use Prim.Native.Nat.{ℕ, _<_}
 use mathlib.Core.Path.{_≡_, ap, _∙_}
 use mathlib.Core.Bool.{true, false, not}
@@ -11,9 +11,11 @@ use Rattle.points.specs.Points.{pointAt}
 use Rattle.decisions.specs.declared.Scene.{Scene}
 use Rattle.decisions.specs.Decisions.{reach, apart, isClose, completes}
 use Rattle.filters.specs.declared.Limits.{Limits}
-use Rattle.filters.specs.Refused.{Refused, RefusedThroughout, distant, each}
+use Rattle.filters.specs.Refused.{Refused, RefusedThroughout, sliver, distant, each}
 use Rattle.filters.proofs.Refusals.{far-apart, refused-turned, refused-accepts}
+use Rattle.filters.proofs.Slivers.{sliver-each}
 use Rattle.three_points.specs.Judged.{NoSeed, Seedless, Judged}
+use Rattle.three_points.proofs.Measured.{each-seedless}
 
 -- ---- limits
 
@@ -73,4 +75,5 @@ module _ (s : Scene) (pts : List Float) (r : Float) where
 -- what limits refuse whichever point comes first
 pub refused-seedless : {s : Scene} {pts : List Float} {r : Float} {l : Limits} {i j k : ℕ} → Judged s pts r l → i < s .n → j < s .n → k < s .n → RefusedThroughout l (pointAt pts i) (pointAt pts j) (pointAt pts k) → Seedless s pts r i j k
 refused-seedless {s} {pts} {r} {i = i} {j = j} {k = k} g hi hj hk (distant h) = seedless-round (far-seedless s pts r j k i (far-apart pts j k (g .limits) h) (far-apart pts k j (g .limits) (rw (squared-turned (pointAt pts k) (pointAt pts j)) h)))
+refused-seedless g hi hj hk (sliver h) = each-seedless (sliver-each (g .limits) h)
 refused-seedless g hi hj hk (each a b c) = record { first = refused-no-seed g hi hj hk a; second = refused-no-seed g hj hi hk b; third = refused-no-seed g hk hi hj c }

@@ -3,7 +3,7 @@ use mathlib.Core.Path.{refl}
 use native.Mathlib.Omega.{arith}
 use borrow.Author.Tests.{not-false}
 use Rattle.three_points.proofs.Points.{throughout-points, each-points}
-use Rattle.filters.proofs.Slivers.{sliver-each}
+use Rattle.filters.specs.Refused.{sliver}
 use Rattle.three_points.proofs.Refused.{refused-seedless}
 use Rattle.three_points.proofs.Measured.{measured-seedless, each-seedless}
 use borrow.Author.Needs.{needs}
@@ -42,7 +42,7 @@ returns-3 c =
     let q = c .before .before .before .before .before .before .before .point-at2 in
     let p = c .before .before .before .before .before .before .before .before .point-at in
     let x = c .before .before .before .before .before .before .before .before .before .before in
-    λ _. each-seedless (each-points (x .args .s) (x .args .radius) (p .ensures) (q .ensures) (t .ensures) (sliver-each (x .pre .4 .limits) (c .before .is-sliver-throughout .ensures (c .if3 .taken))))
+    λ _. refused-seedless (x .pre .4) (x .pre .1) (x .pre .2) (x .pre .3) (throughout-points (p .ensures) (q .ensures) (t .ensures) (sliver (c .before .is-sliver-throughout .ensures (c .if3 .taken))))
 
 distance-requires : tie.Need-distance-requires
 distance-requires c κs = search needs
