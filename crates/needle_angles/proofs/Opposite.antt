@@ -193,11 +193,34 @@ module _ (w τ D y g : ℕ) (positive : 0 < D) where
 
 -- ---- the angle opposite to a
 
-parts-under : (q g x z t s : ℕ) → 2 * g ≤ q → q * 1000000 ≤ s * 1000001 → x * 1000000 ≤ t * 1000001 → z * 8192 * 1000000 ≤ 8187 * (2 * g) * 1000001 → t * 961 ≤ g → x + z ≤ s
-parts-under q g x z t s h i j k l = omega arith
+-- a factor f of 8192 leaves room for a part of k² between the two squares
+abbrev pub hasRoom : ℕ → ℕ → Bool
+hasRoom k f = leb ((8192 + 2 * (f * (k * k))) * (1000001 * 1000001)) (2 * 8192 * (k * k) * (1000000 * 1000000))
 
--- its cosine is at least 8187 / 8192, where v units are 2 ^ -13
-module _ (w v a b c : ℕ) (U : 0 < v) (W : w ≡ 8192 * v) (near : a * 31 ≤ b) (near' : a * 31 ≤ c) where
+linear-parts : (X Z S G P F : ℕ) → X * 1000000 ≤ G * 1000001 → Z * 8192 * 1000000 ≤ 2 * F * 1000001 → 2 * P * 1000000 ≤ S * 1000001 → (8192 * G + 2 * F) * (1000001 * 1000001) ≤ 2 * 8192 * P * (1000000 * 1000000) → X + Z ≤ S
+linear-parts X Z S G P F h i j k = omega arith
+
+module _ (N f q g x z t s : ℕ) (some : 0 < N) (room : (8192 + 2 * (f * N)) * (1000001 * 1000001) ≤ 2 * 8192 * N * (1000000 * 1000000)) where
+  parts-under : 2 * g ≤ q → q * 1000000 ≤ s * 1000001 → x * 1000000 ≤ t * 1000001 → z * 8192 * 1000000 ≤ f * (2 * g) * 1000001 → t * N ≤ g → x + z ≤ s
+  parts-under h i j k l = le-of-mul-le-mul-right (gathered (linear-parts (x * N) (z * N) (s * N) g (N * g) (f * N * g) (first j l) (second k) (third h i) (fourth (mul-le-mul-right g room)))) some
+    where
+      first : x * 1000000 ≤ t * 1000001 → t * N ≤ g → x * N * 1000000 ≤ g * 1000001
+      first j l = let m = mul-le-mul-right N j in omega arith
+
+      second : z * 8192 * 1000000 ≤ f * (2 * g) * 1000001 → z * N * 8192 * 1000000 ≤ 2 * (f * N * g) * 1000001
+      second k = let m = mul-le-mul-right N k in omega arith
+
+      third : 2 * g ≤ q → q * 1000000 ≤ s * 1000001 → 2 * (N * g) * 1000000 ≤ s * N * 1000001
+      third h i = let m = mul-le-mul-right N h in let n = mul-le-mul-right N i in omega arith
+
+      fourth : (8192 + 2 * (f * N)) * (1000001 * 1000001) * g ≤ 2 * 8192 * N * (1000000 * 1000000) * g → (8192 * g + 2 * (f * N * g)) * (1000001 * 1000001) ≤ 2 * 8192 * (N * g) * (1000000 * 1000000)
+      fourth m = omega arith
+
+      gathered : x * N + z * N ≤ s * N → (x + z) * N ≤ s * N
+      gathered m = omega arith
+
+-- its cosine is at least a factor f of 8192, where v units are 2 ^ -13
+module _ (w v a b c k f : ℕ) (U : 0 < v) (W : w ≡ 8192 * v) (some : 0 < k) (room : T (hasRoom k f)) (near : a * k ≤ b) (near' : a * k ≤ c) where
   squares : 2 * b * c ≤ b * b + c * c
   squares = go (decLe b c)
     where
@@ -211,17 +234,17 @@ module _ (w v a b c : ℕ) (U : 0 < v) (W : w ≡ 8192 * v) (near : a * 31 ≤ b
           let h = subst (λ (x : ℕ). 2 * c * x ≤ c * c + x * x) (sym e) (from c (b - c)) in
           omega arith
 
-  pub under-sum : (A B C S y : ℕ) → Near 1 (A * w) (a * a) → Near 1 (b * b) (B * w) → Near 1 (c * c) (C * w) → Near 1 (B + C) S → Near 3 (y * w * w) (8187 * v * (2 * b * c)) → A + y ≤ S
+  pub under-sum : (A B C S y : ℕ) → Near 1 (A * w) (a * a) → Near 1 (b * b) (B * w) → Near 1 (c * c) (C * w) → Near 1 (B + C) S → Near 3 (y * w * w) (f * v * (2 * b * c)) → A + y ≤ S
   unfolding IsLe
-  under-sum A B C S y h i j k l =
+  under-sum A B C S y h i j m' l =
       let s : Near 1 (b * b + c * c) (B * w + C * w) = near-add i j in
-      let t : Near 2 (b * b + c * c) (S * w) = near-trans s (near-eq (spread B C) refl (near-times w k)) in
+      let t : Near 2 (b * b + c * c) (S * w) = near-trans s (near-eq (spread B C) refl (near-times w m')) in
       let m = near-within {p = b * b + c * c} {q = S * w} 2 1000000 1000001 (le-by-compare (1000000 * 16777216 ^ 2) (1000001 * 16777215 ^ 2) tt) t in
       let n = near-within {p = A * w} {q = a * a} 1 1000000 1000001 (le-by-compare (1000000 * 16777216 ^ 1) (1000001 * 16777215 ^ 1) tt) h in
-      let o : Near 3 (y * w * 8192) (8187 * (2 * b * c)) = near-cancel v U (near-eq scaled moved l) in
-      let p = near-within {p = y * w * 8192} {q = 8187 * (2 * b * c)} 3 1000000 1000001 (le-by-compare (1000000 * 16777216 ^ 3) (1000001 * 16777215 ^ 3) tt) o in
-      let q : a * 31 * (a * 31) ≤ b * c = mul-le-mul near near' in
-      let e = parts-under (b * b + c * c) (b * c) (A * w) (y * w) (a * a) (S * w) (subst (λ (x : ℕ). x ≤ b * b + c * c) doubled squares) m n (subst (λ (x : ℕ). y * w * 8192 * 1000000 ≤ 8187 * x * 1000001) doubled p) (subst (λ (x : ℕ). x ≤ b * c) square q) in
+      let o : Near 3 (y * w * 8192) (f * (2 * b * c)) = near-cancel v U (near-eq scaled moved l) in
+      let p = near-within {p = y * w * 8192} {q = f * (2 * b * c)} 3 1000000 1000001 (le-by-compare (1000000 * 16777216 ^ 3) (1000001 * 16777215 ^ 3) tt) o in
+      let q : a * k * (a * k) ≤ b * c = mul-le-mul near near' in
+      let e = parts-under (k * k) f (b * b + c * c) (b * c) (A * w) (y * w) (a * a) (S * w) (mul-pos some some) (leb→le _ (2 * 8192 * (k * k) * (1000000 * 1000000)) room) (subst (λ (x : ℕ). x ≤ b * b + c * c) doubled squares) m n (subst (λ (x : ℕ). y * w * 8192 * 1000000 ≤ f * x * 1000001) doubled p) (subst (λ (x : ℕ). x ≤ b * c) square q) in
       le-of-mul-le-mul-right (gathered e) (omega arith)
     where
       spread : (B C : ℕ) → (B + C) * w ≡ B * w + C * w
@@ -230,13 +253,13 @@ module _ (w v a b c : ℕ) (U : 0 < v) (W : w ≡ 8192 * v) (near : a * 31 ≤ b
       scaled : y * w * w ≡ y * w * 8192 * v
       scaled = let e = ap (λ (x : ℕ). y * w * x) W in omega arith
 
-      moved : 8187 * v * (2 * b * c) ≡ 8187 * (2 * b * c) * v
+      moved : f * v * (2 * b * c) ≡ f * (2 * b * c) * v
       moved = omega arith
 
       doubled : 2 * b * c ≡ 2 * (b * c)
       doubled = omega arith
 
-      square : a * 31 * (a * 31) ≡ a * a * 961
+      square : a * k * (a * k) ≡ a * a * (k * k)
       square = omega arith
 
       gathered : A * w + y * w ≤ S * w → (A + y) * w ≤ S * w

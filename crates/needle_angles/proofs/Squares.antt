@@ -1,6 +1,6 @@
--- Needles by the squares of their edges' lengths, in three classes (`needle-32`, `needle-64`, `needle-128`). Assumes nothing.
+-- Needles by the squares of their edges' lengths, in five classes (`needle-10` to `needle-128`). Assumes nothing.
 use mathlib.Core.Path.{refl}
-use Prim.Native.Nat.{ℕ, _*_, _^_, _≤_}
+use Prim.Native.Nat.{ℕ, suc, _*_, _^_, _≤_, _<_}
 use native.Mathlib.Bridge.{IsLe, le-by-compare}
 use mathlib.Core.List.{List}
 use lib.Dec.{T}
@@ -16,10 +16,10 @@ use Rattle.rounding_errors.proofs.Rounding.{Units, units-positive}
 use Rattle.rounding_errors.proofs.Operations.{between-units, mul-units, root-units, units-le}
 use Rattle.slivers.proofs.Arc.{w}
 use Rattle.needle_angles.specs.NeedleAngles.{NeedleAngle}
-use Rattle.needle_angles.proofs.Opposite.{edges-near, edges-far}
+use Rattle.needle_angles.proofs.Opposite.{hasRoom, edges-near, edges-far}
 use Rattle.needle_angles.proofs.LeftOver.{Step, areAll}
-use Rattle.needle_angles.proofs.Table.{first, first-all, second, second-all, third, third-all}
-use Rattle.needle_angles.proofs.Bound.{needle-bound}
+use Rattle.needle_angles.proofs.Table.{first, first-all, second, second-all, third, third-all, fourth, fourth-all, fifth, fifth-all}
+use Rattle.needle_angles.proofs.Bound.{isPart, needle-bound}
 
 -- 2 ^ -40 and 2 ^ 26
 abbrev tiny : Float
@@ -40,8 +40,8 @@ pub record Plain (least most long : Float) : Type 0 where
   pub far : T (le long (least ⊗ huge))
 
 -- a class: edges K times as long, by the square's factor h, of k
-module _ (K : ℕ) (large : 31 ≤ K) (θ : Float) (κ : ℕ) (m : Float) (steps : List Step) (all : T (areAll K θ κ m steps)) (top : T (le (f32 κ) (f32 0x3f7fd000)))
-    (h : Float) (k : ℕ) (uh : Units h (k * 2 ^ 149) 159 165) (square : K * K * 1000001 ≤ k * 1000000) (rises : T (le tiny (tiny ⊗ h)))
+module _ (K : ℕ) (some : 0 < K) (θ : Float) (κ : ℕ) (m : Float) (steps : List Step) (all : T (areAll K θ κ m steps)) (φ n : ℕ) (pκ : T (isPart κ n)) (pφ : T (isPart φ (suc n))) (room : T (hasRoom K (suc n)))
+    (h : Float) (k : ℕ) (uh : Units h (k * 2 ^ 149) 155 165) (square : K * K * 1000001 ≤ k * 1000000) (rises : T (le tiny (tiny ⊗ h)))
     (least most short long : Float) (p : Plain least most long) (apart : T (le (most ⊗ h) short)) where
   module _ (x : Float) (fx : T (fits binary32 x)) (lo : T (le least x)) (hi : T (le x most)) where
     x-from : T (le tiny x)
@@ -78,7 +78,7 @@ module _ (K : ℕ) (large : 31 ≤ K) (θ : Float) (κ : ℕ) (m : Float) (steps
       near =
           let i = root-units 128 163 fx (x-units .1) tt in
           let j = root-units 128 163 fy (y-units .1) tt in
-          let z = mul-units 119 191 (x-units .1) uh tt in
+          let z = mul-units 115 191 (x-units .1) uh tt in
           edges-near w (i .n) (j .n) (x-units .0) (y-units .0) (z .n) (pow-pos 149) K k square (i .below) (z .above) (units-le (z .is) (y-units .1) times) (j .above)
 
       not-far : root-units 128 163 fy (y-units .1) tt .n ≤ root-units 128 163 fx (x-units .1) tt .n * 8193
@@ -94,32 +94,46 @@ module _ (K : ℕ) (large : 31 ≤ K) (θ : Float) (κ : ℕ) (m : Float) (steps
         let i = root-units 128 163 fx (x-units x fx a b .1) tt in
         let j = root-units 128 163 fy (y-units x fx a b y fy c d .1) tt in
         let o = root-units 128 163 fz (y-units x fx a b z fz e f .1) tt in
-        needle-bound K large θ κ m steps all top (root x) (root y) (root z) (i .n) (j .n) (o .n) (i .is) (j .is) (o .is) (near x fx a b y fy c d) (near x fx a b z fz e f) (not-far x fx a b y fy c d) (not-far x fx a b z fz e f);
+        needle-bound K some θ κ m steps all φ n pκ pφ room (root x) (root y) (root z) (i .n) (j .n) (o .n) (i .is) (j .is) (o .is) (near x fx a b y fy c d) (near x fx a b z fz e f) (not-far x fx a b y fy c d) (not-far x fx a b z fz e f);
   }
 
 -- ---- the classes
 
 module _ {least most short long : Float} (p : Plain least most long) where
+  pub needle-10 : T (le (most ⊗ f32 0x42ca0000) short) → NeedleAngle least most short long (f32 0x3e570a3d)
+  unfolding IsLe
+  needle-10 h = of-class 10 (le-by-compare 1 10 tt) (f32 0x3e570a3d) 0x3f7a7000 (f32 0x3fbbe819) first first-all 0x3f7a7800 8014 tt tt tt (f32 0x42ca0000) 101 units (le-by-compare (10 * 10 * 1000001) (101 * 1000000) tt) (unfold le mul ofBits in tt) least most short long p h
+    where
+      units : Units (f32 0x42ca0000) (101 * 2 ^ 149) 155 165
+      units = unfold ofBits in record { value = (refl, refl); low = le-by-compare (2 ^ 155) (101 * 2 ^ 149) tt; high = le-by-compare (101 * 2 ^ 149) (2 ^ 165) tt }
+
+  pub needle-16 : T (le (most ⊗ f32 0x43808000) short) → NeedleAngle least most short long (f32 0x3e051eb8)
+  unfolding IsLe
+  needle-16 h = of-class 16 (le-by-compare 1 16 tt) (f32 0x3e051eb8) 0x3f7de000 (f32 0x3fc0ddf9) second second-all 0x3f7de800 8124 tt tt tt (f32 0x43808000) 257 units (le-by-compare (16 * 16 * 1000001) (257 * 1000000) tt) (unfold le mul ofBits in tt) least most short long p h
+    where
+      units : Units (f32 0x43808000) (257 * 2 ^ 149) 155 165
+      units = unfold ofBits in record { value = (refl, refl); low = le-by-compare (2 ^ 155) (257 * 2 ^ 149) tt; high = le-by-compare (257 * 2 ^ 149) (2 ^ 165) tt }
+
   pub needle-32 : T (le (most ⊗ f32 0x44802000) short) → NeedleAngle least most short long (f32 0x3d8f5c29)
   unfolding IsLe
-  needle-32 h = of-class 32 (le-by-compare 31 32 tt) (f32 0x3d8f5c29) 0x3f7f6000 (f32 0x3fc4bf94) first first-all (unfold le ofBits in tt) (f32 0x44802000) 1025 units (le-by-compare (32 * 32 * 1000001) (1025 * 1000000) tt) (unfold le mul ofBits in tt) least most short long p h
+  needle-32 h = of-class 32 (le-by-compare 1 32 tt) (f32 0x3d8f5c29) 0x3f7f6000 (f32 0x3fc4bf94) third third-all 0x3f7f6800 8172 tt tt tt (f32 0x44802000) 1025 units (le-by-compare (32 * 32 * 1000001) (1025 * 1000000) tt) (unfold le mul ofBits in tt) least most short long p h
     where
-      units : Units (f32 0x44802000) (1025 * 2 ^ 149) 159 165
-      units = unfold ofBits in record { value = (refl, refl); low = le-by-compare (2 ^ 159) (1025 * 2 ^ 149) tt; high = le-by-compare (1025 * 2 ^ 149) (2 ^ 165) tt }
+      units : Units (f32 0x44802000) (1025 * 2 ^ 149) 155 165
+      units = unfold ofBits in record { value = (refl, refl); low = le-by-compare (2 ^ 155) (1025 * 2 ^ 149) tt; high = le-by-compare (1025 * 2 ^ 149) (2 ^ 165) tt }
 
   pub needle-64 : T (le (most ⊗ f32 0x45800800) short) → NeedleAngle least most short long (f32 0x3d4ccccd)
   unfolding IsLe
-  needle-64 h = of-class 64 (le-by-compare 31 64 tt) (f32 0x3d4ccccd) 0x3f7fb000 (f32 0x3fc5efc0) second second-all (unfold le ofBits in tt) (f32 0x45800800) 4097 units (le-by-compare (64 * 64 * 1000001) (4097 * 1000000) tt) (unfold le mul ofBits in tt) least most short long p h
+  needle-64 h = of-class 64 (le-by-compare 1 64 tt) (f32 0x3d4ccccd) 0x3f7fb000 (f32 0x3fc5efc0) fourth fourth-all 0x3f7fb800 8182 tt tt tt (f32 0x45800800) 4097 units (le-by-compare (64 * 64 * 1000001) (4097 * 1000000) tt) (unfold le mul ofBits in tt) least most short long p h
     where
-      units : Units (f32 0x45800800) (4097 * 2 ^ 149) 159 165
-      units = unfold ofBits in record { value = (refl, refl); low = le-by-compare (2 ^ 159) (4097 * 2 ^ 149) tt; high = le-by-compare (4097 * 2 ^ 149) (2 ^ 165) tt }
+      units : Units (f32 0x45800800) (4097 * 2 ^ 149) 155 165
+      units = unfold ofBits in record { value = (refl, refl); low = le-by-compare (2 ^ 155) (4097 * 2 ^ 149) tt; high = le-by-compare (4097 * 2 ^ 149) (2 ^ 165) tt }
 
   pub needle-128 : T (le (most ⊗ f32 0x46800200) short) → NeedleAngle least most short long (f32 0x3d23d70a)
   unfolding IsLe
-  needle-128 h = of-class 128 (le-by-compare 31 128 tt) (f32 0x3d23d70a) 0x3f7fd000 (f32 0x3fc68fcd) third third-all (unfold le ofBits in tt) (f32 0x46800200) 16385 units (le-by-compare (128 * 128 * 1000001) (16385 * 1000000) tt) (unfold le mul ofBits in tt) least most short long p h
+  needle-128 h = of-class 128 (le-by-compare 1 128 tt) (f32 0x3d23d70a) 0x3f7fd000 (f32 0x3fc68fcd) fifth fifth-all 0x3f7fd800 8186 tt tt tt (f32 0x46800200) 16385 units (le-by-compare (128 * 128 * 1000001) (16385 * 1000000) tt) (unfold le mul ofBits in tt) least most short long p h
     where
-      units : Units (f32 0x46800200) (16385 * 2 ^ 149) 159 165
-      units = unfold ofBits in record { value = (refl, refl); low = le-by-compare (2 ^ 159) (16385 * 2 ^ 149) tt; high = le-by-compare (16385 * 2 ^ 149) (2 ^ 165) tt }
+      units : Units (f32 0x46800200) (16385 * 2 ^ 149) 155 165
+      units = unfold ofBits in record { value = (refl, refl); low = le-by-compare (2 ^ 155) (16385 * 2 ^ 149) tt; high = le-by-compare (16385 * 2 ^ 149) (2 ^ 165) tt }
 
 pub no-needle : (least most short long : Float) → NeedleAngle least most short long nan
 no-needle least most short long = record { bound = λ x y z fx fy fz a b c d e f. record { most = λ u v t o n. absurd (unfold isNan in n) } }

@@ -6,9 +6,57 @@ use Rattle.numbers.specs.Rounded.{f32}
 use Rattle.numbers.specs.Root.{root}
 use Rattle.needle_angles.proofs.LeftOver.{Step, step, areSteps, lastOf, areAll}
 
--- edges 32 times as long, an angle of 0.07
+-- edges 10 times as long, an angle of 0.21
 pub first : List Step
 first =
+    step 3619 0x3f6f4000 0x3f6f3fc4 0x3f6a37c0 0x3f6a3785 0x3e539b25 0x402e69d9 ∷
+    step 3370 0x3f5fb000 0x3f5fafc8 0x3f57b56d 0x3f57b537 0x3eb8f100 0x402488be ∷
+    step 3074 0x3f4d3000 0x3f4d2fcd 0x3f4205bf 0x3f42058e 0x3f01372a 0x401b5820 ∷
+    step 2749 0x3f38e000 0x3f38dfd2 0x3f2a9937 0x3f2a990c 0x3f2309d1 0x4012def8 ∷
+    step 2409 0x3f23a000 0x3f239fd7 0x3f128422 0x3f1283fd 0x3f421eac 0x400b17da ∷
+    step 2051 0x3f0d4000 0x3f0d3fdd 0x3ef33a3f 0x3ef33a02 0x3f5ea64e 0x4003f6a6 ∷
+    step 1684 0x3eeca000 0x3eec9fc5 0x3ec11cf4 0x3ec11cc4 0x3f79ccd1 0x3ffa5ec7 ∷
+    step 1278 0x3eb9e000 0x3eb9dfd2 0x3e8ac0ce 0x3e8ac0ab 0x3f8b21d1 0x3fec21d9 ∷
+    step 856 0x3e852000 0x3e851fdf 0x3e26d5c1 0x3e26d597 0x3f993fb2 0x3fddffcf ∷
+    step 421 0x3e1d8000 0x3e1d7fd9 0x3d5caa05 0x3d5ca9ce 0x3fa7496a 0x3fcff5ee ∷
+    step 211 0x3dd20000 0x3dd1ffcc 0x3b070d75 0x3b070d53 0x3fb545ae 0x3fc95361 ∷
+    []
+
+pub first-all : T (areAll 10 (f32 0x3e570a3d) 0x3f7a7000 (f32 0x3fbbe819) first)
+unfolding first step areSteps lastOf root neg add sub mul div lt le isNan ofBits
+first-all = tt
+
+-- edges 16 times as long, an angle of 0.13
+pub second : List Step
+second =
+    step 3855 0x3f793000 0x3f792fc2 0x3f77a08a 0x3f77a04c 0x3e01e486 0x4038a233 ∷
+    step 3743 0x3f723000 0x3f722fc3 0x3f6fc11a 0x3f6fc0de 0x3e6a7a5c 0x40321a1b ∷
+    step 3601 0x3f695000 0x3f694fc6 0x3f65d04d 0x3f65d014 0x3ea7b4ec 0x402bc9f3 ∷
+    step 3436 0x3f5f0000 0x3f5effc8 0x3f5a51ed 0x3f5a51b6 0x3ed7c6ff 0x4025c6ca ∷
+    step 3255 0x3f53b000 0x3f53afcb 0x3f4dc82a 0x3f4dc7f7 0x3f029d47 0x40201c82 ∷
+    step 3063 0x3f47b000 0x3f47afce 0x3f408fa9 0x3f408f79 0x3f17ef08 0x401ac7bc ∷
+    step 2864 0x3f3b4000 0x3f3b3fd1 0x3f32f1a6 0x3f32f179 0x3f2bef76 0x4015c3b2 ∷
+    step 2663 0x3f2eb000 0x3f2eafd4 0x3f254701 0x3f2546d8 0x3f3eb65a 0x401115d8 ∷
+    step 2462 0x3f222000 0x3f221fd7 0x3f17b2a8 0x3f17b282 0x3f503359 0x400cb4aa ∷
+    step 2263 0x3f15b000 0x3f15afdb 0x3f0a56aa 0x3f0a5687 0x3f608ce9 0x40089afd ∷
+    step 2057 0x3f08d000 0x3f08cfde 0x3ef931e8 0x3ef931aa 0x3f6fd870 0x4004c97b ∷
+    step 1850 0x3ef7c000 0x3ef7bfc2 0x3eddc22c 0x3eddc1f5 0x3f7eea3c 0x400107da ∷
+    step 1609 0x3ed9a000 0x3ed99fca 0x3ebe0a18 0x3ebe09e8 0x3f87f0e3 0x3ff98dab ∷
+    step 1360 0x3eba8000 0x3eba7fd1 0x3e9d8486 0x3e9d845f 0x3f907f7e 0x3ff10012 ∷
+    step 1104 0x3e9a8000 0x3e9a7fd9 0x3e78affc 0x3e78afbe 0x3f991436 0x3fe86c3a ∷
+    step 842 0x3e738000 0x3e737fc3 0x3e355405 0x3e3553d8 0x3fa1aa36 0x3fdfd5a0 ∷
+    step 575 0x3e30c000 0x3e30bfd4 0x3de27c26 0x3de27bed 0x3faa3f23 0x3fd73e3f ∷
+    step 305 0x3dda8000 0x3dda7fc9 0x3d33d589 0x3d33d55c 0x3fb2d2dd 0x3fceaef0 ∷
+    step 130 0x3d830000 0x3d82ffdf 0x3a80326e 0x3a80324e 0x3fbb5f1e 0x3fc92fe7 ∷
+    []
+
+pub second-all : T (areAll 16 (f32 0x3e051eb8) 0x3f7de000 (f32 0x3fc0ddf9) second)
+unfolding second step areSteps lastOf root neg add sub mul div lt le isNan ofBits
+second-all = tt
+
+-- edges 32 times as long, an angle of 0.07
+pub third : List Step
+third =
     step 3996 0x3f7e0000 0x3f7dffc0 0x3f7d9aec 0x3f7d9aad 0x3d8afeab 0x40404c0c ∷
     step 3961 0x3f7bd000 0x3f7bcfc1 0x3f7b479a 0x3f7b475b 0x3dfbe666 0x403cbedd ∷
     step 3914 0x3f78e000 0x3f78dfc2 0x3f7828af 0x3f782871 0x3e37427e 0x40392add ∷
@@ -49,13 +97,13 @@ first =
     step 70 0x3d0a0000 0x3d09ffde 0x3b000d38 0x3b000d18 0x3fc17e5f 0x3fc94fe1 ∷
     []
 
-pub first-all : T (areAll 32 (f32 0x3d8f5c29) 0x3f7f6000 (f32 0x3fc4bf94) first)
-unfolding first step areSteps lastOf root neg add sub mul div lt le isNan ofBits
-first-all = tt
+pub third-all : T (areAll 32 (f32 0x3d8f5c29) 0x3f7f6000 (f32 0x3fc4bf94) third)
+unfolding third step areSteps lastOf root neg add sub mul div lt le isNan ofBits
+third-all = tt
 
 -- edges 64 times as long, an angle of 0.05
-pub second : List Step
-second =
+pub fourth : List Step
+fourth =
     step 4044 0x3f7f0000 0x3f7effc0 0x3f7ecde4 0x3f7ecda4 0x3d4234e7 0x4042ded7 ∷
     step 4026 0x3f7de000 0x3f7ddfc1 0x3f7da4db 0x3f7da49c 0x3db0e546 0x40405e54 ∷
     step 4001 0x3f7c5000 0x3f7c4fc1 0x3f7c085e 0x3f7c081f 0x3e01e486 0x403dc625 ∷
@@ -107,13 +155,13 @@ second =
     step 64 0x3cc80000 0x3cc7ffce 0x3c0807a7 0x3c080785 0x3fc40f6d 0x3fca1fea ∷
     []
 
-pub second-all : T (areAll 64 (f32 0x3d4ccccd) 0x3f7fb000 (f32 0x3fc5efc0) second)
-unfolding second step areSteps lastOf root neg add sub mul div lt le isNan ofBits
-second-all = tt
+pub fourth-all : T (areAll 64 (f32 0x3d4ccccd) 0x3f7fb000 (f32 0x3fc5efc0) fourth)
+unfolding fourth step areSteps lastOf root neg add sub mul div lt le isNan ofBits
+fourth-all = tt
 
 -- edges 128 times as long, an angle of 0.04
-pub third : List Step
-third =
+pub fifth : List Step
+fifth =
     step 4067 0x3f7f7000 0x3f7f6fc0 0x3f7f4a95 0x3f7f4a55 0x3d149f74 0x40444b8e ∷
     step 4057 0x3f7ed000 0x3f7ecfc0 0x3f7ea814 0x3f7ea7d4 0x3d83a77f 0x40427fc3 ∷
     step 4042 0x3f7de000 0x3f7ddfc1 0x3f7db456 0x3f7db417 0x3dc12322 0x40407b1e ∷
@@ -174,6 +222,6 @@ third =
     step 60 0x3ca00000 0x3c9fffd8 0x3c3804a9 0x3c38047b 0x3fc48789 0x3fca7fe5 ∷
     []
 
-pub third-all : T (areAll 128 (f32 0x3d23d70a) 0x3f7fd000 (f32 0x3fc68fcd) third)
-unfolding third step areSteps lastOf root neg add sub mul div lt le isNan ofBits
-third-all = tt
+pub fifth-all : T (areAll 128 (f32 0x3d23d70a) 0x3f7fd000 (f32 0x3fc68fcd) fifth)
+unfolding fifth step areSteps lastOf root neg add sub mul div lt le isNan ofBits
+fifth-all = tt

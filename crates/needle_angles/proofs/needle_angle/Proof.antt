@@ -5,7 +5,7 @@ use lib.Ieee.{Float, le}
 use borrow.Author.Tests.{not-false}
 use Rattle.numbers.specs.Rounded.{f32, _⊗_}
 use Rattle.numbers.proofs.RootSpecial.{no-number}
-use Rattle.needle_angles.proofs.Squares.{Plain, needle-32, needle-64, needle-128, no-needle}
+use Rattle.needle_angles.proofs.Squares.{Plain, needle-10, needle-16, needle-32, needle-64, needle-128, no-needle}
 use Rattle.needle_angles.proofs.needle_angle.Statement.{statement}
 use Rattle.needle_angles.proofs.needle_angle.Tie as tie
 
@@ -48,9 +48,21 @@ returns-7 c =
     needle-32 (plain (a .least) (a .most) (a .long) (x .before .before .before .if1 .left) (x .before .before .if2 .left) (x .before .if3 .left) (x .if4 .left)) (rw (c .if7 .taken) tt)
 
 returns-8 : tie.Need-returns-8
-returns-8 c = rw no-number (no-needle _ _ _ _)
+returns-8 c =
+    let x = c .before .before .before .before in
+    let a = x .before .before .before .before .args in
+    needle-16 (plain (a .least) (a .most) (a .long) (x .before .before .before .if1 .left) (x .before .before .if2 .left) (x .before .if3 .left) (x .if4 .left)) (rw (c .if8 .taken) tt)
+
+returns-9 : tie.Need-returns-9
+returns-9 c =
+    let x = c .before .before .before .before .before in
+    let a = x .before .before .before .before .args in
+    needle-10 (plain (a .least) (a .most) (a .long) (x .before .before .before .if1 .left) (x .before .before .if2 .left) (x .before .if3 .left) (x .if4 .left)) (rw (c .if9 .taken) tt)
+
+returns-10 : tie.Need-returns-10
+returns-10 c = rw no-number (no-needle _ _ _ _)
 
 pub needle-angle-spec : {M : Type 1} → statement M
 needle-angle-spec =
     tie.close
-    (tie.spec returns returns-2 returns-3 returns-4 returns-5 returns-6 returns-7 returns-8)
+    (tie.spec returns returns-2 returns-3 returns-4 returns-5 returns-6 returns-7 returns-8 returns-9 returns-10)
