@@ -2,8 +2,8 @@ use mathlib.Core.Path.{sym}
 use lib.ListN.{length}
 use lib.Seq.{length-take-le}
 use borrow.Author.Needs.{needs}
-use Rattle.point_index.proofs.order_in.Statement.{statement}
-use Rattle.point_index.proofs.order_in.Tie as tie
+use Rattle.point_order.proofs.order_in.Statement.{statement}
+use Rattle.point_order.proofs.order_in.Tie as tie
 
 slice-relend-prefix-order-all : tie.Need-slice-relend-prefix-order-all
 slice-relend-prefix-order-all c = search needs

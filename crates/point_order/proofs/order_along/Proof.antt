@@ -1,5 +1,5 @@
-use Rattle.point_index.proofs.Building.{guessed}
-use Rattle.point_index.proofs.Filling.{up-small}
+use Rattle.point_order.proofs.Orders.{guessed}
+use Rattle.filling.proofs.Fill.{up-small}
 use Rattle.axis_sort.specs.Small.{Small}
 use Rattle.axis_sort.specs.Sorted.{sorted}
 use Rattle.axis_sort.specs.Axis.{precedes}
@@ -8,8 +8,8 @@ use lib.ListN.{length}
 use mathlib.Core.Path.{ap, _∙_, subst⁻¹}
 use native.Mathlib.Omega.{arith}
 use borrow.Author.Needs.{needs}
-use Rattle.point_index.proofs.order_along.Statement.{statement}
-use Rattle.point_index.proofs.order_along.Tie as tie
+use Rattle.point_order.proofs.order_along.Statement.{statement}
+use Rattle.point_order.proofs.order_along.Tie as tie
 
 guess-requires : tie.Need-guess-requires
 guess-requires c κs = let a = c .before .before .before .before .before .before .before .before .before .before .pre .1 in (c .before .before .before .before .before .before .before .before .before .before .pre .0, omega (arith, a .count, a .cloud .few), a .work-enough, c .before .before .before .before .before .before .before .before .before .before .pre .2, a .counts-enough)

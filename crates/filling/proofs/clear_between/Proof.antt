@@ -1,9 +1,9 @@
 use native.Mathlib.Omega.{arith}
 use borrow.Author.Needs.{needs}
-use Rattle.point_index.proofs.Filling.{Zeroed, zeros-start, zeros-size, zeros-step, zeros-end}
+use Rattle.filling.proofs.Fill.{Zeroed, zeros-start, zeros-size, zeros-step, zeros-end}
 use Prim.Native.Nat.{_-_}
-use Rattle.point_index.proofs.fill.clear_between.Statement.{statement}
-use Rattle.point_index.proofs.fill.clear_between.Tie as tie
+use Rattle.filling.proofs.clear_between.Statement.{statement}
+use Rattle.filling.proofs.clear_between.Tie as tie
 
 abbrev Inv-loop : tie.InvT-loop
 Inv-loop index₀ at end i₀ index i = Zeroed index₀ index at end i

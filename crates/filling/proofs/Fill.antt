@@ -13,7 +13,7 @@ use Rattle.lists.specs.Lists.{upFrom, bit, count}
 use Rattle.axis_sort.specs.Small.{Small}
 use Rattle.axis_sort.proofs.Floats.{map-append}
 use Rattle.kd_tree.specs.Tree.{same}
-use Rattle.point_index.specs.Put.{Put}
+use Rattle.filling.specs.Put.{Put}
 
 -- ---- one list after the other
 pub put-size : {b c : List ℕ} {at : ℕ} {xs : List ℕ} → Put b c at xs → at + length xs ≤ length b → length c ≡ length b

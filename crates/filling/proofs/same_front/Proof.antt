@@ -1,8 +1,8 @@
 use borrow.Author.Needs.{needs}
-use Rattle.point_index.proofs.Filling.{Alike, alike-start, alike-step, alike-not, alike-end}
+use Rattle.filling.proofs.Fill.{Alike, alike-start, alike-step, alike-not, alike-end}
 use Prim.Native.Nat.{_-_}
-use Rattle.point_index.proofs.fill.same_front.Statement.{statement}
-use Rattle.point_index.proofs.fill.same_front.Tie as tie
+use Rattle.filling.proofs.same_front.Statement.{statement}
+use Rattle.filling.proofs.same_front.Tie as tie
 
 abbrev Inv-loop : tie.InvT-loop
 Inv-loop a b size i₀ i = Alike a b size i

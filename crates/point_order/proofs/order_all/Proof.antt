@@ -1,4 +1,4 @@
-use Rattle.point_index.proofs.Building.{start-ready, ordered-all, as-long}
+use Rattle.point_order.proofs.Orders.{start-ready, ordered-all, as-long}
 use Rattle.axis_sort.specs.Sorted.{sorted}
 use Rattle.axis_sort.specs.Axis.{precedes}
 use Rattle.lists.specs.Lists.{upFrom}
@@ -6,8 +6,8 @@ use Prim.Native.Nat.{ℕ}
 use mathlib.Core.Path.{refl, ap, _∙_}
 use lib.Dec.{lit≤}
 use native.Mathlib.Omega.{arith}
-use Rattle.point_index.proofs.order_all.Statement.{statement}
-use Rattle.point_index.proofs.order_all.Tie as tie
+use Rattle.point_order.proofs.order_all.Statement.{statement}
+use Rattle.point_order.proofs.order_all.Tie as tie
 
 order-along-requires : tie.Need-order-along-requires
 order-along-requires c κs = (lit≤ tt, as-long (c .before .before .before .before .before .before .before .before .before .before .before .before .before .pre .0) (c .before .before .before .before .before .before .before .before .before .before .before .before .before .pre .1) (refl) (refl) (refl), omega (arith, c .before .before .before .before .before .before .before .before .before .before .before .before .before .pre .1))

@@ -1,8 +1,8 @@
 use lib.Dec.{lit≤}
 use native.Mathlib.Omega.{arith}
 use borrow.Author.Needs.{needs}
-use Rattle.point_index.proofs.order_points.Statement.{statement}
-use Rattle.point_index.proofs.order_points.Tie as tie
+use Rattle.point_order.proofs.order_points.Statement.{statement}
+use Rattle.point_order.proofs.order_points.Tie as tie
 
 slice-aggregate-order-in : tie.Need-slice-aggregate-order-in
 slice-aggregate-order-in c = search needs

@@ -1,10 +1,10 @@
 use native.Mathlib.Omega.{arith}
 use borrow.Author.Needs.{needs}
-use Rattle.point_index.proofs.Filling.{Numbered, numbered-start, numbered-size, numbered-step, numbered-end}
+use Rattle.filling.proofs.Fill.{Numbered, numbered-start, numbered-size, numbered-step, numbered-end}
 use lib.ListN.{length}
 use Prim.Native.Nat.{_-_}
-use Rattle.point_index.proofs.fill.number_order.Statement.{statement}
-use Rattle.point_index.proofs.fill.number_order.Tie as tie
+use Rattle.filling.proofs.number_order.Statement.{statement}
+use Rattle.filling.proofs.number_order.Tie as tie
 
 abbrev Inv-loop : tie.InvT-loop
 Inv-loop order₀ i₀ order i = Numbered order₀ order i

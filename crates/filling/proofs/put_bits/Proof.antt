@@ -1,10 +1,10 @@
 use native.Mathlib.Omega.{arith}
 use borrow.Author.Needs.{needs}
-use Rattle.point_index.proofs.Filling.{Bitten, bits-start, bits-size, bits-step, bits-end}
+use Rattle.filling.proofs.Fill.{Bitten, bits-start, bits-size, bits-step, bits-end}
 use lib.ListN.{length}
 use Prim.Native.Nat.{_-_}
-use Rattle.point_index.proofs.fill.put_bits.Statement.{statement}
-use Rattle.point_index.proofs.fill.put_bits.Tie as tie
+use Rattle.filling.proofs.put_bits.Statement.{statement}
+use Rattle.filling.proofs.put_bits.Tie as tie
 
 abbrev Inv-loop : tie.InvT-loop
 Inv-loop floats index₀ at i₀ index i = Bitten floats index₀ index at i
