@@ -26,14 +26,14 @@ pub fn angle_limit(cosine: f32) -> f32
 
 // Limits for a threshold. The edges' part of three times the score is at most 1, which leaves `share` to the other two:
 // 6 / pi times the least angle and twice the aspect ratio, which is at most the square of an angle that bounds the two
-// small ones, and at least 2 ^ -9, below which `thin` refuses nothing. A guess and a test: where it fails the cosine is
-// not a number, and nothing is at least that.
+// small ones; it is at least 0.00196 here, below which `thin` refuses nothing. A guess and a test: where it fails the
+// cosine is not a number, and nothing is at least that.
 pub fn sliver_limits(threshold: f32) -> SliverLimits
     ensures { λ r. ⌜ Slivers threshold (r .cosine) (r .aspect) ⌝ }
 {
     let share = 3.0 * threshold - 1.0;
     let most = 1.99 * share / (1.91 + numbers::sqrt(3.65 + 8.8 * share));
-    let aspect = numbers::max(1.1 * most * most, 0.001953125);
+    let aspect = numbers::max(1.1 * most * most, 0.00196);
     let angle = (0.995 * share - 2.0 * aspect) / 1.91;
     let square = angle * angle;
     let cosine = 1.0 - square * (0.5 - square / 24.0);
