@@ -1,4 +1,4 @@
--- Scores below a threshold: by the roots of the ends (`low-by`), and so in each order of a point and of points in two boxes (`low-within`). Assumes nothing.
+-- Scores below a threshold: by the roots of the ends (`low-by`), and so in each order of a point and of points in two boxes (`low-each`). Assumes nothing.
 use mathlib.Core.Path.{_≡_}
 use mathlib.Core.Bool.{false, _&&_}
 use lib.Dec.{T}
@@ -28,11 +28,12 @@ use Rattle.intervals.proofs.Ends.{finite-between}
 use Rattle.six_orders.specs.SixOrders.{InOrder, abc, acb, bac, bca, cab, cba, OneUpTo, first, second, third, AllBelow, AllBelowFrom}
 use Rattle.decisions.specs.declared.Scene.{Scene}
 use Rattle.decisions.specs.Decisions.{accepts}
+use Rattle.filters.specs.Refused.{RefusedEach}
 use Rattle.area_bounds.proofs.AreaBound.{area-is, cross-fits}
 use Rattle.box_filters.specs.declared.Edges.{Edges}
 use Rattle.box_filters.specs.RefusedWithin.{EdgesOf, Points, AreasOf}
-use Rattle.box_filters.specs.LowWithin.{SquareIn, LowBy, LowWithin}
-use Rattle.box_filters.proofs.Triangles.{to-q, to-t, from-q, edges-held, points, areas-of}
+use Rattle.box_filters.specs.LowBy.{SquareIn, LowBy}
+use Rattle.box_filters.proofs.Triangles.{to-q, to-t, from-q, edges-held, areas-of}
 
 -- ---- by roots of ends
 
@@ -95,20 +96,17 @@ module _ {p : Point3f} {q t at : Bounds} {e : Edges} {r : Interval} (own : Finit
       (record { ends = edges .pt-held .held; above = edges .pt-held .above (difference c p) (to-t k); bounded = and-l B C l; own = squared-fits p c; holds = q₁ .pt-square })
       (record { ends = edges .qt-held .held; above = edges .qt-held .above (difference c b) (from-q k); bounded = and-r B C l; own = squared-fits b c; holds = q₁ .qt-square })
 
-  pub low-within : {threshold : Float} → LowBy threshold e (r .hi) → LowWithin threshold p q t
-  low-within h = record {
-    each = λ s rad es f b c g k i j.
-        let m = points own edges b c f g k i j in
-        let X = root (r .hi) ⊗ half in
-        let l : AllBelow (s .«quality_threshold») X (root (squared p b)) (root (squared p c)) (root (squared b c)) = rw es (squares-below b c m h) in
-        let x = areas-of own edges short areas b c m in
-        let up : (u v w : Point3f) → T (le (crossSquared u v w) (r .hi)) → T (le (area u v w) X) = λ u v w o. area-up-to u v w (r .hi) (h .held) o in
-        record {
-          pqt = low-at s rad X l p b c acb (length-turned p b) (length-turned b c) (distance-is p c) (up p b c (x .0 .most));
-          ptq = low-at s rad X l p c b bca (length-turned p c) (distance-is b c) (distance-is p b) (up p c b (rw (cross-squared-turned p c b) (x .0 .most)));
-          qpt = low-at s rad X l b p c abc (distance-is p b) (length-turned p c) (distance-is b c) (up b p c (x .1 .most));
-          qtp = low-at s rad X l b c p cba (length-turned b c) (distance-is p c) (length-turned p b) (up b c p (rw (cross-squared-turned b c p) (x .1 .most)));
-          tpq = low-at s rad X l c p b bac (distance-is p c) (length-turned p b) (length-turned b c) (up c p b (x .2 .most));
-          tqp = low-at s rad X l c b p cab (distance-is b c) (distance-is p b) (length-turned p c) (up c b p (rw (cross-squared-turned c b p) (x .2 .most)));
-        };
-  }
+  pub low-each : {threshold : Float} → LowBy threshold e (r .hi) → (b c : Point3f) → Points at q t p b c → (s : Scene) (rad : Float) → s .«quality_threshold» ≡ threshold → RefusedEach s rad p b c
+  low-each h b c m s rad es =
+      let X = root (r .hi) ⊗ half in
+      let l : AllBelow (s .«quality_threshold») X (root (squared p b)) (root (squared p c)) (root (squared b c)) = rw es (squares-below b c m h) in
+      let x = areas-of own edges short areas b c m in
+      let up : (u v w : Point3f) → T (le (crossSquared u v w) (r .hi)) → T (le (area u v w) X) = λ u v w o. area-up-to u v w (r .hi) (h .held) o in
+      record {
+        pqt = low-at s rad X l p b c acb (length-turned p b) (length-turned b c) (distance-is p c) (up p b c (x .0 .most));
+        ptq = low-at s rad X l p c b bca (length-turned p c) (distance-is b c) (distance-is p b) (up p c b (rw (cross-squared-turned p c b) (x .0 .most)));
+        qpt = low-at s rad X l b p c abc (distance-is p b) (length-turned p c) (distance-is b c) (up b p c (x .1 .most));
+        qtp = low-at s rad X l b c p cba (length-turned b c) (distance-is p c) (length-turned p b) (up b c p (rw (cross-squared-turned b c p) (x .1 .most)));
+        tpq = low-at s rad X l c p b bac (distance-is p c) (length-turned p b) (length-turned b c) (up c p b (x .2 .most));
+        tqp = low-at s rad X l c b p cab (distance-is b c) (distance-is p b) (length-turned p c) (up c b p (rw (cross-squared-turned c b p) (x .2 .most)));
+      }

@@ -1,3 +1,3 @@
 -- What the crate's contracts cite.
+pub mod LowBy
 pub mod RefusedWithin
-pub mod LowWithin

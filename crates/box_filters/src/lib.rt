@@ -7,8 +7,8 @@ use vector::Point3f;
 ghost use mathlib.Core.Path.{_≡_};
 ghost use mathlib.Core.Bool.{true};
 ghost use Rattle.intervals.specs.Enclosed.{differencesOf, CrossSquares};
-ghost use Rattle.box_filters.specs.RefusedWithin.{EdgesOf, AreasOf, ThinBy, RefusedBy, RefusedWithin};
-ghost use Rattle.box_filters.specs.LowWithin.{LowBy, LowWithin};
+ghost use Rattle.box_filters.specs.LowBy.{LowBy};
+ghost use Rattle.box_filters.specs.RefusedWithin.{EdgesOf, AreasOf, RefusedBy, RefusedWithin};
 
 // The squares of the lengths of three edges: of those between points of p and q, of p and t, and of q and t.
 pub struct Edges {
@@ -43,21 +43,22 @@ pub fn areas_of(p: Bounds, q: Bounds, t: Bounds, x: Interval) -> Interval
     intervals::joined(x, intervals::joined(y, z))
 }
 
-// Whether all triangles with such edges and areas are too thin: the longer the edges and the less the area, the
-// thinner they are.
-fn are_thin(e: Edges, area: f32, limit: f32) -> bool
-    ensures { λ r. ⌜ (r ≡ true → ThinBy limit e area) ⌝ }
+// Whether the score of all triangles with such edges and areas is below a threshold in each order, whatever their
+// angles.
+fn are_low(threshold: f32, e: Edges, area: f32) -> bool
+    ensures { λ r. ⌜ (r ≡ true → LowBy threshold e area) ⌝ }
 {
-    if !filters::are_at_most(e.pq.hi, e.pt.hi, e.qt.hi, 67108864.0) {
-        return false;
-    }
-    let most = numbers::max(area, 0.00000000000000000086736174);
-    thin::is_thin(e.pq.lo, e.pt.lo, e.qt.lo, most, limit)
+    let shortest = numbers::sqrt(numbers::min(numbers::min(e.pq.hi, e.pt.hi), e.qt.hi));
+    let a = numbers::sqrt(e.pq.lo);
+    let b = numbers::sqrt(e.pt.lo);
+    let c = numbers::sqrt(e.qt.lo);
+    six_orders::is_low_from(threshold, a, b, c, shortest, numbers::sqrt(area) * 0.5)
 }
 
-// Whether limits refuse all triangles with such edges and areas.
-fn refuses(l: Limits, e: Edges, area: Interval) -> bool
-    ensures { λ r. ⌜ (r ≡ true → RefusedBy l e area) ⌝ }
+// Whether all triangles with such edges and areas are refused: by limits, as slivers, or by a score below a threshold.
+// What costs more is asked later.
+fn refuses(threshold: f32, l: Limits, e: Edges, area: Interval) -> bool
+    ensures { λ r. ⌜ (r ≡ true → RefusedBy threshold l e area) ⌝ }
 {
     if area.hi <= l.small {
         return true;
@@ -65,13 +66,20 @@ fn refuses(l: Limits, e: Edges, area: Interval) -> bool
     if area.lo >= l.large {
         return true;
     }
-    are_thin(e, area.hi, l.thin)
+    if sliver_filters::is_thin_within(e.pq, e.pt, e.qt, area.hi, l.thin) {
+        return true;
+    }
+    if sliver_filters::is_sliver(l.slivers, e.pq, e.qt, e.pt, area.hi) {
+        return true;
+    }
+    are_low(threshold, e, area.hi)
 }
 
-// Whether the limits refuse every triangle of p, a point of q and a point of t, whichever of them comes first. The
-// areas with p first are the closest: what they don't refuse, all of them don't.
-pub fn is_refused_within(l: Limits, p: Point3f, q: Bounds, t: Bounds) -> bool
-    ensures { λ r. ⌜ (r ≡ true → RefusedWithin l p q t) ⌝ }
+// Whether every triangle of p, a point of q and a point of t is refused, whichever of them comes first: by limits, or
+// by settings with a threshold that the limits are for. The areas with p first are the closest: what they don't refuse,
+// all of them don't.
+pub fn is_refused_within(threshold: f32, l: Limits, p: Point3f, q: Bounds, t: Bounds) -> bool
+    ensures { λ r. ⌜ (r ≡ true → RefusedWithin threshold l p q t) ⌝ }
 {
     let at = intervals::point_box(p);
     let e = edges_of(at, q, t);
@@ -85,41 +93,9 @@ pub fn is_refused_within(l: Limits, p: Point3f, q: Bounds, t: Bounds) -> bool
         intervals::differences(q, at),
         intervals::differences(t, at),
     );
-    if !refuses(l, e, own) {
+    if !refuses(threshold, l, e, own) {
         return false;
     }
     let area = areas_of(at, q, t, own);
-    refuses(l, e, area)
-}
-
-// Whether the score of all triangles with such edges and areas is below a threshold in each order, whatever their
-// angles.
-fn are_low(threshold: f32, e: Edges, area: f32) -> bool
-    ensures { λ r. ⌜ (r ≡ true → LowBy threshold e area) ⌝ }
-{
-    let shortest = numbers::sqrt(numbers::min(numbers::min(e.pq.hi, e.pt.hi), e.qt.hi));
-    let a = numbers::sqrt(e.pq.lo);
-    let b = numbers::sqrt(e.pt.lo);
-    let c = numbers::sqrt(e.qt.lo);
-    six_orders::is_low_from(threshold, a, b, c, shortest, numbers::sqrt(area) * 0.5)
-}
-
-// Whether the score of every triangle of p, a point of q and a point of t is below a threshold in each order.
-pub fn is_low_within(threshold: f32, p: Point3f, q: Bounds, t: Bounds) -> bool
-    ensures { λ r. ⌜ (r ≡ true → LowWithin threshold p q t) ⌝ }
-{
-    let at = intervals::point_box(p);
-    let e = edges_of(at, q, t);
-    if !filters::are_at_most(e.pq.hi, e.pt.hi, e.qt.hi, 3.4028235e38) {
-        return false;
-    }
-    let own = intervals::cross_squares(
-        intervals::differences(q, at),
-        intervals::differences(t, at),
-    );
-    if !are_low(threshold, e, own.hi) {
-        return false;
-    }
-    let area = areas_of(at, q, t, own);
-    are_low(threshold, e, area.hi)
+    refuses(threshold, l, e, area)
 }

@@ -138,7 +138,7 @@ pub fn pay_ranges(
     }
     let rest = purse - price;
     let p = points::point_at(points, i);
-    if box_filters::is_refused_within(limits, p, first.bounds, second.bounds) {
+    if box_filters::is_refused_within(s.quality_threshold, limits, p, first.bounds, second.bounds) {
         return rest;
     }
     if x + y <= FEW {

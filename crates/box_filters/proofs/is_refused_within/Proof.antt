@@ -2,7 +2,7 @@
 use mathlib.Core.Path.{sym, subst}
 use lib.Dec.{T}
 use borrow.Author.Tests.{not-false}
-use Rattle.box_filters.proofs.Triangles.{far-within, within-by}
+use Rattle.box_filters.proofs.Within.{far-within, within-by}
 use borrow.Author.Needs.{needs}
 use Rattle.box_filters.proofs.is_refused_within.Statement.{statement}
 use Rattle.box_filters.proofs.is_refused_within.Tie as tie

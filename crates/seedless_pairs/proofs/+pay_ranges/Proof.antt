@@ -164,7 +164,7 @@ pay-ranges-returns-3 : (t : ℕ) → pay-ranges-lts.Need-returns-3 (
   pay-ranges-below t,
   pay-ranges.Post,
 ) (pay-ranges-at t) pay-ranges.Post
-pay-ranges-returns-3 t c = let g = c .before .before .before .before .before .before .before .before .before .before .before .pre .1 in λ _. refused-pairs g (c .before .before .point-at .ensures) (c .before .is-refused-within .ensures (c .if3 .taken))
+pay-ranges-returns-3 t c = let g = c .before .before .before .before .before .before .before .before .before .before .before .pre .1 in λ _. refused-pairs g (c .before .before .before .before .before .before .before .before .before .before .shared-slice-known .given) (c .before .before .point-at .ensures) (c .before .is-refused-within .ensures (c .if3 .taken))
 
 pay-ranges-add-if4 : (t : ℕ) → pay-ranges-lts.Need-add-if4 (
   point-at-reads.Asked,

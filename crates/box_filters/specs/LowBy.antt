@@ -1,19 +1,12 @@
--- Triangles with a point in each of three boxes whose score is below a threshold. Definitions only.
-use mathlib.Core.Path.{_≡_}
+-- Triangles with squares in intervals whose score is below a threshold. Definitions only.
 use lib.Dec.{T}
 use lib.Ieee.{Float, binary32, le, fits}
 use Rattle.numbers.specs.Rounded.{f32, _⊗_}
 use Rattle.numbers.specs.Root.{root}
-use Rattle.vector.specs.Vector.{Finite}
-use Rattle.vector.specs.declared.Point3f.{Point3f}
 use Rattle.quality.specs.Measures.{half}
-use Rattle.bounds.specs.declared.Bounds.{Bounds}
 use Rattle.bounds.specs.declared.Interval.{Interval}
-use Rattle.bounds.specs.Within.{within}
 use Rattle.intervals.specs.Enclosed.{Holds}
 use Rattle.six_orders.specs.SixOrders.{AllBelow}
-use Rattle.decisions.specs.declared.Scene.{Scene}
-use Rattle.filters.specs.Refused.{RefusedEach}
 use Rattle.box_filters.specs.declared.Edges.{Edges}
 
 -- an interval holds the square a of a length, and its ends are such squares
@@ -29,8 +22,3 @@ pub record LowBy (threshold : Float) (e : Edges) (x : Float) : Type 0 where
   pub held : T (fits binary32 x)
   pub all : (a b c : Float) → SquareIn (e .pq) a → SquareIn (e .pt) b → SquareIn (e .qt) c
       → AllBelow threshold (root x ⊗ half) (root a) (root b) (root c)
-
--- settings with a threshold refuse the triangles of p with a point of q and one of t in each order, at every radius
-pub record LowWithin (threshold : Float) (p : Point3f) (q t : Bounds) : Type 0 where
-  pub each : (s : Scene) (r : Float) → s .«quality_threshold» ≡ threshold
-      → Finite p → (b c : Point3f) → Finite b → Finite c → T (within q b) → T (within t c) → RefusedEach s r p b c
