@@ -32,7 +32,7 @@ use Rattle.filters.specs.Refused.{RefusedEach}
 use Rattle.area_bounds.proofs.AreaBound.{area-is, cross-fits}
 use Rattle.box_filters.specs.declared.Edges.{Edges}
 use Rattle.box_filters.specs.RefusedWithin.{EdgesOf, Points, AreasOf}
-use Rattle.box_filters.specs.LowBy.{SquareIn, LowBy}
+use Rattle.box_filters.specs.LowBy.{SquareIn, AnglesWithin, LowBy}
 use Rattle.box_filters.proofs.Triangles.{to-q, to-t, from-q, edges-held, areas-of}
 
 -- ---- by roots of ends
@@ -53,9 +53,9 @@ root-in i a s =
           (root-monotone a (f32 0x7f7fffff) (s .own) (unfold fits ofBits in tt) z (le-trans a (i .hi) (f32 0x7f7fffff) (s .holds .most) (s .bounded)));
     }
 
-pub low-by : (threshold x : Float) (e : Edges) {i m s a b c y : Float} → i ≡ minimum (e .pq .hi) (e .pt .hi) → m ≡ minimum i (e .qt .hi) → s ≡ root m → a ≡ root (e .pq .lo) → b ≡ root (e .pt .lo) → c ≡ root (e .qt .lo) → y ≡ root x
-    → T (fits binary32 x) → AllBelowFrom threshold (y ⊗ half) a b c s → LowBy threshold e x
-low-by threshold x e {i} {m} {s} {a} {b} {c} {y} ei em es ea eb ec ey f h = record { held = f; all = held }
+pub low-by : (threshold x : Float) (e : Edges) {i m s a b c y g : Float} → AnglesWithin (e .pq) (e .pt) (e .qt) g → i ≡ minimum (e .pq .hi) (e .pt .hi) → m ≡ minimum i (e .qt .hi) → s ≡ root m → a ≡ root (e .pq .lo) → b ≡ root (e .pt .lo) → c ≡ root (e .qt .lo) → y ≡ root x
+    → T (fits binary32 x) → AllBelowFrom threshold (y ⊗ half) g a b c s → LowBy threshold e x
+low-by threshold x e {i} {m} {s} {a} {b} {c} {y} angles ei em es ea eb ec ey f h = record { held = f; all = held }
   where
     held : (u v w : Float) → SquareIn (e .pq) u → SquareIn (e .pt) v → SquareIn (e .qt) w → AllBelow threshold (root x ⊗ half) (root u) (root v) (root w)
     held u v w hu hv hw =
@@ -64,7 +64,7 @@ low-by threshold x e {i} {m} {s} {a} {b} {c} {y} ei em es ea eb ec ey f h = reco
         let W = root-in (e .qt) w hw in
         let P : Float → Type 0 = λ z. OneUpTo (root z) (root u) (root v) (root w) in
         let one : P m = rw em (minimum-either P i (e .qt .hi) (rw ei (minimum-either P (e .pq .hi) (e .pt .hi) (first (U .high)) (second (V₁ .high)))) (third (W .high))) in
-        let k = h .longer (root u) (root v) (root w) (U .root-finite) (V₁ .root-finite) (W .root-finite) (rw ea (U .low)) (rw eb (V₁ .low)) (rw ec (W .low)) (rw es one) in
+        let k = h .longer (root u) (root v) (root w) (U .root-finite) (V₁ .root-finite) (W .root-finite) (rw ea (U .low)) (rw eb (V₁ .low)) (rw ec (W .low)) (rw es one) (angles .bound u v w (hu .own) (hv .own) (hw .own) (hu .holds) (hv .holds) (hw .holds)) in
         rw (← ey) k
 
 -- ---- each order

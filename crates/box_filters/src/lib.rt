@@ -7,7 +7,7 @@ use vector::Point3f;
 ghost use mathlib.Core.Path.{_≡_};
 ghost use mathlib.Core.Bool.{true};
 ghost use Rattle.intervals.specs.Enclosed.{differencesOf, CrossSquares};
-ghost use Rattle.box_filters.specs.LowBy.{LowBy};
+ghost use Rattle.box_filters.specs.LowBy.{AnglesWithin, LowBy};
 ghost use Rattle.box_filters.specs.RefusedWithin.{EdgesOf, AreasOf, RefusedBy, RefusedWithin};
 
 // The squares of the lengths of three edges: of those between points of p and q, of p and t, and of q and t.
@@ -43,16 +43,51 @@ pub fn areas_of(p: Bounds, q: Bounds, t: Bounds, x: Interval) -> Interval
     intervals::joined(x, intervals::joined(y, z))
 }
 
-// Whether the score of all triangles with such edges and areas is below a threshold in each order, whatever their
-// angles.
+// What the least angle is at most in each order, with the squares of one edge in i and of the others in j and k. Where
+// the first one isn't much shorter it is not a number.
+fn needle_angle(i: Interval, j: Interval, k: Interval) -> f32
+    ensures { λ m. ⌜ AnglesWithin i j k m ⌝ }
+{
+    let short = numbers::min(j.lo, k.lo);
+    let long = numbers::max(j.hi, k.hi);
+    needle_angles::needle_angle(i.lo, i.hi, short, long)
+}
+
+// The same of all triangles with such edges. Which edge is the shortest is a guess.
+fn least_angle(e: Edges) -> f32
+    ensures { λ m. ⌜ AnglesWithin (e .pq) (e .pt) (e .qt) m ⌝ }
+{
+    if e.pq.hi <= e.pt.hi {
+        if e.pq.hi <= e.qt.hi {
+            return needle_angle(e.pq, e.pt, e.qt);
+        }
+        return needle_angle(e.qt, e.pq, e.pt);
+    }
+    if e.pt.hi <= e.qt.hi {
+        return needle_angle(e.pt, e.pq, e.qt);
+    }
+    needle_angle(e.qt, e.pq, e.pt)
+}
+
+// Whether the score of all triangles with such edges and areas is below a threshold in each order. No angle is
+// measured: that of needles is known to be small.
 fn are_low(threshold: f32, e: Edges, area: f32) -> bool
     ensures { λ r. ⌜ (r ≡ true → LowBy threshold e area) ⌝ }
 {
+    let angle = least_angle(e);
     let shortest = numbers::sqrt(numbers::min(numbers::min(e.pq.hi, e.pt.hi), e.qt.hi));
     let a = numbers::sqrt(e.pq.lo);
     let b = numbers::sqrt(e.pt.lo);
     let c = numbers::sqrt(e.qt.lo);
-    six_orders::is_low_from(threshold, a, b, c, shortest, numbers::sqrt(area) * 0.5)
+    six_orders::is_low_from(
+        threshold,
+        a,
+        b,
+        c,
+        shortest,
+        angle,
+        numbers::sqrt(area) * 0.5,
+    )
 }
 
 // Whether all triangles with such edges and areas are refused: by limits, as slivers, or by a score below a threshold.

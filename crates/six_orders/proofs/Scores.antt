@@ -17,7 +17,6 @@ use Rattle.score_bounds.proofs.Bounds.{part}
 use Rattle.score_bounds.proofs.Aspect.{doubled-le, mean-under, below-low}
 use Rattle.six_orders.specs.SixOrders.{InOrder, abc, acb, bac, bca, cab, cba, leastAngle, AngleBound, AspectBound, EdgeBound, AllBelow, NotShorter, AspectFrom, EdgeFrom, AllBelowFrom}
 use Rattle.six_orders.proofs.Positive.{above-zero, div-falls}
-use Rattle.six_orders.proofs.Angles.{no-angle-bound}
 
 -- ---- the parts of a score
 
@@ -91,36 +90,42 @@ module _ (a b c m t e X threshold : Float) (above : T (lt (f32 0) threshold)) (a
 not-shorter : {a x : Float} → T (positive a) → T (finite x) → T (le a x) → NotShorter a x
 not-shorter {a} {x} p f h = record { shorter = p; own = positive-is x (lt-le-trans (f32 0) a x (above-zero a p) h) f; least = h }
 
-pub all-below-from : {a b c s t e X threshold : Float} → T (lt (f32 0) threshold) → T (positive a) × T (positive b) × T (positive c) → AspectFrom a b c X t → T (not (isNan t)) → EdgeFrom a b c s e → T (lt (score nan t e) threshold) → AllBelowFrom threshold X a b c s
-all-below-from {t = t} {e = e} {X = X} {threshold = threshold} above p aspects number edges low = record {
-  longer = λ x y z f g h i j k o.
+pub all-below-from : {a b c s m t e X threshold : Float} → T (lt (f32 0) threshold) → T (positive a) × T (positive b) × T (positive c) → AspectFrom a b c X t → T (not (isNan t)) → EdgeFrom a b c s e → T (lt (score m t e) threshold) → AllBelowFrom threshold X m a b c s
+all-below-from {m = m} {t = t} {e = e} {X = X} {threshold = threshold} above p aspects number edges low = record {
+  longer = λ x y z f g h i j k o angles.
       let A = not-shorter (p .0) f i in
       let B = not-shorter (p .1) g j in
       let C = not-shorter (p .2) h k in
-      all-below x y z nan t e X threshold above (no-angle-bound x y z) (aspects .longer x y z A B C) number (edges .longer x y z A B C o) low;
+      all-below x y z m t e X threshold above angles (aspects .longer x y z A B C) number (edges .longer x y z A B C o) low;
 }
 
 -- ---- edges in another order
 
-module _ {threshold X a b c : Float} where
-  pub second-below : AllBelow threshold X b a c → AllBelow threshold X a b c
-  second-below h = record { below = λ u v w r o. h .below u v w r (turn o) }
-    where
-      turn : {u v w : Float} → InOrder a b c u v w → InOrder b a c u v w
-      turn abc = bac
-      turn acb = bca
-      turn bac = abc
-      turn bca = acb
-      turn cab = cba
-      turn cba = cab
+second-first : {a b c u v w : Float} → InOrder a b c u v w → InOrder b a c u v w
+second-first abc = bac
+second-first acb = bca
+second-first bac = abc
+second-first bca = acb
+second-first cab = cba
+second-first cba = cab
 
-  pub third-below : AllBelow threshold X c a b → AllBelow threshold X a b c
-  third-below h = record { below = λ u v w r o. h .below u v w r (turn o) }
-    where
-      turn : {u v w : Float} → InOrder a b c u v w → InOrder c a b u v w
-      turn abc = bca
-      turn acb = bac
-      turn bac = cba
-      turn bca = cab
-      turn cab = abc
-      turn cba = acb
+third-first : {a b c u v w : Float} → InOrder a b c u v w → InOrder c a b u v w
+third-first abc = bca
+third-first acb = bac
+third-first bac = cba
+third-first bca = cab
+third-first cab = abc
+third-first cba = acb
+
+module _ {a b c : Float} where
+  pub second-below : {threshold X : Float} → AllBelow threshold X b a c → AllBelow threshold X a b c
+  second-below h = record { below = λ u v w r o. h .below u v w r (second-first o) }
+
+  pub third-below : {threshold X : Float} → AllBelow threshold X c a b → AllBelow threshold X a b c
+  third-below h = record { below = λ u v w r o. h .below u v w r (third-first o) }
+
+  pub second-angle : {m : Float} → AngleBound b a c m → AngleBound a b c m
+  second-angle h = record { most = λ u v w o. h .most u v w (second-first o) }
+
+  pub third-angle : {m : Float} → AngleBound c a b m → AngleBound a b c m
+  third-angle h = record { most = λ u v w o. h .most u v w (third-first o) }

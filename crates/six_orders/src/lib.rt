@@ -147,9 +147,10 @@ pub fn is_low(threshold: f32, a: f32, b: f32, c: f32, area: f32) -> bool
     is_low_by(threshold, c, a, b, area)
 }
 
-// Whether it is with all edges that are not shorter, and of which one is not longer than s; told without any angle.
-pub fn is_low_from(threshold: f32, a: f32, b: f32, c: f32, s: f32, area: f32) -> bool
-    ensures { λ r. ⌜ (r ≡ true → AllBelowFrom threshold area a b c s) ⌝ }
+// Whether it is with all edges that are not shorter, of which one is not longer than s, and with least angles up to a
+// largest one; with any, if that is not a number.
+pub fn is_low_from(threshold: f32, a: f32, b: f32, c: f32, s: f32, angle: f32, area: f32) -> bool
+    ensures { λ r. ⌜ (r ≡ true → AllBelowFrom threshold area angle a b c s) ⌝ }
 {
     if !(0.0 < threshold) {
         return false;
@@ -161,5 +162,5 @@ pub fn is_low_from(threshold: f32, a: f32, b: f32, c: f32, s: f32, area: f32) ->
     if !(aspect <= 4.0) {
         return false;
     }
-    quality::score(0.0 / 0.0, aspect, edge_from(a, b, c, s)) < threshold
+    quality::score(angle, aspect, edge_from(a, b, c, s)) < threshold
 }

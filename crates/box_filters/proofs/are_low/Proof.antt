@@ -6,6 +6,9 @@ use borrow.Author.Needs.{needs}
 use Rattle.box_filters.proofs.are_low.Statement.{statement}
 use Rattle.box_filters.proofs.are_low.Tie as tie
 
+least-angle-requires : tie.Need-least-angle-requires
+least-angle-requires c κs = search needs
+
 min-requires : tie.Need-min-requires
 min-requires c κs = search needs
 
@@ -33,15 +36,17 @@ is-low-from-requires c κs = search needs
 returns : tie.Need-returns
 returns c =
     let r = c .before .before .before .before .before in
-    let s = r .before .before .before in
+    let g = r .before .before .before in
+    let s = g .before in
     λ h.
-    low-by _ (s .args .area) (s .args .e) (r .before .before .min .ensures) (r .before .min2 .ensures) (r .sqrt .ensures) (c .before .before .before .before .sqrt2 .ensures) (c .before .before .before .sqrt3 .ensures) (c .before .before .sqrt4 .ensures)
+    low-by _ (s .args .area) (s .args .e) (g .least-angle .ensures) (r .before .before .min .ensures) (r .before .min2 .ensures) (r .sqrt .ensures) (c .before .before .before .before .sqrt2 .ensures) (c .before .before .before .sqrt3 .ensures) (c .before .before .sqrt4 .ensures)
     (c .before .sqrt5 .ensures) (subst T (sym (s .good .1 .1 .0 .1)) tt) (c .is-low-from .ensures h)
 
 pub are-low-spec : {M : Type 1} → statement M
 are-low-spec =
     tie.close
     (tie.spec
+    least-angle-requires
     min-requires
     min-requires-2
     sqrt-requires

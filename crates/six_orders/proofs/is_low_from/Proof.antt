@@ -5,7 +5,6 @@ use lib.Ieee.{lt, le}
 use borrow.Author.Tests.{not-false}
 use Rattle.numbers.specs.Rounded.{f32}
 use Rattle.numbers.proofs.OrderLaws.{le-left}
-use Rattle.numbers.proofs.RootSpecial.{no-number}
 use Rattle.six_orders.proofs.Scores.{all-below-from}
 use borrow.Author.Needs.{needs}
 use Rattle.six_orders.proofs.is_low_from.Statement.{statement}
@@ -38,7 +37,7 @@ returns-4 c =
     let t = c .before .before .before .aspect-bound in
     let a = p .before .before .args in λ h.
     all-below-from (rw (not-false (lt (f32 0) (a .threshold)) (p .before .if1 .left)) tt) (p .are-positive .ensures (not-false (p .are-positive .result) (c .before .before .before .before .if2 .left))) (t .ensures)
-    (le-left (t .result) (f32 0x40800000) (rw (not-false (le (t .result) (f32 0x40800000)) (c .before .before .if3 .left)) tt)) (c .before .edge-from .ensures) (rw (← no-number, ← c .score .ensures, h) tt)
+    (le-left (t .result) (f32 0x40800000) (rw (not-false (le (t .result) (f32 0x40800000)) (c .before .before .if3 .left)) tt)) (c .before .edge-from .ensures) (rw (← c .score .ensures, h) tt)
 
 pub is-low-from-spec : {M : Type 1} → statement M
 is-low-from-spec =
