@@ -128,7 +128,7 @@ fn least_purse(count: usize, begun: bool) -> usize
     if begun {
         return count * (6 * count);
     }
-    count * (count * (13 + count / 64))
+    count * (13 * count)
 }
 
 // Whether a purse will do for all of n points that are near each other, where so many have been searched: each of these
