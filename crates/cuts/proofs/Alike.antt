@@ -54,9 +54,9 @@ estimate-cuts-alike points p words floats e some =
     (omega (
       arith,
       sorted-length (samplesOf points),
-      samples-most points n (estimate.stepOf n) 0
-          (estimate.sampleCount n),
-      samples-few n (estimate.stepOf n) (a .cloud .some),
+      samples-most points n (estimate.estimateStep n) 0
+          (estimate.estimateSamples n),
+      samples-few n (estimate.estimateStep n) (a .cloud .some),
       a .cloud .few,
     ))
     (r .0) (r .1)

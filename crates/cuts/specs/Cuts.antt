@@ -49,13 +49,15 @@ GivenPoints points = (k : ℕ) → k < length points → T (fits binary32 (getD 
 -- all that the main call cuts
 pub record CutAlike (c : BallPivotingConfig) (points : List Float) : Type 0 where
   -- the cells of the points, and of the middles of edges
-  pub cells : (i : ℕ) → i < pointCount points → SameCell (call.indexOf c points) (pointAt points i)
+  pub cells : (i : ℕ) → i < pointCount points → SameCell (call.spatialIndexOf c points) (pointAt points i)
   pub middles : (i j : ℕ) → i < pointCount points → j < pointCount points
-      → SameCell (call.indexOf c points) (middle (pointAt points i) (pointAt points j))
+      → SameCell (call.spatialIndexOf c points) (middle (pointAt points i) (pointAt points j))
   -- the ranges: a pivot asks at r, a seed at 2r, a sample of the densities at 3 × radius
-  pub ranges : All (λ (r : Float). SameRange (call.indexOf c points) r × SameRange (call.indexOf c points) (reach r))
+  pub ranges :
+      All (λ (r : Float).
+      SameRange (call.spatialIndexOf c points) r × SameRange (call.spatialIndexOf c points) (reach r))
       (radiiOf c points)
-  pub sample-range : SameRange (call.indexOf c points) (c .radius ⊗ f32 0x40400000)
+  pub sample-range : SameRange (call.spatialIndexOf c points) (c .radius ⊗ f32 0x40400000)
   -- the places of the percentiles among the densities, where there are any
   pub places : 0 < length (densitiesOf c points) → (k : ℕ) → k < c .«percentile_count»
       → SamePlace (length (sorted (densitiesOf c points))) (getD (c .«adaptive_percentiles») k nan)

@@ -83,7 +83,7 @@ outcome-alike : (o : cloud.Outcome) (faces words floats room : ℕ) → faces / 
     → outcomeOutput o faces words floats room .bytes ≡ outcomeText o faces words floats
 unfolding outcomeOutput outcomeText laidOutput laidText
 outcome-alike (cloud.accepted radius ps) faces words floats room few fits r =
-    patch-alike (cloud.flat (map (λ p. p .position) ps)) (cloud.flat (map (λ p. p .normal) ps)) (defaults radius) faces words floats room few fits (length ps) r
+    patch-alike (cloud.coordinatesOf (map (λ p. p .position) ps)) (cloud.coordinatesOf (map (λ p. p .normal) ps)) (defaults radius) faces words floats room few fits (length ps) r
 outcome-alike (cloud.refused answer detail) faces words floats room few fits r = refl
 
 -- A REFUSAL'S LINE IS THE ONE THAT `lay` PRINTS

@@ -53,7 +53,8 @@ laidOutput radius points normals faces words floats room =
 unfoldable pub outcomeOutput : cloud.Outcome → ℕ → ℕ → ℕ → ℕ → Output
 unfolding laidOutput
 outcomeOutput (cloud.accepted radius ps) faces words floats room =
-    laidOutput radius (cloud.flat (map (λ p. p .position) ps)) (cloud.flat (map (λ p. p .normal) ps)) faces words floats
+    laidOutput radius (cloud.coordinatesOf (map (λ p. p .position) ps))
+    (cloud.coordinatesOf (map (λ p. p .normal) ps)) faces words floats
     room
 outcomeOutput (cloud.refused answer detail) faces words floats room = refusedWith answer detail
 

@@ -169,14 +169,14 @@ file-early bs = go (field 10 bs) (field-below 10 bs)
 laid-most : (radius : Float) (ps : List Point) (faces words floats : ℕ) → length ps ≤ 4096 → faces ≤ 15000 → length (outcomeText (cloud.accepted radius ps) faces words floats) ≤ 220098
 unfolding outcomeText laidText
 laid-most radius ps faces words floats few short =
-    let xs : List Float = cloud.flat (map (λ (p : Point). p .position) ps) in
-    let ns : List Float = cloud.flat (map (λ (p : Point). p .normal) ps) in
+    let xs : List Float = cloud.coordinatesOf (map (λ (p : Point). p .position) ps) in
+    let ns : List Float = cloud.coordinatesOf (map (λ (p : Point). p .normal) ps) in
     let number : length xs / 3 ≡ length ps = let l = part-length (λ p. p .position) ps in omega arith in
     subst (λ (n : ℕ). length (patchText n (reconstructed xs ns (defaults radius) faces words floats) (found (defaults radius) xs)) ≤ 220098) number
     (patch-most xs ns (defaults radius) faces words floats (omega arith) short)
 
-judged-most : (f : File) (p n faces words floats : ℕ) → EarlyFile 65537 f → p ≤ 12288 → faces ≤ 15000 → length (outcomeText (cloud.judged p n f) faces words floats) ≤ 220098
-unfolding cloud.judged outcomeText
+judged-most : (f : File) (p n faces words floats : ℕ) → EarlyFile 65537 f → p ≤ 12288 → faces ≤ 15000 → length (outcomeText (cloud.outcomeOf p n f) faces words floats) ≤ 220098
+unfolding cloud.outcomeOf outcomeText
 judged-most (malformedLine line) p n faces words floats e few short = omega (arith, refusal-most 10 line (omega arith) (omega arith))
 judged-most (cloud radius ps) p n faces words floats e few short = go (leb (3 * length ps) p && leb (3 * length ps) n) refl
   where
@@ -219,8 +219,8 @@ patch-some n p f =
 outcome-some : (o : cloud.Outcome) (faces words floats : ℕ) → 0 < length (outcomeText o faces words floats)
 unfolding outcomeText laidText
 outcome-some (cloud.accepted radius ps) faces words floats =
-    let xs : List Float = cloud.flat (map (λ (p : Point). p .position) ps) in
-    let ns : List Float = cloud.flat (map (λ (p : Point). p .normal) ps) in
+    let xs : List Float = cloud.coordinatesOf (map (λ (p : Point). p .position) ps) in
+    let ns : List Float = cloud.coordinatesOf (map (λ (p : Point). p .normal) ps) in
     patch-some (length ps) (reconstructed xs ns (defaults radius) faces words floats) (found (defaults radius) xs)
 outcome-some (cloud.refused answer detail) faces words floats = refusal-some answer detail
 

@@ -33,8 +33,8 @@ laidText radius n points normals faces words floats =
 -- what the reader answers: a cloud to lay, or a refusal
 unfoldable pub outcomeText : cloud.Outcome → ℕ → ℕ → ℕ → List ℕ
 outcomeText (cloud.accepted radius ps) faces words floats =
-    laidText radius (length ps) (cloud.flat (map (λ p. p .position) ps)) (cloud.flat (map (λ p. p .normal) ps)) faces
-    words floats
+    laidText radius (length ps) (cloud.coordinatesOf (map (λ p. p .position) ps))
+    (cloud.coordinatesOf (map (λ p. p .normal) ps)) faces words floats
 outcomeText (cloud.refused answer detail) faces words floats = refusalText answer detail
 
 -- a whole file, with slices of these lengths; one of more than 65,536 bytes is refused before any line is read

@@ -52,7 +52,7 @@ densitiesOf c points =
 abbrev pub samplesOf : List Float → List Float
 samplesOf points =
     let n = pointCount points in
-    leastDistances points n (estimate.stepOf n) 0 (estimate.sampleCount n)
+    leastDistances points n (estimate.estimateStep n) 0 (estimate.estimateSamples n)
 
 -- what `compute_adaptive_radii` sorts: the distances of each sample, the densities, and the radii
 pub record RadiiAlike (c : BallPivotingConfig) (points : List Float) : Type 0 where
