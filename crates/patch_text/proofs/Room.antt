@@ -20,7 +20,7 @@ use Rattle.ball_pivoting.proofs.Answered.{answered-zero}
 use Rattle.ball_pivoting.proofs.Inside.{found-inside, flat-inside, found-few}
 use Rattle.ball_pivoting.proofs.Reasons.{reason-most}
 use Rattle.ball_pivoting.proofs.Outcome.{reconstruct-early}
-use Rattle.cloud.specs.Format.{Parsed, parsed, malformed, point, field, Lines, good, wrong, ahead, lines, body, File, cloud, malformedLine, under, file}
+use Rattle.cloud.specs.Format.{Parsed, parsed, malformed, pointFields, field, Lines, good, wrong, ahead, lines, body, File, cloud, malformedLine, under, file}
 use Rattle.cloud.specs.Answers as cloud
 use Rattle.cloud_lines.specs.declared.line.Point.{Point}
 use Rattle.numerals.proofs.Shorter.{Below}
@@ -137,7 +137,7 @@ lines-early : (fuel : ℕ) (bs : List ℕ) → Early fuel (lines fuel bs)
 unfolding lines
 lines-early zero bs = tt
 lines-early (suc fuel) [] = tt
-lines-early (suc fuel) (b ∷ bs) = go (point (b ∷ bs)) (λ rest. lines-early fuel rest)
+lines-early (suc fuel) (b ∷ bs) = go (pointFields (b ∷ bs)) (λ rest. lines-early fuel rest)
   where
     go : (q : Parsed Point) → ((rest : List ℕ) → Early fuel (lines fuel rest)) → Early (suc fuel) (elim q [ parsed p rest ↦ ahead p (lines fuel rest) | malformed ↦ wrong 1 ])
     go (parsed p rest) rec = ahead-early fuel p (lines fuel rest) (rec rest)
