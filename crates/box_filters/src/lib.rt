@@ -70,10 +70,13 @@ fn least_angle(e: Edges) -> f32
 }
 
 // Whether the score of all triangles with such edges and areas is below a threshold in each order. No angle is
-// measured: that of needles is known to be small.
+// measured: that of needles is known to be small. Where the threshold is 0 there is nothing to tell.
 fn are_low(threshold: f32, e: Edges, area: f32) -> bool
     ensures { λ r. ⌜ (r ≡ true → LowBy threshold e area) ⌝ }
 {
+    if !(0.0 < threshold) {
+        return false;
+    }
     let angle = least_angle(e);
     let shortest = numbers::sqrt(numbers::min(numbers::min(e.pq.hi, e.pt.hi), e.qt.hi));
     let a = numbers::sqrt(e.pq.lo);

@@ -6,6 +6,9 @@ use borrow.Author.Needs.{needs}
 use Rattle.box_filters.proofs.are_low.Statement.{statement}
 use Rattle.box_filters.proofs.are_low.Tie as tie
 
+returns : tie.Need-returns
+returns c = λ h. absurd (subst T (sym h) tt)
+
 least-angle-requires : tie.Need-least-angle-requires
 least-angle-requires c κs = search needs
 
@@ -33,11 +36,11 @@ sqrt-requires-5 c κs = search needs
 is-low-from-requires : tie.Need-is-low-from-requires
 is-low-from-requires c κs = search needs
 
-returns : tie.Need-returns
-returns c =
+returns-2 : tie.Need-returns-2
+returns-2 c =
     let r = c .before .before .before .before .before in
     let g = r .before .before .before in
-    let s = g .before in
+    let s = g .before .before in
     λ h.
     low-by _ (s .args .area) (s .args .e) (g .least-angle .ensures) (r .before .before .min .ensures) (r .before .min2 .ensures) (r .sqrt .ensures) (c .before .before .before .before .sqrt2 .ensures) (c .before .before .before .sqrt3 .ensures) (c .before .before .sqrt4 .ensures)
     (c .before .sqrt5 .ensures) (subst T (sym (s .good .1 .1 .0 .1)) tt) (c .is-low-from .ensures h)
@@ -46,6 +49,7 @@ pub are-low-spec : {M : Type 1} → statement M
 are-low-spec =
     tie.close
     (tie.spec
+    returns
     least-angle-requires
     min-requires
     min-requires-2
@@ -55,4 +59,4 @@ are-low-spec =
     sqrt-requires-4
     sqrt-requires-5
     is-low-from-requires
-    returns)
+    returns-2)
