@@ -390,11 +390,13 @@ YbEstimate yb_estimate_optimal_radius(const float *points, size_t points_len, fl
  *   8, 15 and 16  the face slice as it was; both work slices zeros
  *   9             all three slices zeros (9 means more faces than faces_len / 3)
  *
- * Time: a bell wall of 4,096 points takes some 3 ms. Where no three points make a seed, and neither edges nor area
- * tell so, it grows with the cube of the number of points near each other. Of the clouds searched for, slivers along a
- * shallow arc at radius 10 with nine radii and threshold 0.36 take longest: 5.4 s at 512 points and 48 s at 1,024, which
- * comes to some 50 minutes at 4,096 (that one is worked out, not measured). Under the default settings it is two tiny
- * clusters next to each other: 4.3 s at 512 points.
+ * Time: a bell wall of 4,096 points takes some 3 ms. Where no three points make a seed, most of them are told so in
+ * whole ranges; what has to be measured one by one grows with the cube of the number of points near each other. Of the
+ * clouds searched for, random points with a threshold that is just out of reach (1.00001) take longest: 0.8 s at 512
+ * points and 6.6 s at 1,024, which comes to some 7 minutes at 4,096 (that one is worked out, not measured). Slivers
+ * along a shallow arc take 8 s at 4,096 points with one radius; with nine radii and threshold 0.36 it is 0.5 s at 1,024
+ * and more than two minutes at 4,096. Under the default settings it is two tiny clusters next to each other: 1.9 s at
+ * 512 points.
  */
 YbPatch yb_reconstruct_with_normals(const float *points, size_t points_len, const float *normals, size_t normals_len,
                                     YbBallPivotingConfig settings, uint32_t *faces, size_t faces_len,
