@@ -171,7 +171,7 @@ fn pay_found(
     }
     order_listed(s, points, w, count);
     let all = seedless_pairs::range_of(s, points, w, 0, count);
-    seedless_pairs::pay_ranges(s, points, w, p.radius, limits, i, all, all, purse)
+    seedless_pairs::pay_pairs(s, points, w, p.radius, limits, i, all, purse)
 }
 
 // Whether no two unused points after point i or before point lo make a seed with it, if that is paid for.

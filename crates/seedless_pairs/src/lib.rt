@@ -4,7 +4,7 @@
 use bounds::Bounds;
 use decisions::Scene;
 use filters::Limits;
-ghost use Prim.Native.Nat.{_≤_, _<_};
+ghost use Prim.Native.Nat.{_+_, _≤_, _<_};
 ghost use Rattle.nearby.specs.Ready.{Held, Listed};
 ghost use Rattle.three_points.specs.Judged.{Judged};
 ghost use Rattle.seedless_pairs.specs.Pairs.{SeedlessAfter, Later, PairsSeedless, Spans, Ranged};
@@ -163,4 +163,72 @@ pub fn pay_ranges(
         return 0;
     }
     pay_ranges(s, points, w, radius, limits, i, b, d, bc)
+}
+
+// Whether the eight listed points from a place on are refused with the eight from another.
+fn are_refused_at(
+    s: Scene,
+    points: &[f32],
+    w: &[u32],
+    count: usize,
+    limits: Limits,
+    i: usize,
+    j: usize,
+    k: usize,
+) -> bool
+    requires { ⌜ Held s (now points) (now w) × Listed s (now w) count × (i < s .n) × (j + 8 ≤ count)
+        × (k + 8 ≤ count) ⌝ }
+{
+    let first = range_of(s, points, w, j, j + 8);
+    let second = range_of(s, points, w, k, k + 8);
+    let p = points::point_at(points, i);
+    box_filters::is_refused_within(s.quality_threshold, limits, p, first.bounds, second.bounds)
+}
+
+// Whether ranges are worth being asked: some of three short pairs are refused.
+fn is_worth_asking(
+    s: Scene,
+    points: &[f32],
+    w: &[u32],
+    count: usize,
+    limits: Limits,
+    i: usize,
+) -> bool
+    requires { ⌜ Held s (now points) (now w) × Listed s (now w) count × (i < s .n) × (32 ≤ count) ⌝ }
+{
+    let quarter = count / 4;
+    let half = quarter + quarter;
+    let last = half + quarter;
+    if are_refused_at(s, points, w, count, limits, i, 0, half) {
+        return true;
+    }
+    if are_refused_at(s, points, w, count, limits, i, quarter, last) {
+        return true;
+    }
+    are_refused_at(s, points, w, count, limits, i, 0, last)
+}
+
+// The same of all pairs of a range, by ranges where that is worth it.
+pub fn pay_pairs(
+    s: Scene,
+    points: &[f32],
+    w: &[u32],
+    radius: f32,
+    limits: Limits,
+    i: usize,
+    all: Range,
+    purse: usize,
+) -> usize
+    requires { ⌜ Ranged s (now points) (now w) radius limits i all all ⌝ }
+    ensures { λ r. ⌜ (0 < r
+        → PairsSeedless s (now (points .entry)) radius (now (w .entry)) i all all) ⌝ }
+{
+    let count = all.to;
+    if count < 32 {
+        return pay_each(s, points, w, radius, limits, i, all, all, purse);
+    }
+    if !is_worth_asking(s, points, w, count, limits, i) {
+        return pay_each(s, points, w, radius, limits, i, all, all, purse);
+    }
+    pay_ranges(s, points, w, radius, limits, i, all, all, purse)
 }

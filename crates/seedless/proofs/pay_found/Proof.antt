@@ -28,8 +28,8 @@ order-listed-requires c κs = search needs
 range-of-requires-2 : tie.Need-range-of-requires-2
 range-of-requires-2 c κs = search needs
 
-pay-ranges-requires : tie.Need-pay-ranges-requires
-pay-ranges-requires c κs =
+pay-pairs-requires : tie.Need-pay-pairs-requires
+pay-pairs-requires c κs =
     let l = c .before .before .before .before .before .before .before .before .before .before .keep-left in
     let o = c .before .before .before .before .before .order-listed in
     let g = c .before .before .before .before .before .before .before .before .before .before .before .before .before .before .before .before .pre in
@@ -49,8 +49,8 @@ returns-2 : tie.Need-returns-2
 returns-2 c =
     let l = c .before .before .before .before .before .before .before .before .before .before .before .keep-left .ensures in
     let o = c .before .before .before .before .before .before .order-listed .ensures in
-    (λ h. left-seedless l o (c .before .before .range-of2 .ensures) (c .pay-ranges .ensures h), kept-on (l .kept) (o .kept))
+    (λ h. left-seedless l o (c .before .before .range-of2 .ensures) (c .pay-pairs .ensures h), kept-on (l .kept) (o .kept))
 
 pub pay-found-spec : {M : Type 1} → statement M
 pay-found-spec =
-    tie.close (tie.spec keep-left-requires range-of-requires pay-each-requires same-length returns order-listed-requires range-of-requires-2 pay-ranges-requires same-length-2 returns-2)
+    tie.close (tie.spec keep-left-requires range-of-requires pay-each-requires same-length returns order-listed-requires range-of-requires-2 pay-pairs-requires same-length-2 returns-2)
