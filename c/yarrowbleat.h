@@ -395,7 +395,7 @@ YbEstimate yb_estimate_optimal_radius(const float *points, size_t points_len, fl
  * clouds searched for, random points with a threshold that is just out of reach (1.00001) take longest: 0.8 s at 512
  * points and 6.6 s at 1,024, which comes to some 7 minutes at 4,096 (that one is worked out, not measured). Slivers
  * along a shallow arc take 8 s at 4,096 points with one radius; with nine radii and threshold 0.36 it is 0.5 s at 1,024
- * and more than two minutes at 4,096. Under the default settings it is two tiny clusters next to each other: 1.9 s at
+ * and more than two minutes at 4,096. Under the default settings it is two tiny clusters next to each other: 2.3 s at
  * 512 points.
  */
 YbPatch yb_reconstruct_with_normals(const float *points, size_t points_len, const float *normals, size_t normals_len,
