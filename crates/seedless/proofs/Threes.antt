@@ -132,10 +132,6 @@ apart-order a b d = ⊎-elim
     (λ (t : ltb a b ≡ false). ⊎-elim (λ (u : ltb b a ≡ true). inr (ltb-true b a u)) (λ (u : ltb b a ≡ false). absurd (d (omega (arith, ltb-false a b t, ltb-false b a u)))) (either (ltb b a)))
     (either (ltb a b))
 
--- the order that they have
-pub same-order : {s : Scene} {w : List ℕ} {c : ℕ} → Listed s w c → Reordered s w w c
-same-order {s} {w} l = record { listed = l; complete = λ k p. p; kept = kept-self s w }
-
 -- each two of those that are left were looked at, in another order
 pub left-seedless : {s : Scene} {pts : List Float} {r : Float} {lo i : ℕ} {w u v : List ℕ} {found c : ℕ} {q : Range} → Left s lo i w u found c → Reordered s u v c → Spans s pts v 0 c q → PairsSeedless s pts r v i q q → AllLeftSeedless s pts r lo i w found
 left-seedless {s} {pts} {r} {lo} {i} {w} {u} {v} {found} {c} {q} x o span all j k pj pk hj hk ne = two (o .complete j (x .complete j pj hj)) (o .complete k (x .complete k pk hk))

@@ -26,9 +26,6 @@ pub struct Site {
     pub limits: Limits,
 }
 
-// A list of so many points or fewer is gone through pair by pair.
-const SHORT: usize = 32;
-
 // How often a list is halved at most.
 const HALVINGS: usize = 12;
 
@@ -73,13 +70,21 @@ fn keep_left(s: Scene, w: &mut [u32], found: usize, lo: usize, i: usize) -> usiz
     kept
 }
 
+// How often a list of so many points is halved: a short one not at all.
+fn halvings_of(count: usize) -> usize {
+    if count <= seedless_pairs::SHORT {
+        return 0;
+    }
+    HALVINGS
+}
+
 // Puts the listed points in an order in which those near each other stand near each other.
 fn order_listed(s: Scene, points: &[f32], w: &mut [u32], count: usize)
     requires { ⌜ Held s (now points) (now w) × Listed s (now w) count ⌝ }
     ensures { λ _. ⌜ Reordered s (now (w .entry)) (now (w .exit)) count ⌝ }
 {
     let at = regions::NEIGHBORS * s.n;
-    listed_boxes::order(points, &mut w[at..at + count], HALVINGS);
+    listed_boxes::order(points, &mut w[at..at + count], halvings_of(count));
 }
 
 // Of the listed points, each taken with the one half the list on, how many are near each other.
@@ -165,10 +170,6 @@ fn pay_found(
     let s = p.scene;
     let limits = p.limits;
     let count = keep_left(s, w, found, lo, i);
-    if count <= SHORT {
-        let each = seedless_pairs::range_of(s, points, w, 0, count);
-        return seedless_pairs::pay_each(s, points, w, p.radius, limits, i, each, each, purse);
-    }
     order_listed(s, points, w, count);
     let all = seedless_pairs::range_of(s, points, w, 0, count);
     seedless_pairs::pay_pairs(s, points, w, p.radius, limits, i, all, purse)

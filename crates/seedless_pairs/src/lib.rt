@@ -4,6 +4,8 @@
 use bounds::Bounds;
 use decisions::Scene;
 use filters::Limits;
+ghost use mathlib.Core.Path.{_≡_};
+ghost use mathlib.Core.Bool.{true};
 ghost use Prim.Native.Nat.{_+_, _≤_, _<_};
 ghost use Rattle.nearby.specs.Ready.{Held, Listed};
 ghost use Rattle.three_points.specs.Judged.{Judged};
@@ -11,6 +13,9 @@ ghost use Rattle.seedless_pairs.specs.Pairs.{SeedlessAfter, Later, Pairs
 
 // What it takes to ask of two boxes.
 const BOXED: usize = 3;
+
+// A list of so many points or fewer is gone through pair by pair.
+pub const SHORT: usize = 64;
 
 // Two ranges with so many points or fewer are gone through point by point.
 const FEW: usize = 16;
@@ -80,7 +85,7 @@ fn later(a: usize, b: usize) -> usize
 }
 
 // The same once it is told of each point of a range and the later points of another.
-pub fn pay_each(
+fn pay_each(
     s: Scene,
     points: &[f32],
     w: &[u32],
@@ -111,7 +116,18 @@ pub fn pay_each(
     left
 }
 
-// The same, where ranges whose boxes are refused are passed over.
+// Whether ranges with so many points are halved.
+fn are_halved(points: usize, asks: bool) -> bool
+    ensures { λ r. ⌜ (r ≡ true → 16 < points) ⌝ }
+{
+    if !asks {
+        return false;
+    }
+    FEW < points
+}
+
+// The same, where ranges whose boxes are refused are passed over; parts of ranges are asked only if that is wished for,
+// since it costs more than it saves where none is refused.
 pub fn pay_ranges(
     s: Scene,
     points: &[f32],
@@ -121,6 +137,7 @@ pub fn pay_ranges(
     i: usize,
     first: Range,
     second: Range,
+    asks: bool,
     purse: usize,
 ) -> usize
     requires { ⌜ Ranged s (now points) (now w) radius limits i first second ⌝ }
@@ -141,7 +158,7 @@ pub fn pay_ranges(
     if box_filters::is_refused_within(s.quality_threshold, limits, p, first.bounds, second.bounds) {
         return rest;
     }
-    if x + y <= FEW {
+    if !are_halved(x + y, asks) {
         return pay_each(s, points, w, radius, limits, i, first, second, rest);
     }
     let j = first.from + x / 2;
@@ -150,19 +167,19 @@ pub fn pay_ranges(
     let b = range_of(s, points, w, j, first.to);
     let c = range_of(s, points, w, second.from, k);
     let d = range_of(s, points, w, k, second.to);
-    let ac = pay_ranges(s, points, w, radius, limits, i, a, c, rest);
+    let ac = pay_ranges(s, points, w, radius, limits, i, a, c, asks, rest);
     if ac == 0 {
         return 0;
     }
-    let ad = pay_ranges(s, points, w, radius, limits, i, a, d, ac);
+    let ad = pay_ranges(s, points, w, radius, limits, i, a, d, asks, ac);
     if ad == 0 {
         return 0;
     }
-    let bc = pay_ranges(s, points, w, radius, limits, i, b, c, ad);
+    let bc = pay_ranges(s, points, w, radius, limits, i, b, c, asks, ad);
     if bc == 0 {
         return 0;
     }
-    pay_ranges(s, points, w, radius, limits, i, b, d, bc)
+    pay_ranges(s, points, w, radius, limits, i, b, d, asks, bc)
 }
 
 // Whether the eight listed points from a place on are refused with the eight from another.
@@ -185,7 +202,7 @@ fn are_refused_at(
     box_filters::is_refused_within(s.quality_threshold, limits, p, first.bounds, second.bounds)
 }
 
-// Whether ranges are worth being asked: some of three short pairs are refused.
+// Whether parts of a list are worth being asked: it is not short, and some of three short pairs are refused.
 fn is_worth_asking(
     s: Scene,
     points: &[f32],
@@ -194,8 +211,11 @@ fn is_worth_asking(
     limits: Limits,
     i: usize,
 ) -> bool
-    requires { ⌜ Held s (now points) (now w) × Listed s (now w) count × (i < s .n) × (32 ≤ count) ⌝ }
+    requires { ⌜ Held s (now points) (now w) × Listed s (now w) count × (i < s .n) ⌝ }
 {
+    if count <= SHORT {
+        return false;
+    }
     let quarter = count / 4;
     let half = quarter + quarter;
     let last = half + quarter;
@@ -208,7 +228,7 @@ fn is_worth_asking(
     are_refused_at(s, points, w, count, limits, i, 0, last)
 }
 
-// The same of all pairs of a range, by ranges where that is worth it.
+// The same of all pairs of a range, by parts of it where that is worth it.
 pub fn pay_pairs(
     s: Scene,
     points: &[f32],
@@ -223,12 +243,6 @@ pub fn pay_pairs(
     ensures { λ r. ⌜ (0 < r
         → PairsSeedless s (now (points .entry)) radius (now (w .entry)) i all all) ⌝ }
 {
-    let count = all.to;
-    if count < 32 {
-        return pay_each(s, points, w, radius, limits, i, all, all, purse);
-    }
-    if !is_worth_asking(s, points, w, count, limits, i) {
-        return pay_each(s, points, w, radius, limits, i, all, all, purse);
-    }
-    pay_ranges(s, points, w, radius, limits, i, all, all, purse)
+    let asks = is_worth_asking(s, points, w, all.to, limits, i);
+    pay_ranges(s, points, w, radius, limits, i, all, all, asks, purse)
 }

@@ -8,11 +8,14 @@ use borrow.Author.Needs.{needs}
 use Rattle.filters.proofs.is_sliver_throughout.Statement.{statement}
 use Rattle.filters.proofs.is_sliver_throughout.Tie as tie
 
+returns : tie.Need-returns
+returns c = λ h. absurd (subst T (sym h) tt)
+
 are-numbers-requires : tie.Need-are-numbers-requires
 are-numbers-requires c κs = search needs
 
-returns : tie.Need-returns
-returns c = λ h. absurd (subst T (sym h) tt)
+returns-2 : tie.Need-returns-2
+returns-2 c = λ h. absurd (subst T (sym h) tt)
 
 distance-squared-requires : tie.Need-distance-squared-requires
 distance-squared-requires c κs = search needs
@@ -26,8 +29,8 @@ distance-squared-requires-3 c κs = search needs
 are-at-most-requires : tie.Need-are-at-most-requires
 are-at-most-requires c κs = search needs
 
-returns-2 : tie.Need-returns-2
-returns-2 c = λ h. absurd (subst T (sym h) tt)
+returns-3 : tie.Need-returns-3
+returns-3 c = λ h. absurd (subst T (sym h) tt)
 
 cross-squared-requires : tie.Need-cross-squared-requires
 cross-squared-requires c κs = search needs
@@ -47,8 +50,8 @@ max-requires-2 c κs = search needs
 are-at-most-requires-2 : tie.Need-are-at-most-requires-2
 are-at-most-requires-2 c κs = search needs
 
-returns-3 : tie.Need-returns-3
-returns-3 c = λ h. absurd (subst T (sym h) tt)
+returns-4 : tie.Need-returns-4
+returns-4 c = λ h. absurd (subst T (sym h) tt)
 
 only-requires : tie.Need-only-requires
 only-requires c κs = search needs
@@ -62,8 +65,8 @@ only-requires-3 c κs = search needs
 is-sliver-requires : tie.Need-is-sliver-requires
 is-sliver-requires c κs = search needs
 
-returns-4 : tie.Need-returns-4
-returns-4 c =
+returns-5 : tie.Need-returns-5
+returns-5 c =
     let o = c .before in
     let m = o .before .before .before .before .are-at-most2 in
     let x = o .before .before .before .before .before .before .before in
@@ -72,30 +75,31 @@ returns-4 c =
     let n = d .before .before .before .before .are-numbers in
     λ h.
     sliver-is (f32 0x4c800000) (d .before .before .distance-squared .ensures) (d .before .distance-squared2 .ensures) (d .distance-squared3 .ensures)
-    (x .before .before .cross-squared .ensures) (x .before .cross-squared2 .ensures) (x .cross-squared3 .ensures) (n .ensures (not-false (n .result) (d .before .before .before .if1 .left)))
-    (rw (← k .are-at-most .ensures, not-false (k .are-at-most .result) (x .before .before .before .if2 .left)) tt) (rw (← m .ensures, not-false (m .result) (o .before .before .before .if3 .left)) tt)
+    (x .before .before .cross-squared .ensures) (x .before .cross-squared2 .ensures) (x .cross-squared3 .ensures) (n .ensures (not-false (n .result) (d .before .before .before .if2 .left)))
+    (rw (← k .are-at-most .ensures, not-false (k .are-at-most .result) (x .before .before .before .if3 .left)) tt) (rw (← m .ensures, not-false (m .result) (o .before .before .before .if4 .left)) tt)
     (o .before .before .only .ensures) (o .before .only2 .ensures) (o .only3 .ensures) (c .is-sliver .ensures h)
 
 pub is-sliver-throughout-spec : {M : Type 1} → statement M
 is-sliver-throughout-spec =
     tie.close
     (tie.spec
-    are-numbers-requires
     returns
+    are-numbers-requires
+    returns-2
     distance-squared-requires
     distance-squared-requires-2
     distance-squared-requires-3
     are-at-most-requires
-    returns-2
+    returns-3
     cross-squared-requires
     cross-squared-requires-2
     cross-squared-requires-3
     max-requires
     max-requires-2
     are-at-most-requires-2
-    returns-3
+    returns-4
     only-requires
     only-requires-2
     only-requires-3
     is-sliver-requires
-    returns-4)
+    returns-5)

@@ -22,6 +22,9 @@ part-order-start c = search needs
 part-order-end : tie.Need-part-order-end
 part-order-end c = search needs
 
+halvings-of-requires : tie.Need-halvings-of-requires
+halvings-of-requires c κs = search needs
+
 order-requires : tie.Need-order-requires
 order-requires c κs = search needs
 
@@ -31,9 +34,9 @@ same-length c = search needs
 returns : tie.Need-returns
 returns c =
     let o = c .before .before .order in
-    let g = c .before .before .before .before .before .before .before .pre in
+    let g = c .before .before .before .before .before .before .before .before .pre in
     reordered (g .0 .work-long) (g .1) (o .last .1 .0) (o .ensures)
 
 pub order-listed-spec : {M : Type 1} → statement M
 order-listed-spec =
-    tie.close (tie.spec mul-at add-order mul-order sub-order part-order-start part-order-end order-requires same-length returns)
+    tie.close (tie.spec mul-at add-order mul-order sub-order part-order-start part-order-end halvings-of-requires order-requires same-length returns)

@@ -1,6 +1,7 @@
 -- `pay_ranges` meets its contract. What falls is how many points the two ranges have together. Assumes nothing.
 use native.Mathlib.Omega.{arith}
 use borrow.Author.Needs.{needs}
+use borrow.Author.Tests.{not-false}
 use Rattle.seedless_pairs.proofs.Halves.{listed-fewer, none-later, refused-pairs, ranged, all-parts}
 use Prim.Native.Nat.{ℕ, _+_, _-_, _/_, _<_}
 use borrow.Fn.Kinds.{In}
@@ -10,6 +11,7 @@ use Rattle.seedless_pairs.proofs.pay_ranges.Kinds as pay-ranges-kinds
 use Rattle.seedless_pairs.proofs.+pay_ranges.Lts-pay_ranges as pay-ranges-lts
 use Rattle.box_filters.proofs.is_refused_within.Reads as is-refused-within-reads
 use Rattle.points.proofs.point_at.Reads as point-at-reads
+use Rattle.seedless_pairs.proofs.are_halved.Reads as are-halved-reads
 use Rattle.seedless_pairs.proofs.pay_each.Reads as pay-each-reads
 use Rattle.seedless_pairs.proofs.range_of.Reads as range-of-reads
 use Rattle.seedless_pairs.proofs.+pay_ranges.{statement}
@@ -31,6 +33,8 @@ pay-ranges-returns : (t : ℕ) → pay-ranges-lts.Need-returns (
   point-at-reads.Learnt,
   is-refused-within-reads.Asked,
   is-refused-within-reads.Learnt,
+  are-halved-reads.Asked,
+  are-halved-reads.Learnt,
   pay-each-reads.Asked,
   pay-each-reads.Learnt,
   range-of-reads.Asked,
@@ -45,6 +49,8 @@ pay-ranges-sub-x : (t : ℕ) → pay-ranges-lts.Need-sub-x (
   point-at-reads.Learnt,
   is-refused-within-reads.Asked,
   is-refused-within-reads.Learnt,
+  are-halved-reads.Asked,
+  are-halved-reads.Learnt,
   pay-each-reads.Asked,
   pay-each-reads.Learnt,
   range-of-reads.Asked,
@@ -59,6 +65,8 @@ pay-ranges-sub-y : (t : ℕ) → pay-ranges-lts.Need-sub-y (
   point-at-reads.Learnt,
   is-refused-within-reads.Asked,
   is-refused-within-reads.Learnt,
+  are-halved-reads.Asked,
+  are-halved-reads.Learnt,
   pay-each-reads.Asked,
   pay-each-reads.Learnt,
   range-of-reads.Asked,
@@ -73,6 +81,8 @@ pay-ranges-add-price : (t : ℕ) → pay-ranges-lts.Need-add-price (
   point-at-reads.Learnt,
   is-refused-within-reads.Asked,
   is-refused-within-reads.Learnt,
+  are-halved-reads.Asked,
+  are-halved-reads.Learnt,
   pay-each-reads.Asked,
   pay-each-reads.Learnt,
   range-of-reads.Asked,
@@ -87,6 +97,8 @@ pay-ranges-add-price-2 : (t : ℕ) → pay-ranges-lts.Need-add-price-2 (
   point-at-reads.Learnt,
   is-refused-within-reads.Asked,
   is-refused-within-reads.Learnt,
+  are-halved-reads.Asked,
+  are-halved-reads.Learnt,
   pay-each-reads.Asked,
   pay-each-reads.Learnt,
   range-of-reads.Asked,
@@ -101,6 +113,8 @@ pay-ranges-returns-2 : (t : ℕ) → pay-ranges-lts.Need-returns-2 (
   point-at-reads.Learnt,
   is-refused-within-reads.Asked,
   is-refused-within-reads.Learnt,
+  are-halved-reads.Asked,
+  are-halved-reads.Learnt,
   pay-each-reads.Asked,
   pay-each-reads.Learnt,
   range-of-reads.Asked,
@@ -115,6 +129,8 @@ pay-ranges-sub-rest : (t : ℕ) → pay-ranges-lts.Need-sub-rest (
   point-at-reads.Learnt,
   is-refused-within-reads.Asked,
   is-refused-within-reads.Learnt,
+  are-halved-reads.Asked,
+  are-halved-reads.Learnt,
   pay-each-reads.Asked,
   pay-each-reads.Learnt,
   range-of-reads.Asked,
@@ -129,6 +145,8 @@ pay-ranges-point-at-requires : (t : ℕ) → pay-ranges-lts.Need-point-at-requir
   point-at-reads.Learnt,
   is-refused-within-reads.Asked,
   is-refused-within-reads.Learnt,
+  are-halved-reads.Asked,
+  are-halved-reads.Learnt,
   pay-each-reads.Asked,
   pay-each-reads.Learnt,
   range-of-reads.Asked,
@@ -143,6 +161,8 @@ pay-ranges-is-refused-within-requires : (t : ℕ) → pay-ranges-lts.Need-is-ref
   point-at-reads.Learnt,
   is-refused-within-reads.Asked,
   is-refused-within-reads.Learnt,
+  are-halved-reads.Asked,
+  are-halved-reads.Learnt,
   pay-each-reads.Asked,
   pay-each-reads.Learnt,
   range-of-reads.Asked,
@@ -157,6 +177,8 @@ pay-ranges-returns-3 : (t : ℕ) → pay-ranges-lts.Need-returns-3 (
   point-at-reads.Learnt,
   is-refused-within-reads.Asked,
   is-refused-within-reads.Learnt,
+  are-halved-reads.Asked,
+  are-halved-reads.Learnt,
   pay-each-reads.Asked,
   pay-each-reads.Learnt,
   range-of-reads.Asked,
@@ -166,11 +188,13 @@ pay-ranges-returns-3 : (t : ℕ) → pay-ranges-lts.Need-returns-3 (
 ) (pay-ranges-at t) pay-ranges.Post
 pay-ranges-returns-3 t c = let g = c .before .before .before .before .before .before .before .before .before .before .before .pre .1 in λ _. refused-pairs g (c .before .before .before .before .before .before .before .before .before .before .shared-slice-known .given) (c .before .before .point-at .ensures) (c .before .is-refused-within .ensures (c .if3 .taken))
 
-pay-ranges-add-if4 : (t : ℕ) → pay-ranges-lts.Need-add-if4 (
+pay-ranges-add-are-halved : (t : ℕ) → pay-ranges-lts.Need-add-are-halved (
   point-at-reads.Asked,
   point-at-reads.Learnt,
   is-refused-within-reads.Asked,
   is-refused-within-reads.Learnt,
+  are-halved-reads.Asked,
+  are-halved-reads.Learnt,
   pay-each-reads.Asked,
   pay-each-reads.Learnt,
   range-of-reads.Asked,
@@ -178,13 +202,31 @@ pay-ranges-add-if4 : (t : ℕ) → pay-ranges-lts.Need-add-if4 (
   pay-ranges-below t,
   pay-ranges.Post,
 ) (pay-ranges-at t) pay-ranges.Post
-pay-ranges-add-if4 t c = let g = c .before .before .before .before .before .before .before .before .before .before .before .pre .1 in omega (arith, g .first-in .rises, g .second-in .rises, g .first-in .listed .most, g .second-in .listed .most, g .held .few)
+pay-ranges-add-are-halved t c = let g = c .before .before .before .before .before .before .before .before .before .before .before .pre .1 in omega (arith, g .first-in .rises, g .second-in .rises, g .first-in .listed .most, g .second-in .listed .most, g .held .few)
+
+pay-ranges-are-halved-requires : (t : ℕ) → pay-ranges-lts.Need-are-halved-requires (
+  point-at-reads.Asked,
+  point-at-reads.Learnt,
+  is-refused-within-reads.Asked,
+  is-refused-within-reads.Learnt,
+  are-halved-reads.Asked,
+  are-halved-reads.Learnt,
+  pay-each-reads.Asked,
+  pay-each-reads.Learnt,
+  range-of-reads.Asked,
+  range-of-reads.Learnt,
+  pay-ranges-below t,
+  pay-ranges.Post,
+) (pay-ranges-at t) pay-ranges.Post
+pay-ranges-are-halved-requires t c κs = search needs
 
 pay-ranges-pay-each-requires : (t : ℕ) → pay-ranges-lts.Need-pay-each-requires (
   point-at-reads.Asked,
   point-at-reads.Learnt,
   is-refused-within-reads.Asked,
   is-refused-within-reads.Learnt,
+  are-halved-reads.Asked,
+  are-halved-reads.Learnt,
   pay-each-reads.Asked,
   pay-each-reads.Learnt,
   range-of-reads.Asked,
@@ -192,13 +234,15 @@ pay-ranges-pay-each-requires : (t : ℕ) → pay-ranges-lts.Need-pay-each-requir
   pay-ranges-below t,
   pay-ranges.Post,
 ) (pay-ranges-at t) pay-ranges.Post
-pay-ranges-pay-each-requires t c κs = c .before .before .before .before .before .before .before .before .before .before .before .before .pre .1
+pay-ranges-pay-each-requires t c κs = c .before .before .before .before .before .before .before .before .before .before .before .before .before .pre .1
 
 pay-ranges-returns-4 : (t : ℕ) → pay-ranges-lts.Need-returns-4 (
   point-at-reads.Asked,
   point-at-reads.Learnt,
   is-refused-within-reads.Asked,
   is-refused-within-reads.Learnt,
+  are-halved-reads.Asked,
+  are-halved-reads.Learnt,
   pay-each-reads.Asked,
   pay-each-reads.Learnt,
   range-of-reads.Asked,
@@ -213,6 +257,8 @@ pay-ranges-add-j : (t : ℕ) → pay-ranges-lts.Need-add-j (
   point-at-reads.Learnt,
   is-refused-within-reads.Asked,
   is-refused-within-reads.Learnt,
+  are-halved-reads.Asked,
+  are-halved-reads.Learnt,
   pay-each-reads.Asked,
   pay-each-reads.Learnt,
   range-of-reads.Asked,
@@ -220,13 +266,15 @@ pay-ranges-add-j : (t : ℕ) → pay-ranges-lts.Need-add-j (
   pay-ranges-below t,
   pay-ranges.Post,
 ) (pay-ranges-at t) pay-ranges.Post
-pay-ranges-add-j t c = let g = c .before .before .before .before .before .before .before .before .before .before .before .before .before .pre .1 in omega (arith, g .first-in .rises, g .second-in .rises, g .first-in .listed .most, g .second-in .listed .most, g .held .few)
+pay-ranges-add-j t c = let g = c .before .before .before .before .before .before .before .before .before .before .before .before .before .before .pre .1 in omega (arith, g .first-in .rises, g .second-in .rises, g .first-in .listed .most, g .second-in .listed .most, g .held .few)
 
 pay-ranges-add-k : (t : ℕ) → pay-ranges-lts.Need-add-k (
   point-at-reads.Asked,
   point-at-reads.Learnt,
   is-refused-within-reads.Asked,
   is-refused-within-reads.Learnt,
+  are-halved-reads.Asked,
+  are-halved-reads.Learnt,
   pay-each-reads.Asked,
   pay-each-reads.Learnt,
   range-of-reads.Asked,
@@ -234,13 +282,15 @@ pay-ranges-add-k : (t : ℕ) → pay-ranges-lts.Need-add-k (
   pay-ranges-below t,
   pay-ranges.Post,
 ) (pay-ranges-at t) pay-ranges.Post
-pay-ranges-add-k t c = let g = c .before .before .before .before .before .before .before .before .before .before .before .before .before .before .pre .1 in omega (arith, g .first-in .rises, g .second-in .rises, g .first-in .listed .most, g .second-in .listed .most, g .held .few)
+pay-ranges-add-k t c = let g = c .before .before .before .before .before .before .before .before .before .before .before .before .before .before .before .pre .1 in omega (arith, g .first-in .rises, g .second-in .rises, g .first-in .listed .most, g .second-in .listed .most, g .held .few)
 
 pay-ranges-range-of-requires : (t : ℕ) → pay-ranges-lts.Need-range-of-requires (
   point-at-reads.Asked,
   point-at-reads.Learnt,
   is-refused-within-reads.Asked,
   is-refused-within-reads.Learnt,
+  are-halved-reads.Asked,
+  are-halved-reads.Learnt,
   pay-each-reads.Asked,
   pay-each-reads.Learnt,
   range-of-reads.Asked,
@@ -248,13 +298,15 @@ pay-ranges-range-of-requires : (t : ℕ) → pay-ranges-lts.Need-range-of-requir
   pay-ranges-below t,
   pay-ranges.Post,
 ) (pay-ranges-at t) pay-ranges.Post
-pay-ranges-range-of-requires t c κs = let g = c .before .before .before .before .before .before .before .before .before .before .before .before .before .before .pre .1 in let f = c .before .before .before .before .before .before .before .before .before .before .before .before .before .before .args .first in let h = c .before .before .before .before .before .before .before .before .before .before .before .before .before .before .args .second in let j = f .from + (f .to - f .from) / 2 in let k = h .from + (h .to - h .from) / 2 in (g .held, omega arith, listed-fewer j (omega (arith, g .first-in .rises)) (g .first-in .listed))
+pay-ranges-range-of-requires t c κs = let g = c .before .before .before .before .before .before .before .before .before .before .before .before .before .before .before .pre .1 in let f = c .before .before .before .before .before .before .before .before .before .before .before .before .before .before .before .args .first in let h = c .before .before .before .before .before .before .before .before .before .before .before .before .before .before .before .args .second in let j = f .from + (f .to - f .from) / 2 in let k = h .from + (h .to - h .from) / 2 in (g .held, omega arith, listed-fewer j (omega (arith, g .first-in .rises)) (g .first-in .listed))
 
 pay-ranges-range-of-requires-2 : (t : ℕ) → pay-ranges-lts.Need-range-of-requires-2 (
   point-at-reads.Asked,
   point-at-reads.Learnt,
   is-refused-within-reads.Asked,
   is-refused-within-reads.Learnt,
+  are-halved-reads.Asked,
+  are-halved-reads.Learnt,
   pay-each-reads.Asked,
   pay-each-reads.Learnt,
   range-of-reads.Asked,
@@ -262,13 +314,15 @@ pay-ranges-range-of-requires-2 : (t : ℕ) → pay-ranges-lts.Need-range-of-requ
   pay-ranges-below t,
   pay-ranges.Post,
 ) (pay-ranges-at t) pay-ranges.Post
-pay-ranges-range-of-requires-2 t c κs = let g = c .before .before .before .before .before .before .before .before .before .before .before .before .before .before .before .pre .1 in let f = c .before .before .before .before .before .before .before .before .before .before .before .before .before .before .before .args .first in let h = c .before .before .before .before .before .before .before .before .before .before .before .before .before .before .before .args .second in let j = f .from + (f .to - f .from) / 2 in let k = h .from + (h .to - h .from) / 2 in (g .held, omega (arith, g .first-in .rises), g .first-in .listed)
+pay-ranges-range-of-requires-2 t c κs = let g = c .before .before .before .before .before .before .before .before .before .before .before .before .before .before .before .before .pre .1 in let f = c .before .before .before .before .before .before .before .before .before .before .before .before .before .before .before .before .args .first in let h = c .before .before .before .before .before .before .before .before .before .before .before .before .before .before .before .before .args .second in let j = f .from + (f .to - f .from) / 2 in let k = h .from + (h .to - h .from) / 2 in (g .held, omega (arith, g .first-in .rises), g .first-in .listed)
 
 pay-ranges-range-of-requires-3 : (t : ℕ) → pay-ranges-lts.Need-range-of-requires-3 (
   point-at-reads.Asked,
   point-at-reads.Learnt,
   is-refused-within-reads.Asked,
   is-refused-within-reads.Learnt,
+  are-halved-reads.Asked,
+  are-halved-reads.Learnt,
   pay-each-reads.Asked,
   pay-each-reads.Learnt,
   range-of-reads.Asked,
@@ -276,13 +330,15 @@ pay-ranges-range-of-requires-3 : (t : ℕ) → pay-ranges-lts.Need-range-of-requ
   pay-ranges-below t,
   pay-ranges.Post,
 ) (pay-ranges-at t) pay-ranges.Post
-pay-ranges-range-of-requires-3 t c κs = let g = c .before .before .before .before .before .before .before .before .before .before .before .before .before .before .before .before .pre .1 in let f = c .before .before .before .before .before .before .before .before .before .before .before .before .before .before .before .before .args .first in let h = c .before .before .before .before .before .before .before .before .before .before .before .before .before .before .before .before .args .second in let j = f .from + (f .to - f .from) / 2 in let k = h .from + (h .to - h .from) / 2 in (g .held, omega arith, listed-fewer k (omega (arith, g .second-in .rises)) (g .second-in .listed))
+pay-ranges-range-of-requires-3 t c κs = let g = c .before .before .before .before .before .before .before .before .before .before .before .before .before .before .before .before .before .pre .1 in let f = c .before .before .before .before .before .before .before .before .before .before .before .before .before .before .before .before .before .args .first in let h = c .before .before .before .before .before .before .before .before .before .before .before .before .before .before .before .before .before .args .second in let j = f .from + (f .to - f .from) / 2 in let k = h .from + (h .to - h .from) / 2 in (g .held, omega arith, listed-fewer k (omega (arith, g .second-in .rises)) (g .second-in .listed))
 
 pay-ranges-range-of-requires-4 : (t : ℕ) → pay-ranges-lts.Need-range-of-requires-4 (
   point-at-reads.Asked,
   point-at-reads.Learnt,
   is-refused-within-reads.Asked,
   is-refused-within-reads.Learnt,
+  are-halved-reads.Asked,
+  are-halved-reads.Learnt,
   pay-each-reads.Asked,
   pay-each-reads.Learnt,
   range-of-reads.Asked,
@@ -290,13 +346,15 @@ pay-ranges-range-of-requires-4 : (t : ℕ) → pay-ranges-lts.Need-range-of-requ
   pay-ranges-below t,
   pay-ranges.Post,
 ) (pay-ranges-at t) pay-ranges.Post
-pay-ranges-range-of-requires-4 t c κs = let g = c .before .before .before .before .before .before .before .before .before .before .before .before .before .before .before .before .before .pre .1 in let f = c .before .before .before .before .before .before .before .before .before .before .before .before .before .before .before .before .before .args .first in let h = c .before .before .before .before .before .before .before .before .before .before .before .before .before .before .before .before .before .args .second in let j = f .from + (f .to - f .from) / 2 in let k = h .from + (h .to - h .from) / 2 in (g .held, omega (arith, g .second-in .rises), g .second-in .listed)
+pay-ranges-range-of-requires-4 t c κs = let g = c .before .before .before .before .before .before .before .before .before .before .before .before .before .before .before .before .before .before .pre .1 in let f = c .before .before .before .before .before .before .before .before .before .before .before .before .before .before .before .before .before .before .args .first in let h = c .before .before .before .before .before .before .before .before .before .before .before .before .before .before .before .before .before .before .args .second in let j = f .from + (f .to - f .from) / 2 in let k = h .from + (h .to - h .from) / 2 in (g .held, omega (arith, g .second-in .rises), g .second-in .listed)
 
 pay-ranges-pay-ranges-requires : (t : ℕ) → pay-ranges-lts.Need-pay-ranges-requires (
   point-at-reads.Asked,
   point-at-reads.Learnt,
   is-refused-within-reads.Asked,
   is-refused-within-reads.Learnt,
+  are-halved-reads.Asked,
+  are-halved-reads.Learnt,
   pay-each-reads.Asked,
   pay-each-reads.Learnt,
   range-of-reads.Asked,
@@ -304,13 +362,15 @@ pay-ranges-pay-ranges-requires : (t : ℕ) → pay-ranges-lts.Need-pay-ranges-re
   pay-ranges-below t,
   pay-ranges.Post,
 ) (pay-ranges-at t) pay-ranges.Post
-pay-ranges-pay-ranges-requires t c κs = let g = c .before .before .before .before .before .before .before .before .before .before .before .before .before .before .before .before .before .before .pre .1 in let f = c .before .before .before .before .before .before .before .before .before .before .before .before .before .before .before .before .before .before .args .first in let h = c .before .before .before .before .before .before .before .before .before .before .before .before .before .before .before .before .before .before .args .second in let j = f .from + (f .to - f .from) / 2 in let k = h .from + (h .to - h .from) / 2 in let a = c .before .before .before .range-of .ensures in let b = c .before .range-of3 .ensures in let long = c .before .before .before .before .before .before .if4 .left in (omega (arith, c .before .before .before .before .before .before .before .before .before .before .before .before .before .before .before .before .before .before .pre .0, a .from-is, a .to-is, b .from-is, b .to-is, g .first-in .rises, g .second-in .rises), ranged g (a .in-range) (b .in-range))
+pay-ranges-pay-ranges-requires t c κs = let g = c .before .before .before .before .before .before .before .before .before .before .before .before .before .before .before .before .before .before .before .pre .1 in let f = c .before .before .before .before .before .before .before .before .before .before .before .before .before .before .before .before .before .before .before .args .first in let h = c .before .before .before .before .before .before .before .before .before .before .before .before .before .before .before .before .before .before .before .args .second in let j = f .from + (f .to - f .from) / 2 in let k = h .from + (h .to - h .from) / 2 in let a = c .before .before .before .range-of .ensures in let b = c .before .range-of3 .ensures in let long = c .before .before .before .before .before .before .before .are-halved .ensures (not-false _ (c .before .before .before .before .before .before .if4 .left)) in (omega (arith, c .before .before .before .before .before .before .before .before .before .before .before .before .before .before .before .before .before .before .before .pre .0, a .from-is, a .to-is, b .from-is, b .to-is, g .first-in .rises, g .second-in .rises), ranged g (a .in-range) (b .in-range))
 
 pay-ranges-returns-5 : (t : ℕ) → pay-ranges-lts.Need-returns-5 (
   point-at-reads.Asked,
   point-at-reads.Learnt,
   is-refused-within-reads.Asked,
   is-refused-within-reads.Learnt,
+  are-halved-reads.Asked,
+  are-halved-reads.Learnt,
   pay-each-reads.Asked,
   pay-each-reads.Learnt,
   range-of-reads.Asked,
@@ -325,6 +385,8 @@ pay-ranges-pay-ranges-requires-2 : (t : ℕ) → pay-ranges-lts.Need-pay-ranges-
   point-at-reads.Learnt,
   is-refused-within-reads.Asked,
   is-refused-within-reads.Learnt,
+  are-halved-reads.Asked,
+  are-halved-reads.Learnt,
   pay-each-reads.Asked,
   pay-each-reads.Learnt,
   range-of-reads.Asked,
@@ -332,13 +394,15 @@ pay-ranges-pay-ranges-requires-2 : (t : ℕ) → pay-ranges-lts.Need-pay-ranges-
   pay-ranges-below t,
   pay-ranges.Post,
 ) (pay-ranges-at t) pay-ranges.Post
-pay-ranges-pay-ranges-requires-2 t c κs = let g = c .before .before .before .before .before .before .before .before .before .before .before .before .before .before .before .before .before .before .before .before .pre .1 in let f = c .before .before .before .before .before .before .before .before .before .before .before .before .before .before .before .before .before .before .before .before .args .first in let h = c .before .before .before .before .before .before .before .before .before .before .before .before .before .before .before .before .before .before .before .before .args .second in let j = f .from + (f .to - f .from) / 2 in let k = h .from + (h .to - h .from) / 2 in let a = c .before .before .before .before .before .range-of .ensures in let b = c .before .before .range-of4 .ensures in let long = c .before .before .before .before .before .before .before .before .if4 .left in (omega (arith, c .before .before .before .before .before .before .before .before .before .before .before .before .before .before .before .before .before .before .before .before .pre .0, a .from-is, a .to-is, b .from-is, b .to-is, g .first-in .rises, g .second-in .rises), ranged g (a .in-range) (b .in-range))
+pay-ranges-pay-ranges-requires-2 t c κs = let g = c .before .before .before .before .before .before .before .before .before .before .before .before .before .before .before .before .before .before .before .before .before .pre .1 in let f = c .before .before .before .before .before .before .before .before .before .before .before .before .before .before .before .before .before .before .before .before .before .args .first in let h = c .before .before .before .before .before .before .before .before .before .before .before .before .before .before .before .before .before .before .before .before .before .args .second in let j = f .from + (f .to - f .from) / 2 in let k = h .from + (h .to - h .from) / 2 in let a = c .before .before .before .before .before .range-of .ensures in let b = c .before .before .range-of4 .ensures in let long = c .before .before .before .before .before .before .before .before .before .are-halved .ensures (not-false _ (c .before .before .before .before .before .before .before .before .if4 .left)) in (omega (arith, c .before .before .before .before .before .before .before .before .before .before .before .before .before .before .before .before .before .before .before .before .before .pre .0, a .from-is, a .to-is, b .from-is, b .to-is, g .first-in .rises, g .second-in .rises), ranged g (a .in-range) (b .in-range))
 
 pay-ranges-returns-6 : (t : ℕ) → pay-ranges-lts.Need-returns-6 (
   point-at-reads.Asked,
   point-at-reads.Learnt,
   is-refused-within-reads.Asked,
   is-refused-within-reads.Learnt,
+  are-halved-reads.Asked,
+  are-halved-reads.Learnt,
   pay-each-reads.Asked,
   pay-each-reads.Learnt,
   range-of-reads.Asked,
@@ -353,6 +417,8 @@ pay-ranges-pay-ranges-requires-3 : (t : ℕ) → pay-ranges-lts.Need-pay-ranges-
   point-at-reads.Learnt,
   is-refused-within-reads.Asked,
   is-refused-within-reads.Learnt,
+  are-halved-reads.Asked,
+  are-halved-reads.Learnt,
   pay-each-reads.Asked,
   pay-each-reads.Learnt,
   range-of-reads.Asked,
@@ -360,13 +426,15 @@ pay-ranges-pay-ranges-requires-3 : (t : ℕ) → pay-ranges-lts.Need-pay-ranges-
   pay-ranges-below t,
   pay-ranges.Post,
 ) (pay-ranges-at t) pay-ranges.Post
-pay-ranges-pay-ranges-requires-3 t c κs = let g = c .before .before .before .before .before .before .before .before .before .before .before .before .before .before .before .before .before .before .before .before .before .before .pre .1 in let f = c .before .before .before .before .before .before .before .before .before .before .before .before .before .before .before .before .before .before .before .before .before .before .args .first in let h = c .before .before .before .before .before .before .before .before .before .before .before .before .before .before .before .before .before .before .before .before .before .before .args .second in let j = f .from + (f .to - f .from) / 2 in let k = h .from + (h .to - h .from) / 2 in let a = c .before .before .before .before .before .before .range-of2 .ensures in let b = c .before .before .before .before .before .range-of3 .ensures in let long = c .before .before .before .before .before .before .before .before .before .before .if4 .left in (omega (arith, c .before .before .before .before .before .before .before .before .before .before .before .before .before .before .before .before .before .before .before .before .before .before .pre .0, a .from-is, a .to-is, b .from-is, b .to-is, g .first-in .rises, g .second-in .rises), ranged g (a .in-range) (b .in-range))
+pay-ranges-pay-ranges-requires-3 t c κs = let g = c .before .before .before .before .before .before .before .before .before .before .before .before .before .before .before .before .before .before .before .before .before .before .before .pre .1 in let f = c .before .before .before .before .before .before .before .before .before .before .before .before .before .before .before .before .before .before .before .before .before .before .before .args .first in let h = c .before .before .before .before .before .before .before .before .before .before .before .before .before .before .before .before .before .before .before .before .before .before .before .args .second in let j = f .from + (f .to - f .from) / 2 in let k = h .from + (h .to - h .from) / 2 in let a = c .before .before .before .before .before .before .range-of2 .ensures in let b = c .before .before .before .before .before .range-of3 .ensures in let long = c .before .before .before .before .before .before .before .before .before .before .before .are-halved .ensures (not-false _ (c .before .before .before .before .before .before .before .before .before .before .if4 .left)) in (omega (arith, c .before .before .before .before .before .before .before .before .before .before .before .before .before .before .before .before .before .before .before .before .before .before .before .pre .0, a .from-is, a .to-is, b .from-is, b .to-is, g .first-in .rises, g .second-in .rises), ranged g (a .in-range) (b .in-range))
 
 pay-ranges-returns-7 : (t : ℕ) → pay-ranges-lts.Need-returns-7 (
   point-at-reads.Asked,
   point-at-reads.Learnt,
   is-refused-within-reads.Asked,
   is-refused-within-reads.Learnt,
+  are-halved-reads.Asked,
+  are-halved-reads.Learnt,
   pay-each-reads.Asked,
   pay-each-reads.Learnt,
   range-of-reads.Asked,
@@ -381,6 +449,8 @@ pay-ranges-pay-ranges-requires-4 : (t : ℕ) → pay-ranges-lts.Need-pay-ranges-
   point-at-reads.Learnt,
   is-refused-within-reads.Asked,
   is-refused-within-reads.Learnt,
+  are-halved-reads.Asked,
+  are-halved-reads.Learnt,
   pay-each-reads.Asked,
   pay-each-reads.Learnt,
   range-of-reads.Asked,
@@ -388,13 +458,15 @@ pay-ranges-pay-ranges-requires-4 : (t : ℕ) → pay-ranges-lts.Need-pay-ranges-
   pay-ranges-below t,
   pay-ranges.Post,
 ) (pay-ranges-at t) pay-ranges.Post
-pay-ranges-pay-ranges-requires-4 t c κs = let g = c .before .before .before .before .before .before .before .before .before .before .before .before .before .before .before .before .before .before .before .before .before .before .before .before .pre .1 in let f = c .before .before .before .before .before .before .before .before .before .before .before .before .before .before .before .before .before .before .before .before .before .before .before .before .args .first in let h = c .before .before .before .before .before .before .before .before .before .before .before .before .before .before .before .before .before .before .before .before .before .before .before .before .args .second in let j = f .from + (f .to - f .from) / 2 in let k = h .from + (h .to - h .from) / 2 in let a = c .before .before .before .before .before .before .before .before .range-of2 .ensures in let b = c .before .before .before .before .before .before .range-of4 .ensures in let long = c .before .before .before .before .before .before .before .before .before .before .before .before .if4 .left in (omega (arith, c .before .before .before .before .before .before .before .before .before .before .before .before .before .before .before .before .before .before .before .before .before .before .before .before .pre .0, a .from-is, a .to-is, b .from-is, b .to-is, g .first-in .rises, g .second-in .rises), ranged g (a .in-range) (b .in-range))
+pay-ranges-pay-ranges-requires-4 t c κs = let g = c .before .before .before .before .before .before .before .before .before .before .before .before .before .before .before .before .before .before .before .before .before .before .before .before .before .pre .1 in let f = c .before .before .before .before .before .before .before .before .before .before .before .before .before .before .before .before .before .before .before .before .before .before .before .before .before .args .first in let h = c .before .before .before .before .before .before .before .before .before .before .before .before .before .before .before .before .before .before .before .before .before .before .before .before .before .args .second in let j = f .from + (f .to - f .from) / 2 in let k = h .from + (h .to - h .from) / 2 in let a = c .before .before .before .before .before .before .before .before .range-of2 .ensures in let b = c .before .before .before .before .before .before .range-of4 .ensures in let long = c .before .before .before .before .before .before .before .before .before .before .before .before .before .are-halved .ensures (not-false _ (c .before .before .before .before .before .before .before .before .before .before .before .before .if4 .left)) in (omega (arith, c .before .before .before .before .before .before .before .before .before .before .before .before .before .before .before .before .before .before .before .before .before .before .before .before .before .pre .0, a .from-is, a .to-is, b .from-is, b .to-is, g .first-in .rises, g .second-in .rises), ranged g (a .in-range) (b .in-range))
 
 pay-ranges-returns-8 : (t : ℕ) → pay-ranges-lts.Need-returns-8 (
   point-at-reads.Asked,
   point-at-reads.Learnt,
   is-refused-within-reads.Asked,
   is-refused-within-reads.Learnt,
+  are-halved-reads.Asked,
+  are-halved-reads.Learnt,
   pay-each-reads.Asked,
   pay-each-reads.Learnt,
   range-of-reads.Asked,
@@ -402,7 +474,7 @@ pay-ranges-returns-8 : (t : ℕ) → pay-ranges-lts.Need-returns-8 (
   pay-ranges-below t,
   pay-ranges.Post,
 ) (pay-ranges-at t) pay-ranges.Post
-pay-ranges-returns-8 t c = let g = c .before .before .before .before .before .before .before .before .before .before .before .before .before .before .before .before .before .before .before .before .before .before .before .before .before .pre .1 in let f = c .before .before .before .before .before .before .before .before .before .before .before .before .before .before .before .before .before .before .before .before .before .before .before .before .before .args .first in let h = c .before .before .before .before .before .before .before .before .before .before .before .before .before .before .before .before .before .before .before .before .before .before .before .before .before .args .second in let j = f .from + (f .to - f .from) / 2 in let k = h .from + (h .to - h .from) / 2 in let p = c .before .before .before .before .before .if5 .left in let q = c .before .before .before .if6 .left in let s = c .before .if7 .left in λ e. all-parts g j k (c .before .before .before .before .before .before .before .before .before .before .range-of .ensures) (c .before .before .before .before .before .before .before .before .before .range-of2 .ensures) (c .before .before .before .before .before .before .before .before .range-of3 .ensures) (c .before .before .before .before .before .before .before .range-of4 .ensures) (c .before .before .before .before .before .before .pay-ranges .ensures (omega arith)) (c .before .before .before .before .pay-ranges2 .ensures (omega arith)) (c .before .before .pay-ranges3 .ensures (omega arith)) (c .pay-ranges4 .ensures e)
+pay-ranges-returns-8 t c = let g = c .before .before .before .before .before .before .before .before .before .before .before .before .before .before .before .before .before .before .before .before .before .before .before .before .before .before .pre .1 in let f = c .before .before .before .before .before .before .before .before .before .before .before .before .before .before .before .before .before .before .before .before .before .before .before .before .before .before .args .first in let h = c .before .before .before .before .before .before .before .before .before .before .before .before .before .before .before .before .before .before .before .before .before .before .before .before .before .before .args .second in let j = f .from + (f .to - f .from) / 2 in let k = h .from + (h .to - h .from) / 2 in let p = c .before .before .before .before .before .if5 .left in let q = c .before .before .before .if6 .left in let s = c .before .if7 .left in λ e. all-parts g j k (c .before .before .before .before .before .before .before .before .before .before .range-of .ensures) (c .before .before .before .before .before .before .before .before .before .range-of2 .ensures) (c .before .before .before .before .before .before .before .before .range-of3 .ensures) (c .before .before .before .before .before .before .before .range-of4 .ensures) (c .before .before .before .before .before .before .pay-ranges .ensures (omega arith)) (c .before .before .before .before .pay-ranges2 .ensures (omega arith)) (c .before .before .pay-ranges3 .ensures (omega arith)) (c .pay-ranges4 .ensures e)
 
 pub +pay-ranges-spec : {M : Type 1} → statement M
 +pay-ranges-spec = close μ-pay-ranges λ t. pay-ranges-lts.spec (
@@ -410,6 +482,8 @@ pub +pay-ranges-spec : {M : Type 1} → statement M
   point-at-reads.Learnt,
   is-refused-within-reads.Asked,
   is-refused-within-reads.Learnt,
+  are-halved-reads.Asked,
+  are-halved-reads.Learnt,
   pay-each-reads.Asked,
   pay-each-reads.Learnt,
   range-of-reads.Asked,
@@ -429,7 +503,8 @@ pub +pay-ranges-spec : {M : Type 1} → statement M
     (pay-ranges-point-at-requires t)
     (pay-ranges-is-refused-within-requires t)
     (pay-ranges-returns-3 t)
-    (pay-ranges-add-if4 t)
+    (pay-ranges-add-are-halved t)
+    (pay-ranges-are-halved-requires t)
     (pay-ranges-pay-each-requires t)
     (pay-ranges-returns-4 t)
     (pay-ranges-add-j t)
