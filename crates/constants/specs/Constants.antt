@@ -67,7 +67,7 @@ pub record Constants : Type 0 where
   pub high-square : f32 0x5d800000 ≡ decimal (2 ^ 60) 1
   pub low-bound : f32 0x3b000000 ≡ decimal 1 (2 ^ 9)
   pub low-limit : f32 0x35800000 ≡ decimal 1 (2 ^ 20)
-  -- the least square of an edge there, see `long_edges`
+  -- the least square of an edge there, and in `long_edges` and `cosines`
   pub low-edge : f32 0x2b800000 ≡ decimal 1 (2 ^ 40)
   -- the squares of the larger ratios of edges, and what they take off the limit, see `cosines`
   pub ratio-16 : f32 0x43800000 ≡ decimal (16 ^ 2) 1

@@ -181,7 +181,7 @@ passed-swapped {A} {B} {C} {X} {t} p = record {
 pub record Edge (x : Float) : Type 0 where
   pub n : ℕ
   pub held : T (fits binary32 x)
-  pub is : Units x n 123 175
+  pub is : Units x n 109 175
 
 pub record Cross (x : Float) : Type 0 where
   pub n : ℕ
@@ -227,19 +227,19 @@ module _ (a b c x t α : Float) (ea : Edge a) (eb : Edge b) (ec : Edge c) (ex : 
   ratio-le =
       let w : ℕ = 2 ^ 149 in
       let W : 0 < w = pow-pos 149 in
-      let ra = root-units 135 163 (ea .held) (ea .is) tt in
-      let rb = root-units 135 163 (eb .held) (eb .is) tt in
-      let rc = root-units 135 163 (ec .held) (ec .is) tt in
+      let ra = root-units 128 163 (ea .held) (ea .is) tt in
+      let rb = root-units 128 163 (eb .held) (eb .is) tt in
+      let rc = root-units 128 163 (ec .held) (ec .is) tt in
       let rx = root-units 115 180 (ex .held) (ex .is) tt in
       let g = mul-units 114 179 (rx .is) half-units tt in
-      let s1 = add-units 135 164 (ra .is) (rb .is) tt tt in
-      let s = add-units 135 165 (s1 .is) (rc .is) tt tt in
-      let h = mul-units 134 164 (s .is) half-units tt in
-      let q = div-units 99 194 (g .is) (h .is) tt in
-      let p1 = mul-units 121 177 (ra .is) (rb .is) tt in
-      let p = mul-units 107 191 (p1 .is) (rc .is) tt in
+      let s1 = add-units 128 164 (ra .is) (rb .is) tt tt in
+      let s = add-units 128 165 (s1 .is) (rc .is) tt tt in
+      let h = mul-units 127 164 (s .is) half-units tt in
+      let q = div-units 99 201 (g .is) (h .is) tt in
+      let p1 = mul-units 107 177 (ra .is) (rb .is) tt in
+      let p = mul-units 86 191 (p1 .is) (rc .is) tt in
       let f = mul-units 116 181 four-units (g .is) tt in
-      let ρ = div-units 75 224 (p .is) (f .is) tt in
+      let ρ = div-units 54 224 (p .is) (f .is) tt in
       let u = bound-units α (k .held) (k .low) (k .high) in
       let over = above-bar w (ex .n) (rx .n) (g .n) (h .n) (f .n) (q .n) (rx .below) (half-below w (2 ^ 148) (g .n) (rx .n) W refl (g .below)) (q .below) (times-below w (2 ^ 151) 4 (f .n) (g .n) W refl (f .below)) in
       let pairs = lengths-sum w (ea .n) (eb .n) (ec .n) (passed .l) (passed .m) (passed .n) (ra .n) (rb .n) (rc .n) (ra .above) (rb .above) (rc .above)

@@ -2,16 +2,18 @@
 use mathlib.Core.Logic.{inl, inr}
 use mathlib.Core.Path.{_≡_, refl, sym, ap, subst}
 use Prim.Native.Nat.{ℕ, zero, suc, _+_, _*_, _^_, _≤_, _<_}
-use native.Mathlib.Nat.{mul-pos, mul-le-mul-right, le-of-mul-le-mul-right}
+use native.Mathlib.Nat.{le-of-eq, mul-pos, mul-le-mul, mul-le-mul-right, le-of-mul-le-mul-right}
+use native.Mathlib.Nat as nat
+use native.Mathlib.Decide.{decLe}
 use native.Mathlib.Omega.{arith}
 use native.Mathlib.Bridge.{IsLe, le-by-compare}
-use mathlib.Core.Bool.{Bool, true, false, not}
-use lib.Dec.{T, leb→le}
-use lib.Pow.{pow-pos}
-use lib.Ieee.{Float, nan, inf, fin, binary32, up, down, neg, mul, lt, le, fits, isNan, ofBits}
+use mathlib.Core.Bool.{Bool, true, false, not, _&&_}
+use lib.Dec.{T, leb, leb→le}
+use lib.Pow.{pow-add, pow-pos, pow-mono}
+use lib.Ieee.{Float, nan, inf, fin, binary32, up, down, round, neg, mul, lt, le, fits, isNan, ofBits}
 use lib.Ieee.Fits.{and-i, and-l, and-r}
-use lib.Ieee.Order.{le-of-values}
-use lib.Ieee.Positive.{num, den, value→cross}
+use lib.Ieee.Order.{le-of-values, round-mono}
+use lib.Ieee.Positive.{num, den, value→cross, mul-at}
 use Rattle.numbers.specs.Rounded.{f32, _⊗_}
 use Rattle.numbers.specs.Root.{root}
 use Rattle.numbers.proofs.OrderLaws.{le-left, le-right, le-refl, lt-le, le-or-lt, le-not-lt, not-lt-le, le-trans, unsigned-le}
@@ -20,7 +22,7 @@ use Rattle.area_bounds.specs.AreaBound.{AreaLimit}
 use Rattle.area_bounds.proofs.AreaBound as area
 use Rattle.thin.specs.Thin.{between, isPlain, spread, Quartered, ThinLimit, Thin, AllThin, LongerThan, ThinUpTo}
 use Rattle.rounding_errors.proofs.Near.{Near, near-eq, near-trans, near-mul, near-add, near-self, near-more, near-times, near-cancel, near-within}
-use Rattle.rounding_errors.proofs.Rounding.{Units}
+use Rattle.rounding_errors.proofs.Rounding.{Units, units-positive, Rounded, round-units}
 use Rattle.rounding_errors.proofs.Operations.{between-units, units-le, minimum-units, mul-units, add-units}
 use Rattle.thin.proofs.Squares.{test-near}
 use Rattle.thin.proofs.Aspect.{two-units, four-units, bound-units, times-below, Passed, passed-less, passed-longer, passed-turned, passed-swapped, Edge, Cross, aspect-below, flat-below, none-below}
@@ -100,10 +102,10 @@ not-below x y h = go (lt x y) refl
     go true e = let k : T (lt x y) = rw e tt in absurd (le-not-lt y x (h (le-right x y (lt-le x y k))) k)
     go false e = tt
 
-edge : (x : Float) → T (fits binary32 x) → T (between x (f32 0x32800000) (f32 0x4c800000)) → Edge x
+edge : (x : Float) → T (fits binary32 x) → T (between x (f32 0x2b800000) (f32 0x4c800000)) → Edge x
 unfolding between ofBits
 edge x f h =
-    let u = between-units x (f32 0x32800000) (f32 0x4c800000) 123 175 f (refl, refl) (refl, refl) (and-l (le (f32 0x32800000) x) _ h) (and-r (le (f32 0x32800000) x) _ h) in
+    let u = between-units x (f32 0x2b800000) (f32 0x4c800000) 109 175 f (refl, refl) (refl, refl) (and-l (le (f32 0x2b800000) x) _ h) (and-r (le (f32 0x2b800000) x) _ h) in
     record { n = u .0; held = f; is = u .1 }
 
 cross : (x : Float) → T (fits binary32 x) → T (le (f32 0x1e800000) x) → T (le x (f32 0x5d800000)) → Cross x
@@ -115,6 +117,35 @@ cross x f l h =
 limit-units : (α t : Float) → T (fits binary32 t) → T (le (f32 0x35800000) t) → Quartered α t → (n : ℕ) × Units t n 129 151
 limit-units α t f l k = between-units t (f32 0x35800000) (f32 0x40800000) 129 151 f (unfold ofBits in (refl, refl)) (four-units .value) l (k .bounded)
 
+-- a product that is not below 2 ^ 29 units is a normal number, wherever the ranges of its factors begin
+product-above : {x y z : Float} {m n o i j k l g : ℕ} (f : ℕ) → Units x m i j → Units y n k l → Units z o 29 g → T (le z (x ⊗ y)) → T (leb f 276 && leb (j + l) (f + 149)) → Rounded (x ⊗ y) (2 ^ 149) (m * n) 28 f
+product-above {x} {y} {z} {m} {n} {o} {i} {j} {k} {l} f u v d h r =
+    let w : ℕ = 2 ^ 149 in
+    let is : x ⊗ y ≡ round binary32 false (m * n) (w * w) = mul-at binary32 x y m w n w (units-positive u) (units-positive v) (pow-pos 149) (pow-pos 149) (u .value) (v .value) in
+    subst (λ (p : Float). Rounded p w (m * n) 28 f) (sym is) (go (decLe (2 ^ 28 * w) (m * n)) (subst (λ (p : Float). T (le z p)) is h))
+  where
+    high : m * n ≤ 2 ^ f * 2 ^ 149
+    high =
+        nat.le-trans (mul-le-mul (u .high) (v .high))
+        (nat.le-trans (le-of-eq (sym (pow-add 2 j l))) (nat.le-trans (pow-mono (leb→le (j + l) (f + 149) (and-r (leb f 276) _ r))) (le-of-eq (pow-add 2 f 149))))
+
+    -- up to 2 ^ 28 units it would be rounded to no more than that
+    small : m * n ≤ 2 ^ 28 * 2 ^ 149 → T (le z (round binary32 false (m * n) (2 ^ 149 * 2 ^ 149))) → ⊥
+    small s h =
+        let w : ℕ = 2 ^ 149 in
+        let W : 0 < w * w = mul-pos (pow-pos 149) (pow-pos 149) in
+        let b = round-units (2 ^ 28 * w) w 28 28 (pow-pos 149) (omega arith) (omega arith) (omega arith) (nat.le-refl (2 ^ 28 * w)) (nat.le-refl (2 ^ 28 * w)) in
+        let q = round-mono binary32 (m * n) (w * w) (2 ^ 28 * w) (w * w) W W (mul-le-mul-right (w * w) s) in
+        let i = units-le d (b .is) (le-trans z (round binary32 false (m * n) (w * w)) (round binary32 false (2 ^ 28 * w) (w * w)) h q) in
+        omega (arith, d .low, b .is .high, i)
+
+    not-above : (a b : ℕ) → ((a ≤ b) → ⊥) → b ≤ a
+    not-above a b h = omega arith
+
+    go : Dec (2 ^ 28 * 2 ^ 149 ≤ m * n) → T (le z (round binary32 false (m * n) (2 ^ 149 * 2 ^ 149))) → Rounded (round binary32 false (m * n) (2 ^ 149 * 2 ^ 149)) (2 ^ 149) (m * n) 28 f
+    go (yes s) h = round-units (m * n) (2 ^ 149) 28 f (pow-pos 149) (omega arith) (omega arith) (leb→le f 276 (and-l (leb f 276) _ r)) s high
+    go (no s) h = absurd (small (not-above (2 ^ 28 * 2 ^ 149) (m * n) s) h)
+
 module _ (a b c x t : Float) (ea : Edge a) (eb : Edge b) (ec : Edge c) {X : ℕ} (ux : Units x X 89 209) where
   test-passed : {q : ℕ} → Units t q 129 151 → T (le (x ⊗ x) (t ⊗ spread a b c ⊗ (a ⊗ b ⊗ c))) → Passed (ea .n) (eb .n) (ec .n) X q
   unfolding spread
@@ -124,17 +155,17 @@ module _ (a b c x t : Float) (ea : Edge a) (eb : Edge b) (ec : Edge c) {X : ℕ}
       let l = minimum-units (ea .is) (eb .is) in
       let m = minimum-units (eb .is) (ec .is) in
       let n = minimum-units (ec .is) (ea .is) in
-      let s1 = add-units 123 176 (ea .is) (eb .is) tt tt in
-      let s2 = add-units 123 177 (s1 .is) (ec .is) tt tt in
-      let d1 = add-units 123 176 (l .is) (m .is) tt tt in
-      let d2 = add-units 123 177 (d1 .is) (n .is) tt tt in
-      let d = mul-units 124 178 two-units (d2 .is) tt in
-      let s = add-units 123 179 (s2 .is) (d .is) tt tt in
-      let k = mul-units 103 181 ut (s .is) tt in
-      let p1 = mul-units 97 201 (ea .is) (eb .is) tt in
-      let p = mul-units 71 227 (p1 .is) (ec .is) tt in
-      let N = mul-units 25 259 (k .is) (p .is) tt in
+      let s1 = add-units 109 176 (ea .is) (eb .is) tt tt in
+      let s2 = add-units 109 177 (s1 .is) (ec .is) tt tt in
+      let d1 = add-units 109 176 (l .is) (m .is) tt tt in
+      let d2 = add-units 109 177 (d1 .is) (n .is) tt tt in
+      let d = mul-units 110 178 two-units (d2 .is) tt in
+      let s = add-units 109 179 (s2 .is) (d .is) tt tt in
+      let k = mul-units 89 181 ut (s .is) tt in
+      let p1 = mul-units 69 201 (ea .is) (eb .is) tt in
+      let p = mul-units 29 227 (p1 .is) (ec .is) tt in
       let e = mul-units 29 269 ux ux tt in
+      let N = product-above 259 (k .is) (p .is) (e .is) h tt in
       let sums : Near 2 (s2 .n) (ea .n + eb .n + ec .n) = near-trans (s2 .below) (near-add (s1 .below) (near-self 1 (ec .n))) in
       let twos : Near 3 (d .n) (2 * (l .k + m .k + n .k)) =
       near-trans (times-below w (2 ^ 150) 2 (d .n) (d2 .n) W refl (d .below)) (near-mul (near-self 0 2) (near-trans (d2 .below) (near-add (d1 .below) (near-self 1 (n .k))))) in
@@ -218,21 +249,21 @@ thin-of a b c y t ea eb ec f l h (measured ey g) = record {
 }
 
 -- a longer edge is in the range too
-longer-edge : (a u : Float) → T (le (f32 0x32800000) a) → LongerThan a u → Edge u
+longer-edge : (a u : Float) → T (le (f32 0x2b800000) a) → LongerThan a u → Edge u
 unfolding between
-longer-edge a u l g = edge u (g .held) (and-i (le (f32 0x32800000) u) (le u (f32 0x4c800000)) (le-trans (f32 0x32800000) a u l (g .above)) (g .high))
+longer-edge a u l g = edge u (g .held) (and-i (le (f32 0x2b800000) u) (le u (f32 0x4c800000)) (le-trans (f32 0x2b800000) a u l (g .above)) (g .high))
 
 longer-units : {a u : Float} (e : Edge a) (d : Edge u) → LongerThan a u → e .n ≤ d .n
 longer-units e d g = units-le (e .is) (d .is) (g .above)
 
 module _ (a b c x t : Float) (fa : T (fits binary32 a)) (fb : T (fits binary32 b)) (fc : T (fits binary32 c)) (fx : T (fits binary32 x)) (f : T (fits binary32 t)) (l : T (le (f32 0x35800000) t)) (p : T (isPlain a b c x))
     (h : T (le (x ⊗ x) (t ⊗ spread a b c ⊗ (a ⊗ b ⊗ c)))) where
-  in-range : T (between a (f32 0x32800000) (f32 0x4c800000)) × T (between b (f32 0x32800000) (f32 0x4c800000)) × T (between c (f32 0x32800000) (f32 0x4c800000)) × T (between x (f32 0x21800000) (f32 0x5d800000))
+  in-range : T (between a (f32 0x2b800000) (f32 0x4c800000)) × T (between b (f32 0x2b800000) (f32 0x4c800000)) × T (between c (f32 0x2b800000) (f32 0x4c800000)) × T (between x (f32 0x21800000) (f32 0x5d800000))
   unfolding isPlain
   in-range =
-      let p1 = and-r (between a (f32 0x32800000) (f32 0x4c800000)) _ p in
-      let p2 = and-r (between b (f32 0x32800000) (f32 0x4c800000)) _ p1 in
-      (and-l (between a (f32 0x32800000) (f32 0x4c800000)) _ p, and-l (between b (f32 0x32800000) (f32 0x4c800000)) _ p1, and-l (between c (f32 0x32800000) (f32 0x4c800000)) _ p2, and-r (between c (f32 0x32800000) (f32 0x4c800000)) _ p2)
+      let p1 = and-r (between a (f32 0x2b800000) (f32 0x4c800000)) _ p in
+      let p2 = and-r (between b (f32 0x2b800000) (f32 0x4c800000)) _ p1 in
+      (and-l (between a (f32 0x2b800000) (f32 0x4c800000)) _ p, and-l (between b (f32 0x2b800000) (f32 0x4c800000)) _ p1, and-l (between c (f32 0x2b800000) (f32 0x4c800000)) _ p2, and-r (between c (f32 0x2b800000) (f32 0x4c800000)) _ p2)
 
   all-thin : (u v w y : Float) → LongerThan a u → LongerThan b v → LongerThan c w → T (fits binary32 y) → T (not (lt x y)) → AllThin t u v w y
   unfolding between ofBits
@@ -240,9 +271,9 @@ module _ (a b c x t : Float) (fa : T (fits binary32 a)) (fb : T (fits binary32 b
       let ea = edge a fa (in-range .0) in
       let eb = edge b fb (in-range .1) in
       let ec = edge c fc (in-range .2) in
-      let eu = longer-edge a u (and-l (le (f32 0x32800000) a) _ (in-range .0)) gu in
-      let ev = longer-edge b v (and-l (le (f32 0x32800000) b) _ (in-range .1)) gv in
-      let ew = longer-edge c w (and-l (le (f32 0x32800000) c) _ (in-range .2)) gw in
+      let eu = longer-edge a u (and-l (le (f32 0x2b800000) a) _ (in-range .0)) gu in
+      let ev = longer-edge b v (and-l (le (f32 0x2b800000) b) _ (in-range .1)) gv in
+      let ew = longer-edge c w (and-l (le (f32 0x2b800000) c) _ (in-range .2)) gw in
       let hi = and-r (le (f32 0x21800000) x) (le x (f32 0x5d800000)) (in-range .3) in
       let ux = between-units x (f32 0x21800000) (f32 0x5d800000) 89 209 fx (refl, refl) (refl, refl) (and-l (le (f32 0x21800000) x) (le x (f32 0x5d800000)) (in-range .3)) hi in
       let uvw : Passes t eu ev ew (ux .0) = λ q z. passed-longer (longer-units ea eu gu) (longer-units eb ev gv) (longer-units ec ew gw) (test-passed a b c x t ea eb ec (ux .1) z h) in
@@ -257,9 +288,9 @@ module _ (a b c x t : Float) (fa : T (fits binary32 a)) (fb : T (fits binary32 b
       }
 
   -- no longer than itself
-  own-length : (z : Float) → T (fits binary32 z) → T (between z (f32 0x32800000) (f32 0x4c800000)) → LongerThan z z
+  own-length : (z : Float) → T (fits binary32 z) → T (between z (f32 0x2b800000) (f32 0x4c800000)) → LongerThan z z
   unfolding between
-  own-length z g r = let hi = and-r (le (f32 0x32800000) z) (le z (f32 0x4c800000)) r in record { held = g; above = le-refl z (le-left z (f32 0x4c800000) hi); high = hi }
+  own-length z g r = let hi = and-r (le (f32 0x2b800000) z) (le z (f32 0x4c800000)) r in record { held = g; above = le-refl z (le-left z (f32 0x4c800000) hi); high = hi }
 
   pub thin-up-to : ThinUpTo t a b c x
   thin-up-to =

@@ -19,13 +19,13 @@ pub fn thin_limit(aspect: f32) -> f32
     -1.0
 }
 
-// Whether nothing over- or underflows with these squares.
+// Whether nothing over- or underflows with these squares, but for the limit's last product in `is_thin`.
 fn is_plain(a: f32, b: f32, c: f32, cross: f32) -> bool
     ensures { λ r. ⌜ r ≡ isPlain a b c cross ⌝ }
 {
-    is_between(a, 0.000000014901161, 67108864.0)
-        && (is_between(b, 0.000000014901161, 67108864.0)
-            && (is_between(c, 0.000000014901161, 67108864.0)
+    is_between(a, 0.00000000000090949470, 67108864.0)
+        && (is_between(b, 0.00000000000090949470, 67108864.0)
+            && (is_between(c, 0.00000000000090949470, 67108864.0)
                 && is_between(cross, 0.00000000000000000086736174, 1152921504606846976.0)))
 }
 
@@ -37,7 +37,8 @@ fn spread(a: f32, b: f32, c: f32) -> f32
 }
 
 // Whether the aspect ratio is surely at most the bound that the limit is for; from the squares of the edges' lengths
-// and of the cross product's, or one that is not below it.
+// and of the cross product's, or one that is not below it. Where the last product underflows it is below the square of
+// `cross`, which does not.
 pub fn is_thin(a: f32, b: f32, c: f32, cross: f32, limit: f32) -> bool
     ensures { λ r. ⌜ (r ≡ true → ThinUpTo limit a b c cross) ⌝ }
 {
