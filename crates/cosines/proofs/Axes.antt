@@ -11,11 +11,11 @@ use lib.Ieee.{Float, binary32, unlike, fits}
 use lib.Ieee.Exact.{HasValue}
 use lib.Ieee.Scale.{finite}
 use Rattle.numbers.specs.Rounded.{_⊖_, _⊗_}
-use Rattle.rounding_errors.proofs.Near.{Near, near-eq, near-self, near-trans, near-mul, near-add, near-times}
+use Rattle.rounding_errors.proofs.Near.{Near, near-eq, near-self, near-trans, near-mul, near-add, near-square, near-times}
 use Rattle.rounding_errors.proofs.Rounding.{Summed}
 use Rattle.rounding_errors.proofs.Signed.{Is, over, short, sub-finite, finite-signed, sub-whole, mul-whole}
 use Rattle.cosines.proofs.Exact.{apart, axis-square}
-use Rattle.cosines.proofs.Component.{component-off}
+use Rattle.cosines.proofs.Component.{component-off, component-over}
 
 -- ---- one axis
 
@@ -115,6 +115,10 @@ pub record Computed (x : Float) (u : Bool) (m n : ℕ) : Type 0 where
   pub k : ℕ
   pub value : HasValue x s k (2 ^ 149)
   pub off : 64 * (17592186044416 * (apart u m n * apart u m n)) ≤ 65 * (17592202821636 * (k * 2 ^ 149 * (k * 2 ^ 149))) + 4160 * (316659348799488 * (2 ^ 149 * 2 ^ 149) + 16 * (m * m + n * n))
+  -- the square of the component before its last rounding
+  pub y : ℕ
+  pub last : Near 2 (k * 2 ^ 149 * (k * 2 ^ 149)) y
+  pub over : (e : ℕ) → 4 * (17592177655809 * (e * y)) ≤ 4 * (17592177655809 * ((e + 1) * (apart u m n * apart u m n))) + e * (e + 1) * (2533274790395904 * (2 ^ 149 * 2 ^ 149) + 9 * (m * m + n * n))
 
 -- m and n are the exact sizes, k and l the computed ones, j their rounded product
 module _ (w m n k l j : ℕ) where
@@ -134,14 +138,19 @@ module _ (v w v' w' : Float) (s r s' r' : Bool) (a c a' c' : ℕ) (hv : Summed v
       let D = sub-whole (v ⊗ w') (v' ⊗ w) (unlike s r') (unlike s' r) (M .n) (N .n) (M .value) (N .value) f in
       let u = unlike (unlike s r) (unlike s' r') in
       let e : D .a ≡ apart u (M .n) (N .n) = apart-is (D .s) (unlike s r') (unlike s' r) (D .a) (M .n) (N .n) (D .is) ∙ ap (λ (b : Bool). apart b (M .n) (N .n)) (signs s r s' r') in
-      let z : Near 1 (apart u (M .n * W) (N .n * W)) (D .rounded .n * W) =
-      near-eq (ap (λ (x : ℕ). x * W) e ∙ apart-times u (M .n) (N .n) W) refl (near-times W (D .rounded .above)) in
+      let scaled = ap (λ (x : ℕ). x * W) e ∙ apart-times u (M .n) (N .n) W in
+      let z : Near 1 (apart u (M .n * W) (N .n * W)) (D .rounded .n * W) = near-eq scaled refl (near-times W (D .rounded .above)) in
+      let below : Near 1 (D .rounded .n * W) (apart u (M .n * W) (N .n * W)) = near-eq refl scaled (near-times W (D .rounded .below)) in
+      let first-above = rounded-above W a c' (hv .n) (hw' .n) (M .n) (hv .above) (hw' .above) (M .above) in
+      let second-above = rounded-above W a' c (hv' .n) (hw .n) (N .n) (hv' .above) (hw .above) (N .above) in
+      let first-below = rounded-below W a c' (hv .n) (hw' .n) (M .n) (hv .below) (hw' .below) (M .below) in
+      let second-below = rounded-below W a' c (hv' .n) (hw .n) (N .n) (hv' .below) (hw .below) (N .below) in
       record {
         s = D .s;
         k = D .rounded .n;
         value = D .rounded .value;
-        off =
-            component-off u (a * c') (a' * c) (M .n * W) (N .n * W) W (D .rounded .n * W) (rounded-above W a c' (hv .n) (hw' .n) (M .n) (hv .above) (hw' .above) (M .above))
-            (rounded-above W a' c (hv' .n) (hw .n) (N .n) (hv' .above) (hw .above) (N .above)) (rounded-below W a c' (hv .n) (hw' .n) (M .n) (hv .below) (hw' .below) (M .below))
-            (rounded-below W a' c (hv' .n) (hw .n) (N .n) (hv' .below) (hw .below) (N .below)) z;
+        off = component-off u (a * c') (a' * c) (M .n * W) (N .n * W) W (D .rounded .n * W) first-above second-above first-below second-below z;
+        y = apart u (M .n * W) (N .n * W) * apart u (M .n * W) (N .n * W);
+        last = near-square below;
+        over = λ i. component-over u (a * c') (a' * c) (M .n * W) (N .n * W) W i first-above second-above first-below second-below;
       }

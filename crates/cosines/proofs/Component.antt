@@ -1,4 +1,4 @@
--- How far a component of the computed cross product is off, by squares (`component-off`). Whole numbers only. Assumes nothing.
+-- How far a component of the computed cross product is off, by squares: how much less it may be than the exact one (`component-off`), and how much more (`component-over`). Whole numbers only. Assumes nothing.
 use mathlib.Core.Path.{_≡_, sym, ap, subst}
 use Prim.Native.Nat.{ℕ, _+_, _-_, _*_, _^_, _≤_}
 use native.Mathlib.Nat.{mul-le-mul, mul-le-mul-left}
@@ -95,3 +95,62 @@ component-off u m n k l w z a b c d e =
     joined : (x z g : ℕ) → 64 * (4194304 * x * (4194304 * x)) ≤ 65 * (4194306 * z * (4194306 * z)) + 4160 * (g * g) → g * g ≤ 316659348799488 * (w * w) + 16 * (m * m + n * n)
         → 64 * (17592186044416 * (x * x)) ≤ 65 * (17592202821636 * (z * z)) + 4160 * (316659348799488 * (w * w) + 16 * (m * m + n * n))
     joined x z g h k = omega arith
+
+-- ---- how much more
+
+-- with signs that are alike
+module _ (m n k l w : ℕ) (h : k * 4194303 ≤ (m + w) * 4194304) (i : n * 4194303 ≤ (l + w) * 4194304) where
+  like-over : (d g : ℕ) → k ≡ l + d → m ≤ n + g → 4194303 * d ≤ 4194303 * g + (8388608 * w + (m + n))
+  like-over d g e c = omega arith
+
+parts-over : (u : Bool) (m n k l w : ℕ) → m * 4194303 ≤ (k + w) * 4194304 → n * 4194303 ≤ (l + w) * 4194304 → k * 4194303 ≤ (m + w) * 4194304 → l * 4194303 ≤ (n + w) * 4194304
+    → 4194303 * apart u k l ≤ 4194303 * apart u m n + (8388608 * w + (m + n))
+parts-over true m n k l w h i j o = omega arith
+parts-over false m n k l w h i j o = go (decLe l k)
+  where
+    first : m ≤ n + (m - n + (n - m))
+    first = omega arith
+
+    second : n ≤ m + (m - n + (n - m))
+    second = omega arith
+
+    turned : (a b c : ℕ) → a ≤ b + (c + (n + m)) → a ≤ b + (c + (m + n))
+    turned a b c h = omega arith
+
+    go : Dec (l ≤ k) → 4194303 * (k - l + (l - k)) ≤ 4194303 * (m - n + (n - m)) + (8388608 * w + (m + n))
+    go (yes c) =
+        let d = k - l in
+        let e : k ≡ l + d = omega arith in
+        let g : k - l + (l - k) ≡ d = omega arith in
+        subst (λ (z : ℕ). 4194303 * z ≤ 4194303 * (m - n + (n - m)) + (8388608 * w + (m + n))) (sym g) (like-over m n k l w j i d (m - n + (n - m)) e first)
+    go (no c) =
+        let d = l - k in
+        let e : l ≡ k + d = omega arith in
+        let g : k - l + (l - k) ≡ d = omega arith in
+        subst (λ (z : ℕ). 4194303 * z ≤ 4194303 * (m - n + (n - m)) + (8388608 * w + (m + n))) (sym g)
+        (turned (4194303 * d) (4194303 * (m - n + (n - m))) (8388608 * w) (like-over n m l k w o h d (m - n + (n - m)) e second))
+
+-- e is any number: the larger it is, the less the square is off by a part of itself, and the more by the square of g
+square-over : (e x f g : ℕ) → x ≤ f + g → e * (x * x) ≤ (e + 1) * (f * f) + e * (e + 1) * (g * g)
+square-over e x f g h =
+    let i : e * (x * x) ≤ e * ((f + g) * (f + g)) = mul-le-mul-left e (mul-le-mul h h) in
+    let j = twice-product f (e * g) in
+    omega arith
+
+error-over : (w m n : ℕ) → 4 * ((8388608 * w + (m + n)) * (8388608 * w + (m + n))) ≤ 2533274790395904 * (w * w) + 9 * (m * m + n * n)
+error-over w m n =
+    let i = twice-product (m + n) (67108864 * w) in
+    let j = twice-product m n in
+    omega arith
+
+-- the component before its own rounding, by the products k and l, against the exact one; 4194303 ^ 2 times all
+pub component-over : (u : Bool) (m n k l w e : ℕ) → Near 3 m (k + w) → Near 3 n (l + w) → Near 3 k (m + w) → Near 3 l (n + w)
+    → 4 * (17592177655809 * (e * (apart u k l * apart u k l))) ≤ 4 * (17592177655809 * ((e + 1) * (apart u m n * apart u m n))) + e * (e + 1) * (2533274790395904 * (w * w) + 9 * (m * m + n * n))
+component-over u m n k l w e a b c d =
+    let h = parts-over u m n k l w (product-above m k w a) (product-above n l w b) (product-below m k w c) (product-below n l w d) in
+    let g = 8388608 * w + (m + n) in
+    joined (apart u k l) (apart u m n) (g * g) (2533274790395904 * (w * w) + 9 * (m * m + n * n)) (e * (e + 1)) (square-over e (4194303 * apart u k l) (4194303 * apart u m n) g h) (error-over w m n)
+  where
+    joined : (x y g c v : ℕ) → e * (4194303 * x * (4194303 * x)) ≤ (e + 1) * (4194303 * y * (4194303 * y)) + v * g → 4 * g ≤ c
+        → 4 * (17592177655809 * (e * (x * x))) ≤ 4 * (17592177655809 * ((e + 1) * (y * y))) + v * c
+    joined x y g c v h k = let i : v * (4 * g) ≤ v * c = mul-le-mul-left v k in omega arith

@@ -1,6 +1,6 @@
 -- What is exact of three points, over whole numbers: the law of cosines on an axis (`axis-square`), a cross product's component (`component-square`), and from these Lagrange's
--- identity, by squares alone (`lagrange`). Assumes nothing.
-use mathlib.Core.Path.{_≡_, sym, ap, ap₂, _∙_, subst}
+-- identity, by squares alone (`lagrange`, and `heron` whether the angle is acute or not). Assumes nothing.
+use mathlib.Core.Path.{_≡_, refl, sym, ap, ap₂, _∙_, subst}
 use Prim.Native.Nat.{ℕ, _+_, _-_, _*_, _≤_}
 use native.Mathlib.Omega.{arith}
 use native.Mathlib.Decide.{decLe}
@@ -120,13 +120,52 @@ total : (EE AC SS NN SN X Y Z ac ad ae bc bd be cc cd ce : ℕ) (pp qq rr pq qr 
     → 4 * AC ≡ EE + 4 * (X + Y + Z)
 total EE AC SS NN SN X Y Z ac ad ae bc bd be cc cd ce pp qq rr pq qr rp nn mm oo nm mo on pn pm po qn qm qo rn rm ro a b c d e f g h i j k = omega arith
 
+-- Heron's formula from Lagrange's identity
+acute-sum : (a b c E x : ℕ) → a + c ≡ b + E → 4 * (a * c) ≡ E * E + 4 * x → 4 * x + (a * a + b * b + c * c) ≡ 2 * (a * b + b * c + c * a)
+acute-sum a b c E x h k =
+    let i = ap (λ (z : ℕ). z * (a + c)) h in
+    let j = ap (λ (z : ℕ). (b + E) * z) h in
+    let l = ap (λ (z : ℕ). z * b) h in
+    omega arith
+
+obtuse-sum : (a b c E x : ℕ) → b ≡ a + c + E → 4 * (a * c) ≡ E * E + 4 * x → 4 * x + (a * a + b * b + c * c) ≡ 2 * (a * b + b * c + c * a)
+obtuse-sum a b c E x h k = subst (λ (b : ℕ). 4 * x + (a * a + b * b + c * c) ≡ 2 * (a * b + b * c + c * a)) (sym h) (expanded a c E x k)
+  where
+    expanded : (a c E x : ℕ) → 4 * (a * c) ≡ E * E + 4 * x → 4 * x + (a * a + (a + c + E) * (a + c + E) + c * c) ≡ 2 * (a * (a + c + E) + (a + c + E) * c + c * a)
+    expanded a c E x k = omega arith
+
 module _ {A C B p n A' C' B' p' n' A'' C'' B'' p'' n'' X Y Z : ℕ} (i : Axis A C B p n) (j : Axis A' C' B' p' n') (k : Axis A'' C'' B'' p'' n'')
     (x : Component A' C' p' n' A'' C'' p'' n'' X) (y : Component A'' C'' p'' n'' A C p n Y) (z : Component A C p n A' C' p' n' Z) where
+  from-dots : (E S N : ℕ) → S ≡ p + p' + p'' → N ≡ n + n' + n'' → E * E + 8 * (S * N) ≡ 4 * (S * S) + 4 * (N * N) → 4 * ((A + A' + A'') * (C + C' + C'')) ≡ E * E + 4 * (X + Y + Z)
+  from-dots E S N s t g =
+      total (E * E) ((A + A' + A'') * (C + C' + C'')) (S * S) (N * N) (S * N) X Y Z (A * C) (A * C') (A * C'') (A' * C) (A' * C') (A' * C'') (A'' * C) (A'' * C') (A'' * C'')
+      (p * p) (p' * p') (p'' * p'') (p * p') (p' * p'') (p'' * p) (n * n) (n' * n') (n'' * n'') (n * n') (n' * n'') (n'' * n) (p * n) (p * n') (p * n'') (p' * n) (p' * n') (p' * n'') (p'' * n) (p'' * n') (p'' * n'')
+      g (nine A A' A'' C C' C'') (ap (λ (z : ℕ). z * z) s ∙ squares p p' p'') (ap (λ (z : ℕ). z * z) t ∙ squares n n' n'') (ap₂ _*_ s t ∙ nine p p' p'' n n' n'') (x .square) (y .square) (z .square) (i .product) (j .product) (k .product)
+
   pub lagrange : (E : ℕ) → E + (B + B' + B'') ≡ A + A' + A'' + (C + C' + C'') → 4 * ((A + A' + A'') * (C + C' + C'')) ≡ E * E + 4 * (X + Y + Z)
   lagrange E h =
       let S = p + p' + p'' in
       let N = n + n' + n'' in
       let g : 2 * S ≡ E + 2 * N = omega (arith, h, i .square, j .square, k .square) in
-      total (E * E) ((A + A' + A'') * (C + C' + C'')) (S * S) (N * N) (S * N) X Y Z (A * C) (A * C') (A * C'') (A' * C) (A' * C') (A' * C'') (A'' * C) (A'' * C') (A'' * C'')
-      (p * p) (p' * p') (p'' * p'') (p * p') (p' * p'') (p'' * p) (n * n) (n' * n') (n'' * n'') (n * n') (n' * n'') (n'' * n) (p * n) (p * n') (p * n'') (p' * n) (p' * n') (p' * n'') (p'' * n) (p'' * n') (p'' * n'')
-      (halves E S N g) (nine A A' A'' C C' C'') (squares p p' p'') (squares n n' n'') (nine p p' p'' n n' n'') (x .square) (y .square) (z .square) (i .product) (j .product) (k .product)
+      from-dots E S N refl refl (halves E S N g)
+
+  -- at an angle that is not acute
+  obtuse : (E : ℕ) → E + (A + A' + A'' + (C + C' + C'')) ≡ B + B' + B'' → 4 * ((A + A' + A'') * (C + C' + C'')) ≡ E * E + 4 * (X + Y + Z)
+  obtuse E h =
+      let S = p + p' + p'' in
+      let N = n + n' + n'' in
+      let g : 2 * N ≡ E + 2 * S = omega (arith, h, i .square, j .square, k .square) in
+      from-dots E S N refl refl (turned (E * E) (S * S) (N * N) S N (halves E N S g))
+    where
+      turned : (e s t S N : ℕ) → e + 8 * (N * S) ≡ 4 * t + 4 * s → e + 8 * (S * N) ≡ 4 * s + 4 * t
+      turned e s t S N h = omega arith
+
+  pub heron-sums : (a b c : ℕ) → a ≡ A + A' + A'' → b ≡ B + B' + B'' → c ≡ C + C' + C'' → 4 * (X + Y + Z) + (a * a + b * b + c * c) ≡ 2 * (a * b + b * c + c * a)
+  heron-sums a b c ea eb ec = go (decLe b (a + c))
+    where
+      product : {v : ℕ} → 4 * ((A + A' + A'') * (C + C' + C'')) ≡ v → 4 * (a * c) ≡ v
+      product h = ap (λ (z : ℕ). 4 * z) (ap₂ _*_ ea ec) ∙ h
+
+      go : Dec (b ≤ a + c) → 4 * (X + Y + Z) + (a * a + b * b + c * c) ≡ 2 * (a * b + b * c + c * a)
+      go (yes h) = acute-sum a b c (a + c - b) (X + Y + Z) (omega arith) (product (lagrange (a + c - b) (omega (arith, ea, eb, ec))))
+      go (no h) = obtuse-sum a b c (b - (a + c)) (X + Y + Z) (omega arith) (product (obtuse (b - (a + c)) (omega (arith, ea, eb, ec))))

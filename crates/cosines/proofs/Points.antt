@@ -2,7 +2,7 @@
 -- Assumes nothing.
 use mathlib.Core.Path.{_≡_, refl, sym, _∙_, subst}
 use Prim.Native.Nat.{ℕ, _+_, _*_, _^_, _≤_}
-use native.Mathlib.Nat.{le-trans, mul-le-mul-right, eq-of-mul-eq-mul-right}
+use native.Mathlib.Nat.{le-trans, mul-le-mul-left, mul-le-mul-right, eq-of-mul-eq-mul-right}
 use native.Mathlib.Omega.{arith}
 use native.Mathlib.Bridge.{IsLe, le-by-compare}
 use mathlib.Core.Bool.{Bool, true, false}
@@ -18,12 +18,12 @@ use Rattle.vector.specs.Vector.{difference, cross, squared}
 use Rattle.vector.specs.declared.Point3f.{Point3f}
 use Rattle.vector.proofs.Distances.{squared-fits}
 use Rattle.area_bounds.specs.AreaBound.{crossSquared}
-use Rattle.rounding_errors.proofs.Near.{Near, near-trans, near-add, near-square, near-within, near-self}
+use Rattle.rounding_errors.proofs.Near.{Near, near-eq, near-trans, near-add, near-square, near-times, near-within, near-self}
 use Rattle.rounding_errors.proofs.Rounding.{Units, units-positive, Summed}
 use Rattle.rounding_errors.proofs.Signed.{over, short}
 use Rattle.rounding_errors.proofs.Operations.{between-units}
 use Rattle.cosines.specs.Cosine.{Coordinates, isPlain}
-use Rattle.cosines.proofs.Exact.{apart, component-square, product-square, Axis, Component, lagrange}
+use Rattle.cosines.proofs.Exact.{apart, component-square, product-square, Axis, Component, lagrange, heron-sums}
 use Rattle.cosines.proofs.Magnitude.{Magnitude, Parts, parts-finite, magnitude-whole}
 use Rattle.cosines.proofs.Axes.{On, on-axis, Computed, component-of}
 
@@ -106,6 +106,24 @@ module _ (N M c w : ℕ) where
       → m + n + i ≤ ac → 64 * (N * (x + y + z)) ≤ 65 * (M * (k + l + o)) + 4160 * (3 * (c * w) + 16 * ac)
   sum-off x y z k l o m n i ac g h j b = omega arith
 
+-- v is e (e + 1)
+module _ (N c w e v : ℕ) where
+  sum-over : (x y z k l o m n i ac : ℕ) → 4 * (N * (e * k)) ≤ 4 * (N * ((e + 1) * x)) + v * (c * w + 9 * m) → 4 * (N * (e * l)) ≤ 4 * (N * ((e + 1) * y)) + v * (c * w + 9 * n) → 4 * (N * (e * o)) ≤ 4 * (N * ((e + 1) * z)) + v * (c * w + 9 * i)
+      → m + n + i ≤ ac → 4 * (N * (e * (k + l + o))) ≤ 4 * (N * ((e + 1) * (x + y + z))) + v * (3 * (c * w) + 9 * ac)
+  sum-over x y z k l o m n i ac g h j b = let f : v * (m + n + i) ≤ v * ac = mul-le-mul-left v b in omega arith
+
+-- from the computed components on
+last-below : (w m k l o x y z : ℕ) → Near 3 (m * w) (k * k + l * l + o * o + 3 * w) → Near 2 (k * w * (k * w)) x → Near 2 (l * w * (l * w)) y → Near 2 (o * w * (o * w)) z → Near 5 (m * (w * w * w)) (x + y + z + 3 * (w * w * w))
+last-below w m k l o x y z h i j g =
+    let s : Near 2 (k * w * (k * w) + l * w * (l * w) + o * w * (o * w)) (x + y + z) = near-add (near-add i j) g in
+    near-trans (near-eq {k = 3} (left m w) (right w k l o) (near-times (w * w) h)) (near-add s (near-self 2 (3 * (w * w * w))))
+  where
+    left : (m w : ℕ) → m * w * (w * w) ≡ m * (w * w * w)
+    left m w = omega arith
+
+    right : (w k l o : ℕ) → (k * k + l * l + o * o + 3 * w) * (w * w) ≡ k * w * (k * w) + l * w * (l * w) + o * w * (o * w) + 3 * (w * w * w)
+    right w k l o = omega arith
+
 six-below : (a b c d e f : ℕ) → b * f * (b * f) + c * e * (c * e) + (c * d * (c * d) + a * f * (a * f)) + (a * e * (a * e) + b * d * (b * d)) ≤ (a * a + b * b + c * c) * (d * d + e * e + f * f)
 six-below a b c d e f = omega arith
 
@@ -127,6 +145,11 @@ pub record Exactly (p q t : Point3f) : Type 0 where
   pub crossed : HasValue (crossSquared p q t) false m (2 ^ 149)
   pub near : Near 3 S (m * 2 ^ 149 + 3 * 2 ^ 149)
   pub off : 64 * (17592186044416 * X) ≤ 65 * (17592202821636 * (S * (2 ^ 149 * 2 ^ 149))) + 4160 * (3 * (316659348799488 * (2 ^ 149 * 2 ^ 149)) + 16 * (A * C))
+  -- the other way: Y is before the last roundings of the components
+  pub Y : ℕ
+  pub below : Near 5 (m * (2 ^ 149 * 2 ^ 149 * 2 ^ 149)) (Y + 3 * (2 ^ 149 * 2 ^ 149 * 2 ^ 149))
+  pub over : (e : ℕ) → 4 * (17592177655809 * (e * Y)) ≤ 4 * (17592177655809 * ((e + 1) * X)) + e * (e + 1) * (3 * (2533274790395904 * (2 ^ 149 * 2 ^ 149)) + 9 * (A * C))
+  pub heron : 4 * X + (A * A + B * B + C * C) ≡ 2 * (A * B + B * C + C * A)
 
 axis-of : {p q t : Float} (o : On p q t) → Axis (o .a * o .a) (o .c * o .c) (o .b * o .b) (over (unlike (o .s) (o .r)) (o .a * o .c)) (short (unlike (o .s) (o .r)) (o .a * o .c))
 axis-of o = record { square = o .square; product = product-square (unlike (o .s) (o .r)) (o .a) (o .c) }
@@ -187,4 +210,12 @@ module _ (p q t : Point3f) (P : Coordinates p) (Q : Coordinates q) (R : Coordina
             (sum-off 17592186044416 17592202821636 316659348799488 (W * W) (component j k * component j k) (component k i * component k i) (component i j * component i j) (cx .k * W * (cx .k * W)) (cy .k * W * (cy .k * W)) (cz .k * W * (cz .k * W))
             (j .a * k .c * (j .a * k .c) + k .a * j .c * (k .a * j .c)) (k .a * i .c * (k .a * i .c) + i .a * k .c * (i .a * k .c)) (i .a * j .c * (i .a * j .c) + j .a * i .c * (j .a * i .c)) ((i .a * i .a + j .a * j .a + k .a * k .a) * (i .c * i .c + j .c * j .c + k .c * k .c))
             (cx .off) (cy .off) (cz .off) (six-below (i .a) (j .a) (k .a) (i .c) (j .c) (k .c)));
+        Y = cx .y + cy .y + cz .y;
+        below = last-below W (n .m) (cx .k) (cy .k) (cz .k) (cx .y) (cy .y) (cz .y) (n .below) (cx .last) (cy .last) (cz .last);
+        over =
+            λ e.
+            sum-over 17592177655809 2533274790395904 (W * W) e (e * (e + 1)) (component j k * component j k) (component k i * component k i) (component i j * component i j) (cx .y) (cy .y) (cz .y)
+            (j .a * k .c * (j .a * k .c) + k .a * j .c * (k .a * j .c)) (k .a * i .c * (k .a * i .c) + i .a * k .c * (i .a * k .c)) (i .a * j .c * (i .a * j .c) + j .a * i .c * (j .a * i .c)) ((i .a * i .a + j .a * j .a + k .a * k .a) * (i .c * i .c + j .c * j .c + k .c * k .c))
+            (cx .over e) (cy .over e) (cz .over e) (six-below (i .a) (j .a) (k .a) (i .c) (j .c) (k .c));
+        heron = heron-sums (axis-of i) (axis-of j) (axis-of k) (component-is j k) (component-is k i) (component-is i j) _ _ _ refl refl refl;
       }
