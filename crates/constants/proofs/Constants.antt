@@ -52,6 +52,7 @@ constants = record {
   margin-16 = refl;
   margin-64 = refl;
   margin-256 = refl;
+  out-of-reach = refl;
   thin = refl;
   thin-next = refl;
   beyond-ten-thousand = refl;

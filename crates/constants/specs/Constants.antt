@@ -76,6 +76,8 @@ pub record Constants : Type 0 where
   pub margin-16 : f32 0x37c00000 ≡ decimal 12 (2 ^ 19)
   pub margin-64 : f32 0x38f00000 ≡ decimal 60 (2 ^ 19)
   pub margin-256 : f32 0x39fc0000 ≡ decimal 252 (2 ^ 19)
+  -- 1.00001: from here on no score reaches a threshold, see `euler`
+  pub out-of-reach : f32 0x3f800054 ≡ decimal 100001 100000
   -- about 1e-12, and the next f32: squares of the plain path's cross product, see `plain`
   pub thin : f32 0x2b8cbccd ≡ decimal 9223373 (2 ^ 63)
   pub thin-next : f32 0x2b8cbcce ≡ decimal 9223374 (2 ^ 63)

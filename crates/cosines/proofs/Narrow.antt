@@ -49,7 +49,7 @@ limit-near w l p x y a c A C n h i j k f g =
     three-more : (a c l w : ℕ) → a * w * (c * w) * l ≡ a * c * (l * (w * w))
     three-more a c l w = omega arith
 
-square-large : {x : Float} {A : ℕ} → Square x A → 2 ^ 257 ≤ A
+pub square-large : {x : Float} {A : ℕ} → Square x A → 2 ^ 257 ≤ A
 unfolding IsLe
 square-large {x} {A} s = halved (2 ^ 257) (s .m * 2 ^ 149) (mul-le-mul-right (2 ^ 149) (s .is .low)) (near-within 6 1 2 (le-by-compare (1 * 16777216 ^ 6) (2 * 16777215 ^ 6) tt) (s .below))
   where
@@ -108,7 +108,7 @@ third-near a b h = near-trans (near-trans (b .above) (near-times (2 ^ 149) (near
 
 -- ---- three points
 
-plain-at : (lo hi x : Float) → T (isPlain lo hi) → T (le lo x) → T (le x hi) → T (isPlain x x)
+pub plain-at : (lo hi x : Float) → T (isPlain lo hi) → T (le lo x) → T (le x hi) → T (isPlain x x)
 unfolding isPlain
 plain-at lo hi x p h k =
     let l = f32 0x2b800000 in

@@ -60,7 +60,7 @@ fn is_short(al: f32, cl: f32, bh: f32) -> bool
 }
 
 // Whether all three intervals are plain.
-fn are_plain(al: f32, ah: f32, cl: f32, ch: f32, bl: f32, bh: f32) -> bool
+pub fn are_plain(al: f32, ah: f32, cl: f32, ch: f32, bl: f32, bh: f32) -> bool
     ensures { λ r. ⌜ r ≡ arePlain al ah cl ch bl bh ⌝ }
 {
     is_plain(al, ah) && (is_plain(cl, ch) && is_plain(bl, bh))

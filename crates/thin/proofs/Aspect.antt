@@ -55,15 +55,15 @@ module _ (w v g r : ℕ) (W : 0 < w) (e : w ≡ 2 * v) where
   twice-right : r * v * 2 ≡ r * w
   twice-right = let i = ap (λ (z : ℕ). r * z) e in omega arith
 
-  half-below : Near 1 (g * w) (r * v) → Near 1 (2 * g) r
+  pub half-below : Near 1 (g * w) (r * v) → Near 1 (2 * g) r
   half-below h = near-cancel w W (near-eq twice-left twice-right (near-times 2 h))
 
-  half-above : Near 1 (r * v) (g * w) → Near 1 r (2 * g)
+  pub half-above : Near 1 (r * v) (g * w) → Near 1 r (2 * g)
   half-above h = near-cancel w W (near-eq twice-right twice-left (near-times 2 h))
 
 -- ---- a quotient against a bound
 
-quotient-le : {x y α : Float} {m n p i j k l e f : ℕ} → Units x m i j → Units y n k l → T (fits binary32 α) → Units α p e f → m * 2 ^ 149 ≤ p * n → T (le (x ⊘ y) α)
+pub quotient-le : {x y α : Float} {m n p i j k l e f : ℕ} → Units x m i j → Units y n k l → T (fits binary32 α) → Units α p e f → m * 2 ^ 149 ≤ p * n → T (le (x ⊘ y) α)
 quotient-le {x} {y} {α} {m} {n} {p} u v f z h =
     let w : ℕ = 2 ^ 149 in
     let g = parts α (units-positive z) in
@@ -203,14 +203,14 @@ limit-short {α} {t} {p} {q} u v k =
         let m : 524288 * q * w * (d * d * e) ≤ 131071 * (p * p) * (d * d * e) = omega arith in
         le-of-mul-le-mul-right m (mul-pos (mul-pos D D) E)
 
--- what is to be shown where there is an area and a radius
-aspect-by : {t : Float} (a b c area α : Float) → Quartered α t → (lt area tiny ≡ false → lt tiny (radiusOf a b c area) ≡ true → T (le (area ⊘ ((a ⊕ b ⊕ c) ⊗ half) ⊘ radiusOf a b c area) α)) → T (le (shapeOf a b c area .«aspect_ratio») α)
-unfolding shapeOf shape flat aspectRatio
-aspect-by a b c area α k h = go (lt area tiny) (lt tiny (radiusOf a b c area)) refl refl
-  where
-    zero : T (le (f32 0) α)
-    zero = le-trans (f32 0) (f32 0x3b000000) α (unfold le ofBits in tt) (k .low)
+pub not-negative : {α t : Float} → Quartered α t → T (le (f32 0) α)
+not-negative {α} k = le-trans (f32 0) (f32 0x3b000000) α (unfold le ofBits in tt) (k .low)
 
+-- what is to be shown where there is an area and a radius
+pub aspect-by : (a b c area α : Float) → T (le (f32 0) α) → (lt area tiny ≡ false → lt tiny (radiusOf a b c area) ≡ true → T (le (area ⊘ ((a ⊕ b ⊕ c) ⊗ half) ⊘ radiusOf a b c area) α)) → T (le (shapeOf a b c area .«aspect_ratio») α)
+unfolding shapeOf shape flat aspectRatio
+aspect-by a b c area α zero h = go (lt area tiny) (lt tiny (radiusOf a b c area)) refl refl
+  where
     go : (b1 b2 : Bool) → lt area tiny ≡ b1 → lt tiny (radiusOf a b c area) ≡ b2
         → T (le (cond b1 (flat area) (record {
           area = area;
@@ -254,19 +254,30 @@ module _ (a b c x t α : Float) (ea : Edge a) (eb : Edge b) (ec : Edge c) (ex : 
       (ratio-below w (ex .n) S (ea .n * eb .n * ec .n) T' (u .0) (q .n) (h .n) (f .n) (ρ .n) W (units-pos (h .is)) (units-pos (f .is)) (passed .near) (limit-short (u .1) ut k) over sums products)
 
   pub aspect-below : T (le (shapeOf (root a) (root b) (root c) (root x ⊗ half) .«aspect_ratio») α)
-  aspect-below = aspect-by (root a) (root b) (root c) (root x ⊗ half) α k (λ e g. ratio-le)
+  aspect-below = aspect-by (root a) (root b) (root c) (root x ⊗ half) α (not-negative k) (λ e g. ratio-le)
 
--- without an area, or with one that is no number, it is 0
+-- without an area, or with one that is no number or infinite, it is 0
 no-radius : (p : Float) → lt tiny (p ⊘ (f32 0x40800000 ⊗ (nan ⊗ half))) ≡ false
 unfolding lt div mul ofBits
 no-radius nan = refl
 no-radius (inf s) = refl
 no-radius (fin s m e) = refl
 
-module _ (a b c x t α : Float) (k : Quartered α t) where
+zero-radius : (p : Float) → lt tiny (p ⊘ (f32 0x40800000 ⊗ (inf false ⊗ half))) ≡ false
+unfolding lt div mul ofBits
+zero-radius nan = refl
+zero-radius (inf s) = refl
+zero-radius (fin true m e) = refl
+zero-radius (fin false m e) = refl
+
+module _ (a b c x α : Float) (zero : T (le (f32 0) α)) where
   pub flat-below : T (lt (root x ⊗ half) tiny) → T (le (shapeOf a b c (root x ⊗ half) .«aspect_ratio») α)
-  flat-below h = aspect-by a b c (root x ⊗ half) α k (λ e g. absurd (subst T e h))
+  flat-below h = aspect-by a b c (root x ⊗ half) α zero (λ e g. absurd (subst T e h))
 
   pub none-below : root x ≡ nan → T (le (shapeOf a b c (root x ⊗ half) .«aspect_ratio») α)
   unfolding radiusOf
-  none-below h = aspect-by a b c (root x ⊗ half) α k (λ e g. let n : lt tiny (radiusOf a b c (root x ⊗ half)) ≡ false = rw h (no-radius (a ⊗ b ⊗ c)) in absurd (subst T (sym g ∙ n) tt))
+  none-below h = aspect-by a b c (root x ⊗ half) α zero (λ e g. let n : lt tiny (radiusOf a b c (root x ⊗ half)) ≡ false = rw h (no-radius (a ⊗ b ⊗ c)) in absurd (subst T (sym g ∙ n) tt))
+
+  pub infinite-below : root x ≡ inf false → T (le (shapeOf a b c (root x ⊗ half) .«aspect_ratio») α)
+  unfolding radiusOf
+  infinite-below h = aspect-by a b c (root x ⊗ half) α zero (λ e g. let n : lt tiny (radiusOf a b c (root x ⊗ half)) ≡ false = rw h (zero-radius (a ⊗ b ⊗ c)) in absurd (subst T (sym g ∙ n) tt))

@@ -25,7 +25,7 @@ use Rattle.rounding_errors.proofs.Near.{Near, near-eq, near-trans, near-mul, ne
 use Rattle.rounding_errors.proofs.Rounding.{Units, units-positive, Rounded, round-units}
 use Rattle.rounding_errors.proofs.Operations.{between-units, units-le, minimum-units, mul-units, add-units}
 use Rattle.thin.proofs.Squares.{test-near}
-use Rattle.thin.proofs.Aspect.{two-units, four-units, bound-units, times-below, Passed, passed-less, passed-longer, passed-turned, passed-swapped, Edge, Cross, aspect-below, flat-below, none-below}
+use Rattle.thin.proofs.Aspect.{two-units, four-units, bound-units, times-below, Passed, passed-less, passed-longer, passed-turned, passed-swapped, Edge, Cross, not-negative, aspect-below, flat-below, none-below}
 
 -- ---- the limit
 
@@ -207,7 +207,7 @@ root-below (fin true (suc m) e) h = refl
 root-below (fin false (suc m) e) h = absurd (le-not-lt (f32 0) (fin false (suc m) e) (unsigned-le (fin false (suc m) e) tt) h)
 
 -- the root of 2 ^ -66 is 2 ^ -33
-flat-limit : AreaLimit tiny (f32 0x1e800000)
+pub flat-limit : AreaLimit tiny (f32 0x1e800000)
 flat-limit = area.limit-is tiny (f32 0x1e800000) (unfold fits ofBits in tt) (unfold root mul lt ofBits in tt)
 
 kind : (x y : Float) {X : ℕ} → Units x X 89 209 → T (le x (f32 0x5d800000)) → T (fits binary32 y) → T (not (lt x y)) → Kind y X
@@ -238,8 +238,8 @@ kind x y {X} u h f g = go (isNan y) refl
     go false e = number (rw e tt)
 
 thin-of : (a b c y t : Float) (ea : Edge a) (eb : Edge b) (ec : Edge c) {X : ℕ} → T (fits binary32 t) → T (le (f32 0x35800000) t) → Passes t ea eb ec X → Kind y X → Thin t a b c y
-thin-of a b c y t ea eb ec f l h (rootless e) = record { below = λ α z. none-below (root a) (root b) (root c) y t α (z .quartered l) e }
-thin-of a b c y t ea eb ec f l h (flat e) = record { below = λ α z. flat-below (root a) (root b) (root c) y t α (z .quartered l) e }
+thin-of a b c y t ea eb ec f l h (rootless e) = record { below = λ α z. none-below (root a) (root b) (root c) y α (not-negative (z .quartered l)) e }
+thin-of a b c y t ea eb ec f l h (flat e) = record { below = λ α z. flat-below (root a) (root b) (root c) y α (not-negative (z .quartered l)) e }
 thin-of a b c y t ea eb ec f l h (measured ey g) = record {
   below =
       λ α z.
