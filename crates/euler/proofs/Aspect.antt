@@ -2,15 +2,14 @@
 use mathlib.Core.Logic.{inl, inr}
 use mathlib.Core.Path.{_≡_, refl, sym, subst}
 use Prim.Native.Nat.{ℕ, _+_, _*_, _^_, _≤_, _<_}
-use native.Mathlib.Nat.{le-refl, le-trans, mul-le-mul, mul-le-mul-left, mul-le-mul-right, le-of-mul-le-mul-right}
+use native.Mathlib.Nat.{le-trans, mul-le-mul, mul-le-mul-left, mul-le-mul-right, le-of-mul-le-mul-right}
 use native.Mathlib.Omega.{arith}
 use native.Mathlib.Bridge.{IsLe, le-by-compare}
 use native.Mathlib.Decide.{decLe}
 use mathlib.Core.Bool.{true, false}
 use lib.Dec.{T}
 use lib.Pow.{pow-pos}
-use lib.Ieee.{Float, nan, inf, fin, binary32, lt, le, fits, isNan, ofBits}
-use lib.Ieee.Exact.{HasValue}
+use lib.Ieee.{Float, nan, inf, fin, le, fits, isNan, ofBits}
 use lib.Ieee.Scale.{finite}
 use Rattle.numbers.specs.Rounded.{f32, _⊕_, _⊗_, _⊘_}
 use Rattle.numbers.specs.Root.{root}
@@ -22,7 +21,7 @@ use Rattle.quality.specs.Measures.{half, radiusOf}
 use Rattle.quality.specs.Shape.{shapeOf}
 use Rattle.area_bounds.specs.AreaBound.{crossSquared}
 use Rattle.area_bounds.proofs.AreaBound.{cross-fits}
-use Rattle.rounding_errors.proofs.Near.{Near, near-trans, near-add, near-self, near-within, square-back}
+use Rattle.rounding_errors.proofs.Near.{near-trans, near-add, near-self, near-within, square-back}
 use Rattle.rounding_errors.proofs.Rounding.{Units, units-pos}
 use Rattle.rounding_errors.proofs.Operations.{mul-units, div-units, add-units, root-units}
 use Rattle.rounding_errors.proofs.Signed.{units-order}

@@ -1,11 +1,10 @@
 -- Euler's inequality over whole numbers, with the errors of the cross product. A, B and C are the squares of a triangle's edges, X that of the cross product, x, y and z the lengths, cut to whole
 -- numbers. Four times X is at most the sum of the lengths times their product (`euler-exact`), and if Y is X but for errors, so is Y, but for a part of 20 / 2 ^ 20 (`euler-near`). Assumes nothing.
-use mathlib.Core.Path.{_≡_, refl, sym, subst}
-use Prim.Native.Nat.{ℕ, zero, suc, _+_, _-_, _*_, _^_, _≤_, _<_}
+use mathlib.Core.Path.{_≡_, refl, subst}
+use Prim.Native.Nat.{ℕ, zero, suc, _+_, _-_, _*_, _≤_}
 use native.Mathlib.Nat.{le-trans, mul-le-mul, mul-le-mul-left, mul-le-mul-right, le-of-mul-le-mul-right}
 use native.Mathlib.Omega.{arith}
 use native.Mathlib.Decide.{decLe}
-use Rattle.rounding_errors.proofs.Near.{square-back}
 use Rattle.cosines.proofs.Component.{twice-product}
 
 -- ---- roots

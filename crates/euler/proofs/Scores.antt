@@ -1,18 +1,16 @@
 -- With plain squares no score reaches a threshold that is out of reach, in any order of the points (`plain-low`). Assumes nothing.
-use mathlib.Core.Path.{_≡_, sym, _∙_, subst}
-use mathlib.Core.Bool.{_&&_}
+use mathlib.Core.Path.{sym, _∙_, subst}
 use lib.Dec.{T}
-use lib.Ieee.{Float, add, mul, div, lt, le, isNan, ofBits}
+use lib.Ieee.{Float, add, mul, div, lt, isNan, ofBits}
 use lib.Ieee.Fits.{and-l, and-r}
 use Rattle.numbers.specs.Rounded.{f32, _⊗_}
 use Rattle.numbers.specs.Root.{root}
 use Rattle.numbers.specs.Order.{minimum}
 use Rattle.numbers.proofs.OrderLaws.{lt-le-trans}
-use Rattle.vector.specs.Vector.{squared, distance}
+use Rattle.vector.specs.Vector.{squared}
 use Rattle.vector.specs.declared.Point3f.{Point3f}
 use Rattle.vector.proofs.Distances.{squared-turned, distance-is, distance-turned}
 use Rattle.bounds.specs.declared.Interval.{Interval}
-use Rattle.intervals.specs.Enclosed.{Holds}
 use Rattle.quality.specs.Measures.{half, score}
 use Rattle.score_bounds.specs.Bound.{AspectLimit}
 use Rattle.score_bounds.proofs.Aspect.{aspect-limit-is, aspect-low}
