@@ -1,4 +1,4 @@
--- By which ends all triangles of a point and of points in two boxes are refused (`far-within`, `within-by`). Assumes nothing.
+-- By which ends all triangles of a point and of points in two boxes are refused (`far-within`, `unreached-within`, `within-by`). Assumes nothing.
 use mathlib.Core.Bool.{_&&_}
 use lib.Dec.{T}
 use lib.Ieee.{Float, binary32, lt, le, fits}
@@ -16,9 +16,10 @@ use Rattle.thin.specs.Thin.{AllThin}
 use Rattle.cosines.specs.Cosine.{Coordinates}
 use Rattle.filters.specs.declared.Limits.{Limits}
 use Rattle.filters.specs.Refused.{small, large, distant, each}
+use Rattle.filters.proofs.Slivers.{low-each as low-each-of}
 use Rattle.filters.proofs.Throughout.{each-thin}
 use Rattle.box_filters.specs.declared.Edges.{Edges}
-use Rattle.box_filters.specs.RefusedWithin.{EdgesOf, Points, AreasOf, RefusedBy, small-areas, large-areas, thin-edges, all-slivers, low-scores, RefusedPoints, by-limits, as-sliver, by-score, RefusedWithin}
+use Rattle.box_filters.specs.RefusedWithin.{EdgesOf, Points, AreasOf, RefusedBy, small-areas, large-areas, thin-edges, all-slivers, low-scores, RefusedPoints, by-limits, as-sliver, by-score, RefusedWithin, Unreached}
 use Rattle.box_filters.proofs.Triangles.{edges-held, points, areas-of}
 use Rattle.box_filters.proofs.Low.{low-each}
 
@@ -26,6 +27,13 @@ module _ {p : Point3f} {q t at : Bounds} {e : Edges} (own : Finite p → T (with
   pub far-within : {threshold : Float} {l : Limits} → T (lt (l .far) (e .qt .lo)) → RefusedWithin threshold l p q t
   far-within {l = l} k = record {
     each = λ f b c g h i j. by-limits (distant (lt-le-trans (l .far) (e .qt .lo) (squared b c) k (edges-held (points own edges b c (f .numbers) (g .numbers) (h .numbers) i j) edges .qt-square .least)));
+  }
+
+  pub unreached-within : {threshold : Float} {l : Limits} → Unreached threshold e → RefusedWithin threshold l p q t
+  unreached-within {threshold} u = record {
+    each = λ f b c g h i j.
+        let k = edges-held (points own edges b c (f .numbers) (g .numbers) (h .numbers) i j) edges in
+        by-score (λ s r es. low-each-of s r (rw es (u .plain .low threshold (u .beyond) p b c (f .held) (g .held) (h .held) (k .pq-square) (k .qt-square) (k .pt-square))));
   }
 
   -- where no edge is too long

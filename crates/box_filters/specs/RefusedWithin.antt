@@ -11,6 +11,7 @@ use Rattle.area_bounds.specs.AreaBound.{crossSquared}
 use Rattle.intervals.specs.Enclosed.{Holds, differencesOf, ModerateBox, Magnitudes}
 use Rattle.cosines.specs.Cosine.{Coordinates}
 use Rattle.sliver_filters.specs.SliversWithin.{ThinWithin, SliversWithin}
+use Rattle.euler.specs.OutOfReach.{isOutOfReach, OutOfReach}
 use Rattle.decisions.specs.declared.Scene.{Scene}
 use Rattle.filters.specs.declared.Limits.{Limits}
 use Rattle.filters.specs.Refused.{RefusedThroughout, RefusedEach, Sliver}
@@ -46,6 +47,11 @@ pub data RefusedBy (threshold : Float) (l : Limits) (e : Edges) (a : Interval) :
   thin-edges : ThinWithin (l .thin) (e .pq) (e .pt) (e .qt) (a .hi) → RefusedBy threshold l e a
   all-slivers : SliversWithin (l .slivers) (e .pq) (e .qt) (e .pt) (a .hi) → RefusedBy threshold l e a
   low-scores : LowBy threshold e (a .hi) → RefusedBy threshold l e a
+
+-- a threshold is one that no score reaches with such edges
+pub record Unreached (threshold : Float) (e : Edges) : Type 0 where
+  pub beyond : T (isOutOfReach threshold)
+  pub plain : OutOfReach (e .pq) (e .qt) (e .pt)
 
 -- the triangle of p, b and c is refused, whichever of them comes first: by limits, as a sliver, or at every radius by
 -- settings with a threshold

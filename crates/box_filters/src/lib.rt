@@ -8,7 +8,8 @@ ghost use mathlib.Core.Path.{_≡_};
 ghost use mathlib.Core.Bool.{true};
 ghost use Rattle.intervals.specs.Enclosed.{differencesOf, CrossSquares};
 ghost use Rattle.box_filters.specs.LowBy.{AnglesWithin, LowBy};
-ghost use Rattle.box_filters.specs.RefusedWithin.{EdgesOf, AreasOf, RefusedBy, RefusedWithin};
+ghost use Rattle.box_filters.specs.RefusedWithin.{EdgesOf, AreasOf, RefusedBy, Unreached};
+ghost use Rattle.box_filters.specs.RefusedWithin.{RefusedWithin};
 
 // The squares of the lengths of three edges: of those between points of p and q, of p and t, and of q and t.
 pub struct Edges {
@@ -113,6 +114,16 @@ fn refuses(threshold: f32, l: Limits, e: Edges, area: Interval) -> bool
     are_low(threshold, e, area.hi)
 }
 
+// Whether a threshold is one that no score reaches with such edges.
+fn is_unreached(threshold: f32, e: Edges) -> bool
+    ensures { λ r. ⌜ (r ≡ true → Unreached threshold e) ⌝ }
+{
+    if !euler::is_out_of_reach(threshold) {
+        return false;
+    }
+    euler::is_plain(e.pq, e.qt, e.pt)
+}
+
 // Whether every triangle of p, a point of q and a point of t is refused, whichever of them comes first: by limits, or
 // by settings with a threshold that the limits are for. The areas with p first are the closest: what they don't refuse,
 // all of them don't.
@@ -122,6 +133,9 @@ pub fn is_refused_within(threshold: f32, l: Limits, p: Point3f, q: Bounds, t: Bo
     let at = intervals::point_box(p);
     let e = edges_of(at, q, t);
     if e.qt.lo > l.far {
+        return true;
+    }
+    if is_unreached(threshold, e) {
         return true;
     }
     if !filters::are_at_most(e.pq.hi, e.pt.hi, e.qt.hi, 3.4028235e38) {

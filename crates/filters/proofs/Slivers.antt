@@ -1,4 +1,4 @@
--- Three points whose squares are those of slivers are one (`sliver-is`), which the settings refuse in each order (`sliver-each`). Assumes nothing.
+-- Three points whose squares are those of slivers are one (`sliver-is`), the score of others is out of reach (`low-is`), and the settings refuse both in each order (`sliver-each`, `low-each`). Assumes nothing.
 use mathlib.Core.Path.{_≡_, subst}
 use mathlib.Core.Bool.{false, _&&_}
 use lib.Dec.{T}
@@ -15,7 +15,8 @@ use Rattle.triangle.specs.Quality.{quality}
 use Rattle.triangle.proofs.Acceptance.{low-refused}
 use Rattle.area_bounds.specs.AreaBound.{crossSquared}
 use Rattle.cosines.specs.Cosine.{Coordinates}
-use Rattle.sliver_filters.specs.SliversWithin.{SliversWithin}
+use Rattle.sliver_filters.specs.SliversWithin.{SliversWithin, LowEach}
+use Rattle.euler.specs.OutOfReach.{isOutOfReach, OutOfReach}
 use Rattle.decisions.specs.declared.Scene.{Scene}
 use Rattle.decisions.specs.Decisions.{accepts}
 use Rattle.filters.specs.declared.Limits.{Limits}
@@ -46,18 +47,25 @@ sliver-is {l} {p} {q} {t} {x} {y} {z} {a} {b} {c} {m} k ex ey ez ea eb ec f g h 
           });
     }
 
+pub low-is : {threshold : Float} {p q t : Point3f} {x y z : Float} {i j n : Interval} (k : Float) → T (isOutOfReach threshold) → x ≡ squared p q → y ≡ squared p t → z ≡ squared q t → Coordinates p × Coordinates q × Coordinates t → T (le x k && (le y k && le z k))
+    → Only x i → Only z j → Only y n → OutOfReach i j n → LowEach threshold p q t
+low-is {threshold} {p} {q} {t} {x} {y} {z} k b ex ey ez f g ox oz oy s =
+    let u = and-r (le x k) _ g in
+    s .low threshold b p q t (f .0) (f .1) (f .2) (only-holds x k ex ox (and-l (le x k) _ g)) (only-holds z k ez oz (and-r (le y k) _ u)) (only-holds y k ey oy (and-l (le y k) _ u))
+
 low-accepts : (s : Scene) (r : Float) (q : TriangleQuality) → T (lt (q .«quality_score») (s .«quality_threshold»)) → accepts s r q ≡ false
 unfolding accepts
 low-accepts s r q h = low-refused q r (s .«min_triangle_area») (s .«quality_threshold») (s .«max_edge_factor») (is-true (lt (q .«quality_score») (s .«quality_threshold»)) h)
 
+pub low-each : {p q t : Point3f} (s : Scene) (r : Float) → LowEach (s .«quality_threshold») p q t → RefusedEach s r p q t
+low-each {p} {q} {t} s r k = record {
+  pqt = low-accepts s r (quality p q t) (k .pqt);
+  ptq = low-accepts s r (quality p t q) (k .ptq);
+  qpt = low-accepts s r (quality q p t) (k .qpt);
+  qtp = low-accepts s r (quality q t p) (k .qtp);
+  tpq = low-accepts s r (quality t p q) (k .tpq);
+  tqp = low-accepts s r (quality t q p) (k .tqp);
+}
+
 pub sliver-each : {s : Scene} {r : Float} {l : Limits} {p q t : Point3f} → Limiting s r l → Sliver l p q t → RefusedEach s r p q t
-sliver-each {s} {r} {l} {p} {q} {t} g h =
-    let k = h .low (s .«quality_threshold») (g .filters) in
-    record {
-      pqt = low-accepts s r (quality p q t) (k .pqt);
-      ptq = low-accepts s r (quality p t q) (k .ptq);
-      qpt = low-accepts s r (quality q p t) (k .qpt);
-      qtp = low-accepts s r (quality q t p) (k .qtp);
-      tpq = low-accepts s r (quality t p q) (k .tpq);
-      tqp = low-accepts s r (quality t q p) (k .tqp);
-    }
+sliver-each {s} {r} g h = low-each s r (h .low (s .«quality_threshold») (g .filters))

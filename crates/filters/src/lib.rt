@@ -9,6 +9,7 @@ ghost use mathlib.Core.Bool.{true, _&&_};
 ghost use lib.Ieee.{le};
 ghost use Rattle.long_edges.specs.LongEdges.{Long};
 ghost use Rattle.cosines.specs.Cosine.{Coordinates};
+ghost use Rattle.sliver_filters.specs.SliversWithin.{LowEach};
 ghost use Rattle.filters.specs.Refused.{Least, Limiting, Refused, RefusedThroughout, RefusesAll};
 ghost use Rattle.filters.specs.Refused.{RefusedEach, Only, Sliver};
 
@@ -195,6 +196,25 @@ pub fn is_sliver_throughout(l: Limits, p: Point3f, q: Point3f, t: Point3f) -> bo
         return false;
     }
     sliver_filters::is_sliver(l.slivers, only(first), only(third), only(second), most)
+}
+
+// Whether the score of three points is below a threshold that none reaches, whichever of them comes first.
+pub fn is_out_of_reach(threshold: f32, p: Point3f, q: Point3f, t: Point3f) -> bool
+    ensures { λ r. ⌜ (r ≡ true → LowEach threshold p q t) ⌝ }
+{
+    if !euler::is_out_of_reach(threshold) {
+        return false;
+    }
+    if !are_numbers(p, q, t) {
+        return false;
+    }
+    let first = vector::distance_squared(p, q);
+    let second = vector::distance_squared(p, t);
+    let third = vector::distance_squared(q, t);
+    if !are_at_most(first, second, third, 67108864.0) {
+        return false;
+    }
+    euler::is_plain(only(first), only(third), only(second))
 }
 
 // Whether no triangle of points that are close to each other can be acceptable at a radius.

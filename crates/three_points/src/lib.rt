@@ -83,6 +83,9 @@ pub fn price_of(
     let first = points::point_at(points, i);
     let second = points::point_at(points, j);
     let third = points::point_at(points, k);
+    if filters::is_out_of_reach(s.quality_threshold, first, second, third) {
+        return 1;
+    }
     if filters::is_refused_throughout(limits, first, second, third) {
         return 1;
     }
