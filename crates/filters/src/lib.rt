@@ -171,8 +171,8 @@ fn are_numbers(p: Point3f, q: Point3f, t: Point3f) -> bool
     is_number(t)
 }
 
-// Whether the triangle of three points is a sliver, by squares alone, whichever of them comes first. Where the limit for
-// the aspect ratio alone is no less, there is nothing left to tell.
+// Whether the triangle of three points is a sliver, by squares alone, whichever of them comes first. Where the limit
+// for the aspect ratio alone is no less, there is nothing left to tell.
 pub fn is_sliver_throughout(l: Limits, p: Point3f, q: Point3f, t: Point3f) -> bool
     ensures { λ r. ⌜ (r ≡ true → Sliver l p q t) ⌝ }
 {
