@@ -12,6 +12,7 @@ use Rattle.thin.specs.Thin.{ThinLimit, AllThin}
 use Rattle.bounds.specs.declared.Interval.{Interval}
 use Rattle.bounds.specs.Within.{Limit}
 use Rattle.intervals.specs.Enclosed.{Holds}
+use Rattle.cosines.specs.Cosine.{Coordinates}
 use Rattle.sliver_filters.specs.SliversWithin.{Filtering, LowEach}
 use Rattle.decisions.specs.declared.Scene.{Scene}
 use Rattle.decisions.specs.Decisions.{reach, accepts}
@@ -45,6 +46,12 @@ pub data Refused (l : Limits) (p q t : Point3f) : Type 0 where
 -- the score of the triangle of p, q and t is too low in each order of them, if the limits are those of a threshold
 pub record Sliver (l : Limits) (p q t : Point3f) : Type 0 where
   pub low : (threshold : Float) → Filtering threshold (l .slivers) → LowEach threshold p q t
+
+-- three points with such squares of edges and of twice their areas are a sliver
+pub record SliverOf (l : Limits) (pq pt qt x y z : Float) : Type 0 where
+  pub is : (p q t : Point3f) → Coordinates p × Coordinates q × Coordinates t
+      → pq ≡ squared p q → pt ≡ squared p t → qt ≡ squared q t
+      → x ≡ crossSquared p q t → y ≡ crossSquared q p t → z ≡ crossSquared t p q → Sliver l p q t
 
 -- limits refuse the triangle of p, q and t whichever of them comes first: q and t are too far apart, it is a sliver, or
 -- it is refused in each order

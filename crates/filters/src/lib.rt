@@ -11,7 +11,7 @@ ghost use Rattle.long_edges.specs.LongEdges.{Long};
 ghost use Rattle.cosines.specs.Cosine.{Coordinates};
 ghost use Rattle.sliver_filters.specs.SliversWithin.{LowEach};
 ghost use Rattle.filters.specs.Refused.{Least, Limiting, Refused, RefusedThroughout, RefusesAll};
-ghost use Rattle.filters.specs.Refused.{RefusedEach, Only, Sliver};
+ghost use Rattle.filters.specs.Refused.{RefusedEach, Only, Sliver, SliverOf};
 
 // Limits for squares, by which a triangle is refused: of twice the area a least and a largest, of a distance the
 // largest, one for the aspect ratio, and those for slivers.
@@ -171,6 +171,21 @@ fn are_numbers(p: Point3f, q: Point3f, t: Point3f) -> bool
     is_number(t)
 }
 
+// Whether three points are a sliver, whichever of them comes first; from the squares of their edges and of twice their
+// areas.
+fn is_sliver_of(l: Limits, pq: f32, pt: f32, qt: f32, x: f32, y: f32, z: f32) -> bool
+    ensures { λ r. ⌜ (r ≡ true → SliverOf l pq pt qt x y z) ⌝ }
+{
+    if !are_at_most(pq, pt, qt, 67108864.0) {
+        return false;
+    }
+    let most = numbers::max(numbers::max(x, y), z);
+    if !are_at_most(x, y, z, most) {
+        return false;
+    }
+    sliver_filters::is_sliver(l.slivers, only(pq), only(qt), only(pt), most)
+}
+
 // Whether the triangle of three points is a sliver, by squares alone, whichever of them comes first. Where the limit
 // for the aspect ratio alone is no less, there is nothing left to tell.
 pub fn is_sliver_throughout(l: Limits, p: Point3f, q: Point3f, t: Point3f) -> bool
@@ -182,20 +197,35 @@ pub fn is_sliver_throughout(l: Limits, p: Point3f, q: Point3f, t: Point3f) -> bo
     if !are_numbers(p, q, t) {
         return false;
     }
-    let first = vector::distance_squared(p, q);
-    let second = vector::distance_squared(p, t);
-    let third = vector::distance_squared(q, t);
-    if !are_at_most(first, second, third, 67108864.0) {
+    let pq = vector::distance_squared(p, q);
+    let pt = vector::distance_squared(p, t);
+    let qt = vector::distance_squared(q, t);
+    let x = area_bounds::cross_squared(p, q, t);
+    let y = area_bounds::cross_squared(q, p, t);
+    let z = area_bounds::cross_squared(t, p, q);
+    is_sliver_of(l, pq, pt, qt, x, y, z)
+}
+
+// The same, asked with one of the three areas first: it is quicker where few are slivers.
+pub fn is_rare_sliver(l: Limits, p: Point3f, q: Point3f, t: Point3f) -> bool
+    ensures { λ r. ⌜ (r ≡ true → Sliver l p q t) ⌝ }
+{
+    if l.slivers.thin <= l.thin {
         return false;
     }
-    let a = area_bounds::cross_squared(p, q, t);
-    let b = area_bounds::cross_squared(q, p, t);
-    let c = area_bounds::cross_squared(t, p, q);
-    let most = numbers::max(numbers::max(a, b), c);
-    if !are_at_most(a, b, c, most) {
+    if !are_numbers(p, q, t) {
         return false;
     }
-    sliver_filters::is_sliver(l.slivers, only(first), only(third), only(second), most)
+    let pq = vector::distance_squared(p, q);
+    let pt = vector::distance_squared(p, t);
+    let qt = vector::distance_squared(q, t);
+    let x = area_bounds::cross_squared(p, q, t);
+    if !sliver_filters::is_sliver(l.slivers, only(pq), only(qt), only(pt), x) {
+        return false;
+    }
+    let y = area_bounds::cross_squared(q, p, t);
+    let z = area_bounds::cross_squared(t, p, q);
+    is_sliver_of(l, pq, pt, qt, x, y, z)
 }
 
 // Whether the score of three points is below a threshold that none reaches, whichever of them comes first.

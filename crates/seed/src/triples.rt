@@ -60,7 +60,11 @@ fn is_third(
     }
     let third = points::point_at(points, k);
     let first = points::point_at(points, i);
-    if filters::is_refused(limits, first, points::point_at(points, j), third) {
+    let second = points::point_at(points, j);
+    if filters::is_refused(limits, first, second, third) {
+        return false;
+    }
+    if filters::is_rare_sliver(limits, first, second, third) {
         return false;
     }
     decisions::is_completed(s, points, radius, i, j, k)
