@@ -78,6 +78,15 @@ pub record Constants : Type 0 where
   pub margin-256 : f32 0x39fc0000 ≡ decimal 252 (2 ^ 19)
   -- 1.00001: from here on no score reaches a threshold, see `euler`
   pub out-of-reach : f32 0x3f800054 ≡ decimal 100001 100000
+  -- how many times as long the edges of needles are, and their angles 0.21, 0.13, 0.07 and 0.04, see `needle_angles`
+  pub times-10 : f32 0x41200000 ≡ decimal 10 1
+  pub times-32 : f32 0x42000000 ≡ decimal 32 1
+  pub times-64 : f32 0x42800000 ≡ decimal 64 1
+  pub times-128 : f32 0x43000000 ≡ decimal 128 1
+  pub angle-10 : f32 0x3e570a3d ≡ decimal 21 100
+  pub angle-16 : f32 0x3e051eb8 ≡ decimal 13 100
+  pub angle-32 : f32 0x3d8f5c29 ≡ decimal 7 100
+  pub angle-128 : f32 0x3d23d70a ≡ decimal 4 100
   -- about 1e-12, and the next f32: squares of the plain path's cross product, see `plain`
   pub thin : f32 0x2b8cbccd ≡ decimal 9223373 (2 ^ 63)
   pub thin-next : f32 0x2b8cbcce ≡ decimal 9223374 (2 ^ 63)

@@ -1,21 +1,29 @@
 -- Needles by the squares of their edges' lengths, in five classes (`needle-10` to `needle-128`). Assumes nothing.
-use mathlib.Core.Path.{refl}
+use mathlib.Core.Path.{_≡_, refl}
 use Prim.Native.Nat.{ℕ, suc, _*_, _^_, _≤_, _<_}
+use native.Mathlib.Nat.{mul-pos, mul-le-mul-right}
+use native.Mathlib.Omega.{arith}
 use native.Mathlib.Bridge.{IsLe, le-by-compare}
+use mathlib.Core.Bool.{false}
 use mathlib.Core.List.{List}
 use lib.Dec.{T}
 use lib.Pow.{pow-pos}
-use lib.Ieee.{Float, nan, binary32, mul, le, fits, isNan, ofBits}
+use lib.Ieee.{Float, binary32, round, mul, le, fits, isNan, ofBits}
+use lib.Ieee.Order.{round-mono}
 use lib.Ieee.Positive.{positive, positive-finite, between}
-use Rattle.numbers.specs.Rounded.{f32, _⊗_}
+use Rattle.numbers.specs.Rounded.{f32, _⊗_, _⊘_}
 use Rattle.numbers.specs.Root.{root}
+use Rattle.numbers.specs.Order.{maximum}
 use Rattle.numbers.proofs.OrderLaws.{le-trans, unsigned-le}
 use Rattle.numbers.proofs.Above.{positive-signless}
 use Rattle.numbers.proofs.ProductOrder.{mul-monotone-finite}
-use Rattle.rounding_errors.proofs.Rounding.{Units, units-positive}
-use Rattle.rounding_errors.proofs.Operations.{between-units, mul-units, root-units, units-le}
+use Rattle.rounding_errors.proofs.Rounding.{Units, units-pos, units-positive}
+use Rattle.rounding_errors.proofs.Operations.{between-units, mul-units, div-at, div-units, root-units, units-le}
+use Rattle.six_orders.specs.SixOrders.{EdgeBound}
+use Rattle.six_orders.proofs.Positive.{number, maximum-either}
+use Rattle.six_orders.proofs.Edges.{edges-bounded, no-edge-bound}
 use Rattle.slivers.proofs.Arc.{w}
-use Rattle.needle_angles.specs.NeedleAngles.{NeedleAngle}
+use Rattle.needle_angles.specs.NeedleAngles.{NeedleAngle, NeedleRatio, NeedleClass, angleOf, ratioOf}
 use Rattle.needle_angles.proofs.Opposite.{hasRoom, edges-near, edges-far}
 use Rattle.needle_angles.proofs.LeftOver.{Step, areAll}
 use Rattle.needle_angles.proofs.Table.{first, first-all, second, second-all, third, third-all, fourth, fourth-all, fifth, fifth-all}
@@ -39,9 +47,27 @@ pub record Plain (least most long : Float) : Type 0 where
   pub long-under : T (le long huge)
   pub far : T (le long (least ⊗ huge))
 
+-- the edge ratio of edges K times as long is at least r, which is K
+module _ (K : ℕ) (r : Float) (is : r ≡ round binary32 false K 1) (pr : T (positive r)) (a b c : Float) (i j k : ℕ) (ua : Units a i 128 163) (ub : Units b j 128 163) (uc : Units c k 128 163) (to-b : i * K ≤ j) (to-c : i * K ≤ k) where
+  ratio-least : {x : Float} {n : ℕ} → Units x n 128 163 → i * K ≤ n → T (le r (x ⊘ a))
+  ratio-least {x} {n} u h = rw (is, div-at u ua) (round-mono binary32 K 1 (n * w) (i * w) (omega arith) (mul-pos (units-pos ua) (pow-pos 149)) (times n w h))
+    where
+      times : (n w : ℕ) → i * K ≤ n → K * (i * w) ≤ n * w * 1
+      times n w h = let l = mul-le-mul-right w h in omega arith
+
+  ratio-positive : {x : Float} {n : ℕ} → Units x n 128 163 → T (positive (x ⊘ a))
+  ratio-positive u = units-positive (div-units 113 185 u ua tt .is)
+
+  edges-times : EdgeBound a b c r
+  edges-times =
+      let p = maximum-either (λ (x : Float). T (positive (x ⊘ a))) b c (ratio-positive ub) (ratio-positive uc) in
+      let l = maximum-either (λ (x : Float). T (le r (x ⊘ a))) b c (ratio-least ub to-b) (ratio-least uc to-c) in
+      let e = edges-bounded a b c (units-positive ua) (units-positive ub) (units-positive uc) p in
+      record { above = λ n. pr; least = λ u v t o n. le-trans r (maximum b c ⊘ a) _ l (e .least u v t o (number (maximum b c ⊘ a) p)) }
+
 -- a class: edges K times as long, by the square's factor h, of k
 module _ (K : ℕ) (some : 0 < K) (θ : Float) (κ : ℕ) (m : Float) (steps : List Step) (all : T (areAll K θ κ m steps)) (φ n : ℕ) (pκ : T (isPart κ n)) (pφ : T (isPart φ (suc n))) (room : T (hasRoom K (suc n)))
-    (h : Float) (k : ℕ) (uh : Units h (k * 2 ^ 149) 155 165) (square : K * K * 1000001 ≤ k * 1000000) (rises : T (le tiny (tiny ⊗ h)))
+    (ρ : Float) (is : ρ ≡ round binary32 false K 1) (pρ : T (positive ρ)) (h : Float) (k : ℕ) (uh : Units h (k * 2 ^ 149) 155 165) (square : K * K * 1000001 ≤ k * 1000000) (rises : T (le tiny (tiny ⊗ h)))
     (least most short long : Float) (p : Plain least most long) (apart : T (le (most ⊗ h) short)) where
   module _ (x : Float) (fx : T (fits binary32 x)) (lo : T (le least x)) (hi : T (le x most)) where
     x-from : T (le tiny x)
@@ -88,8 +114,8 @@ module _ (K : ℕ) (some : 0 < K) (θ : Float) (κ : ℕ) (m : Float) (steps : L
           let z = mul-units 135 201 (x-units .1) huge-units tt in
           edges-far w (i .n) (j .n) (x-units .0) (y-units .0) (z .n) (pow-pos 149) (j .below) (units-le (y-units .1) (z .is) under) (z .below) (i .above)
 
-  of-class : NeedleAngle least most short long θ
-  of-class = record {
+  of-angle : NeedleAngle least most short long θ
+  of-angle = record {
     bound = λ x y z fx fy fz a b c d e f.
         let i = root-units 128 163 fx (x-units x fx a b .1) tt in
         let j = root-units 128 163 fy (y-units x fx a b y fy c d .1) tt in
@@ -97,43 +123,69 @@ module _ (K : ℕ) (some : 0 < K) (θ : Float) (κ : ℕ) (m : Float) (steps : L
         needle-bound K some θ κ m steps all φ n pκ pφ room (root x) (root y) (root z) (i .n) (j .n) (o .n) (i .is) (j .is) (o .is) (near x fx a b y fy c d) (near x fx a b z fz e f) (not-far x fx a b y fy c d) (not-far x fx a b z fz e f);
   }
 
+  of-ratio : NeedleRatio least most short long ρ
+  of-ratio = record {
+    bound = λ x y z fx fy fz a b c d e f.
+        let i = root-units 128 163 fx (x-units x fx a b .1) tt in
+        let j = root-units 128 163 fy (y-units x fx a b y fy c d .1) tt in
+        let o = root-units 128 163 fz (y-units x fx a b z fz e f .1) tt in
+        edges-times K ρ is pρ (root x) (root y) (root z) (i .n) (j .n) (o .n) (i .is) (j .is) (o .is) (near x fx a b y fy c d) (near x fx a b z fz e f);
+  }
+
+  of-class : NeedleAngle least most short long θ × NeedleRatio least most short long ρ
+  of-class = (of-angle, of-ratio)
+
 -- ---- the classes
 
 module _ {least most short long : Float} (p : Plain least most long) where
-  pub needle-10 : T (le (most ⊗ f32 0x42ca0000) short) → NeedleAngle least most short long (f32 0x3e570a3d)
-  unfolding IsLe
-  needle-10 h = of-class 10 (le-by-compare 1 10 tt) (f32 0x3e570a3d) 0x3f7a7000 (f32 0x3fbbe819) first first-all 0x3f7a7800 8014 tt tt tt (f32 0x42ca0000) 101 units (le-by-compare (10 * 10 * 1000001) (101 * 1000000) tt) (unfold le mul ofBits in tt) least most short long p h
+  pub needle-10 : T (le (most ⊗ f32 0x42ca0000) short) → NeedleClass least most short long 10
+  unfolding IsLe angleOf ratioOf
+  needle-10 h =
+      let r = of-class 10 (le-by-compare 1 10 tt) (f32 0x3e570a3d) 0x3f7a7000 (f32 0x3fbbe819) first first-all 0x3f7a7800 8014 tt tt tt (f32 0x41200000) (unfold ofBits round in refl) (unfold ofBits in tt) (f32 0x42ca0000) 101 units (le-by-compare (10 * 10 * 1000001) (101 * 1000000) tt) (unfold le mul ofBits in tt) least most short long p h in
+      record { angle = r .0; ratio = r .1 }
     where
       units : Units (f32 0x42ca0000) (101 * 2 ^ 149) 155 165
       units = unfold ofBits in record { value = (refl, refl); low = le-by-compare (2 ^ 155) (101 * 2 ^ 149) tt; high = le-by-compare (101 * 2 ^ 149) (2 ^ 165) tt }
 
-  pub needle-16 : T (le (most ⊗ f32 0x43808000) short) → NeedleAngle least most short long (f32 0x3e051eb8)
-  unfolding IsLe
-  needle-16 h = of-class 16 (le-by-compare 1 16 tt) (f32 0x3e051eb8) 0x3f7de000 (f32 0x3fc0ddf9) second second-all 0x3f7de800 8124 tt tt tt (f32 0x43808000) 257 units (le-by-compare (16 * 16 * 1000001) (257 * 1000000) tt) (unfold le mul ofBits in tt) least most short long p h
+  pub needle-16 : T (le (most ⊗ f32 0x43808000) short) → NeedleClass least most short long 16
+  unfolding IsLe angleOf ratioOf
+  needle-16 h =
+      let r = of-class 16 (le-by-compare 1 16 tt) (f32 0x3e051eb8) 0x3f7de000 (f32 0x3fc0ddf9) second second-all 0x3f7de800 8124 tt tt tt (f32 0x41800000) (unfold ofBits round in refl) (unfold ofBits in tt) (f32 0x43808000) 257 units (le-by-compare (16 * 16 * 1000001) (257 * 1000000) tt) (unfold le mul ofBits in tt) least most short long p h in
+      record { angle = r .0; ratio = r .1 }
     where
       units : Units (f32 0x43808000) (257 * 2 ^ 149) 155 165
       units = unfold ofBits in record { value = (refl, refl); low = le-by-compare (2 ^ 155) (257 * 2 ^ 149) tt; high = le-by-compare (257 * 2 ^ 149) (2 ^ 165) tt }
 
-  pub needle-32 : T (le (most ⊗ f32 0x44802000) short) → NeedleAngle least most short long (f32 0x3d8f5c29)
-  unfolding IsLe
-  needle-32 h = of-class 32 (le-by-compare 1 32 tt) (f32 0x3d8f5c29) 0x3f7f6000 (f32 0x3fc4bf94) third third-all 0x3f7f6800 8172 tt tt tt (f32 0x44802000) 1025 units (le-by-compare (32 * 32 * 1000001) (1025 * 1000000) tt) (unfold le mul ofBits in tt) least most short long p h
+  pub needle-32 : T (le (most ⊗ f32 0x44802000) short) → NeedleClass least most short long 32
+  unfolding IsLe angleOf ratioOf
+  needle-32 h =
+      let r = of-class 32 (le-by-compare 1 32 tt) (f32 0x3d8f5c29) 0x3f7f6000 (f32 0x3fc4bf94) third third-all 0x3f7f6800 8172 tt tt tt (f32 0x42000000) (unfold ofBits round in refl) (unfold ofBits in tt) (f32 0x44802000) 1025 units (le-by-compare (32 * 32 * 1000001) (1025 * 1000000) tt) (unfold le mul ofBits in tt) least most short long p h in
+      record { angle = r .0; ratio = r .1 }
     where
       units : Units (f32 0x44802000) (1025 * 2 ^ 149) 155 165
       units = unfold ofBits in record { value = (refl, refl); low = le-by-compare (2 ^ 155) (1025 * 2 ^ 149) tt; high = le-by-compare (1025 * 2 ^ 149) (2 ^ 165) tt }
 
-  pub needle-64 : T (le (most ⊗ f32 0x45800800) short) → NeedleAngle least most short long (f32 0x3d4ccccd)
-  unfolding IsLe
-  needle-64 h = of-class 64 (le-by-compare 1 64 tt) (f32 0x3d4ccccd) 0x3f7fb000 (f32 0x3fc5efc0) fourth fourth-all 0x3f7fb800 8182 tt tt tt (f32 0x45800800) 4097 units (le-by-compare (64 * 64 * 1000001) (4097 * 1000000) tt) (unfold le mul ofBits in tt) least most short long p h
+  pub needle-64 : T (le (most ⊗ f32 0x45800800) short) → NeedleClass least most short long 64
+  unfolding IsLe angleOf ratioOf
+  needle-64 h =
+      let r = of-class 64 (le-by-compare 1 64 tt) (f32 0x3d4ccccd) 0x3f7fb000 (f32 0x3fc5efc0) fourth fourth-all 0x3f7fb800 8182 tt tt tt (f32 0x42800000) (unfold ofBits round in refl) (unfold ofBits in tt) (f32 0x45800800) 4097 units (le-by-compare (64 * 64 * 1000001) (4097 * 1000000) tt) (unfold le mul ofBits in tt) least most short long p h in
+      record { angle = r .0; ratio = r .1 }
     where
       units : Units (f32 0x45800800) (4097 * 2 ^ 149) 155 165
       units = unfold ofBits in record { value = (refl, refl); low = le-by-compare (2 ^ 155) (4097 * 2 ^ 149) tt; high = le-by-compare (4097 * 2 ^ 149) (2 ^ 165) tt }
 
-  pub needle-128 : T (le (most ⊗ f32 0x46800200) short) → NeedleAngle least most short long (f32 0x3d23d70a)
-  unfolding IsLe
-  needle-128 h = of-class 128 (le-by-compare 1 128 tt) (f32 0x3d23d70a) 0x3f7fd000 (f32 0x3fc68fcd) fifth fifth-all 0x3f7fd800 8186 tt tt tt (f32 0x46800200) 16385 units (le-by-compare (128 * 128 * 1000001) (16385 * 1000000) tt) (unfold le mul ofBits in tt) least most short long p h
+  pub needle-128 : T (le (most ⊗ f32 0x46800200) short) → NeedleClass least most short long 128
+  unfolding IsLe angleOf ratioOf
+  needle-128 h =
+      let r = of-class 128 (le-by-compare 1 128 tt) (f32 0x3d23d70a) 0x3f7fd000 (f32 0x3fc68fcd) fifth fifth-all 0x3f7fd800 8186 tt tt tt (f32 0x43000000) (unfold ofBits round in refl) (unfold ofBits in tt) (f32 0x46800200) 16385 units (le-by-compare (128 * 128 * 1000001) (16385 * 1000000) tt) (unfold le mul ofBits in tt) least most short long p h in
+      record { angle = r .0; ratio = r .1 }
     where
       units : Units (f32 0x46800200) (16385 * 2 ^ 149) 155 165
       units = unfold ofBits in record { value = (refl, refl); low = le-by-compare (2 ^ 155) (16385 * 2 ^ 149) tt; high = le-by-compare (16385 * 2 ^ 149) (2 ^ 165) tt }
 
-pub no-needle : (least most short long : Float) → NeedleAngle least most short long nan
-no-needle least most short long = record { bound = λ x y z fx fy fz a b c d e f. record { most = λ u v t o n. absurd (unfold isNan in n) } }
+pub no-needle : (least most short long : Float) → NeedleClass least most short long 0
+unfolding angleOf ratioOf
+no-needle least most short long = record {
+  angle = record { bound = λ x y z fx fy fz a b c d e f. record { most = λ u v t o n. absurd (unfold isNan in n) } };
+  ratio = record { bound = λ x y z fx fy fz a b c d e f. no-edge-bound (root x) (root y) (root z) };
+}

@@ -1,4 +1,4 @@
--- A score is at most that of a larger least angle, a larger aspect ratio and a lesser edge ratio, so one score below a threshold puts another below it (`score-below`), those of all orders (`all-below`), and of all edges that are not shorter (`all-below-from`). Assumes nothing.
+-- A score is at most that of a larger least angle, a larger aspect ratio and a lesser edge ratio, so one score below a threshold puts another below it (`score-below`), those of all orders (`all-below`, and `low-by-aspect` of one order with an aspect ratio of its own), and of all edges that are not shorter (`all-below-from`). Assumes nothing.
 use mathlib.Core.Path.{_≡_, refl}
 use mathlib.Core.Bool.{Bool, true, false, not, cond}
 use lib.Dec.{T}
@@ -12,7 +12,7 @@ use Rattle.numbers.proofs.OrderLaws.{le-left, le-trans, lt-le-trans, le-lt-tran
 use Rattle.numbers.proofs.QuotientOrder.{div-monotone}
 use Rattle.numbers.proofs.Minimum.{minimum-either, minimum-first, minimum-le}
 use Rattle.quality.specs.Measures.{tiny, radiusOf, aspectRatio, edgeRatio, score, measures, degenerate}
-use Rattle.quality.specs.Shape.{qualityOf}
+use Rattle.quality.specs.Shape.{shape, flat, shapeOf, qualityOf}
 use Rattle.score_bounds.proofs.Bounds.{part}
 use Rattle.score_bounds.proofs.Aspect.{doubled-le, mean-under, below-low}
 use Rattle.six_orders.specs.SixOrders.{InOrder, abc, acb, bac, bca, cab, cba, leastAngle, AngleBound, AspectBound, EdgeBound, AllBelow, NotShorter, AspectFrom, EdgeFrom, AllBelowFrom}
@@ -84,6 +84,15 @@ module _ (a b c m t e X threshold : Float) (above : T (lt (f32 0) threshold)) (a
       at : (u v w r : Float) → InOrder a b c u v w → T (le r X) → (k : Bool) → lt r tiny ≡ k → T (lt (cond k (degenerate r) (measures u v w r (radiusOf u v w r)) .«quality_score») threshold)
       at u v w r o h true e = above
       at u v w r o h false e = score-low u v w r o (not-lt-le r tiny (le-left r X h) tiny-number (rw e tt)) h
+
+-- by an aspect ratio that is known in one order
+pub low-by-aspect : (a b c m t e threshold : Float) → T (lt (f32 0) threshold) → AngleBound a b c m → EdgeBound a b c e → T (lt (score m t e) threshold) → (u v w area : Float) → InOrder a b c u v w → T (le (shapeOf u v w area .«aspect_ratio») t) → T (lt (qualityOf u v w area .«quality_score») threshold)
+unfolding shapeOf qualityOf shape flat measures degenerate leastAngle
+low-by-aspect a b c m t e threshold above angles edge low u v w area o = go (lt area tiny)
+  where
+    go : (k : Bool) → T (le (cond k (flat area) (shape u v w area) .«aspect_ratio») t) → T (lt (cond k (degenerate area) (measures u v w area (radiusOf u v w area)) .«quality_score») threshold)
+    go true h = above
+    go false h = score-below (leastAngle u v w) (aspectRatio u v w area (radiusOf u v w area)) (edgeRatio u v w) m t e threshold (angles .most u v w o) h (λ n. (edge .above n, edge .least u v w o n)) low
 
 -- ---- edges that are not shorter
 

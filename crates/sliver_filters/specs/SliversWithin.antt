@@ -1,4 +1,5 @@
--- Slivers by squares: limits for a threshold, and what they tell of all triangles whose squares lie in intervals.
+-- Slivers and needles by squares: limits for a threshold, and what they tell of all triangles whose squares lie in
+-- intervals.
 -- Definitions only.
 use lib.Dec.{T}
 use lib.Ieee.{Float, binary32, lt, le, fits}
@@ -11,15 +12,17 @@ use Rattle.area_bounds.specs.AreaBound.{crossSquared}
 use Rattle.thin.specs.Thin.{ThinLimit, AllThin}
 use Rattle.slivers.specs.Slivers.{Slivers}
 use Rattle.cosines.specs.Cosine.{NarrowLimit, Coordinates}
+use Rattle.needle_limits.specs.Needles.{ClassLimits}
 use Rattle.sliver_filters.specs.declared.SliverFilter.{SliverFilter}
 
--- limits are those of a threshold: for cosines and an aspect ratio with which no score reaches it
+-- limits are those of a threshold: for cosines and an aspect ratio with which no score reaches it, and for needles
 pub record Filtering (threshold : Float) (l : SliverFilter) : Type 0 where
   pub cosine : Float
   pub aspect : Float
   pub refuses : Slivers threshold cosine aspect
   pub narrows : NarrowLimit cosine (l .narrow)
   pub thins : ThinLimit aspect (l .thin)
+  pub needles : ClassLimits threshold (l .needles)
 
 -- an f32 in an interval
 pub record HeldIn (i : Interval) (x : Float) : Type 0 where
