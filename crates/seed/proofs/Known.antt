@@ -1,5 +1,5 @@
 -- What the passes and the largest radius tell the search for a seed. Assumes nothing.
-use Prim.Native.Nat.{ℕ, _+_, _≤_, _<_}
+use Prim.Native.Nat.{ℕ, _+_}
 use mathlib.Core.Path.{_≡_, refl, sym, ap, _∙_, subst}
 use mathlib.Core.Logic.{⊎-elim}
 use mathlib.Core.Bool.{Bool, true, false}
@@ -10,18 +10,15 @@ use lib.ListN.{take}
 use lib.Ieee.{Float}
 use Rattle.lists.specs.Lists.{unused, upFrom}
 use Rattle.lists.proofs.Bools.{either, true-not-false}
-use Rattle.spatial_hash.specs.declared.Hash.{Hash}
 use Rattle.decisions.specs.declared.Scene.{Scene}
 use Rattle.decisions.specs.Decisions.{floatsOf}
 use Rattle.nearby.specs.Ready.{Kept, usedIn}
 use Rattle.patch.specs.Search.{searching, firstOf}
 use Rattle.known_radii.specs.Known.{NothingTo, Known}
 use Rattle.known_radii.proofs.Larger.{known-nothing}
-use Rattle.seedless.specs.Parts.{withFirst}
 use Rattle.seedless.specs.Seedless.{SeedlessFrom, SeedlessBetween}
-use Rattle.seedless.proofs.Threes.{seedless-next, seedless-nothing}
+use Rattle.seedless.proofs.Threes.{seedless-next}
 use Rattle.seed.specs.Found.{KnownFrom}
-use Rattle.seed.proofs.State.{Seeking}
 
 -- what is known after a point, either way
 pub seedless-on : {s : Scene} {pts : List Float} {r : Float} {lo i : ℕ} {w₀ w : List ℕ} {seedless : Bool} {m : ℕ} → SeedlessBetween s pts r (usedIn s w₀) lo i → Kept s w₀ w → (seedless ≡ true → SeedlessFrom s pts r (usedIn s w) lo i) → KnownFrom lo i seedless m → SeedlessBetween s pts r (usedIn s w₀) m (i + 1)
@@ -32,11 +29,6 @@ seedless-on {s} {pts} {r} {i = i} {w₀ = w₀} {seedless = seedless} {m = m} b 
 
 pub unused-back : {s : Scene} {w v : List ℕ} {t : Bool} (i : ℕ) → Kept s w v → unused (usedIn s v) i ≡ t → unused (usedIn s w) i ≡ t
 unused-back {s} i k h = ap (λ (l : List ℕ). unused (take (s .n) l) i) (sym (k .after)) ∙ h
-
-pub seek-seedless : {s : Scene} {pts : List Float} {r : Float} {hash : Hash} {w₀ v : List ℕ} {left lo i : ℕ} → Seeking s pts r hash w₀ v left i → i < s .n → lo ≤ i → unused (usedIn s v) i ≡ true → SeedlessBetween s pts r (usedIn s w₀) lo (i + 1)
-    → withFirst (floatsOf s pts) r (usedIn s v) i ≡ none
-seek-seedless {s} {pts} {r} {w₀ = w₀} {i = i} k hi hl u b =
-    ap (λ (l : List ℕ). withFirst (floatsOf s pts) r (take (s .n) l) i) (k .kept .after) ∙ seedless-nothing (usedIn s w₀) (unused-back {s = s} i (k .kept) u) hi hl b
 
 -- ---- the largest radius
 

@@ -1,37 +1,34 @@
 -- What the lent slices hold between the steps of the search for a seed. Assumes nothing.
 use Prim.Native.Nat.{ℕ, suc, _+_, _-_, _*_, _≤_, _<_}
 use mathlib.Core.Path.{_≡_, refl, sym, ap, _∙_, subst}
-use mathlib.Core.Logic.{_⊎_}
-use mathlib.Core.Bool.{Bool, true, false}
+use mathlib.Core.Bool.{true, false}
 use mathlib.Core.List.{List, _∷_}
 use mathlib.Core.Option.{Option, none}
 use native.Mathlib.Omega.{arith}
 use lib.ListN.{length, take}
-use lib.Ieee.{Float, lt}
+use lib.Ieee.{Float}
 use Rattle.vector.specs.declared.Point3f.{Point3f}
 use Rattle.points.specs.Points.{pointAt}
 use Rattle.grid.specs.Grid.{neighbors}
 use Rattle.grid.specs.Index.{Indexed}
-use Rattle.lists.specs.Members.{Below, only}
+use Rattle.lists.specs.Members.{Below}
 use Rattle.grid.proofs.Near.{neighbors-below, indexed-kept}
 use Rattle.lists.proofs.Members.{below-part, only-below}
 use Rattle.spatial_hash.specs.declared.Hash.{Hash}
 use Rattle.spatial_hash.specs.Near.{Hashed}
 use Rattle.lists.specs.Lists.{unused, upFrom}
-use Rattle.patch.specs.Search.{secondOf, firstOf}
+use Rattle.patch.specs.Search.{firstOf}
 use Rattle.decisions.specs.declared.Scene.{Scene}
-use Rattle.decisions.specs.Decisions.{reach, apart, around, floatsOf}
-use Rattle.nearby.specs.Ready.{Held, Listed, Kept, usedIn, listed}
-use Rattle.nearby.specs.Narrow.{inReach, Nearby, Sought}
+use Rattle.decisions.specs.Decisions.{floatsOf}
+use Rattle.nearby.specs.Ready.{Held, Listed, Kept, usedIn}
+use Rattle.nearby.specs.Narrow.{inReach, Sought}
 use Rattle.nearby.proofs.Keeping.{kept-self, kept-on, held-kept, hashed-search}
-use Rattle.nearby.proofs.Narrowing.{out-of-reach}
 use Rattle.seed.specs.declared.Seed.{Seed}
 use Rattle.seed.specs.declared.Seed.the-variants.{Triangle, Nothing}
 use Rattle.seed.specs.Found.{seedFound}
 use Rattle.seedless.specs.Parts.{withFirst}
 use Rattle.seedless.proofs.Laws.{orElse, up-step, up-end, first-tried, first-used, first-spent, first-end}
 use Rattle.seed.proofs.Laws.{else-hit, else-miss}
-use Rattle.seed.proofs.LeftOut.{second-only, second-thirds, second-out, third-out}
 
 -- ---- what is listed
 
@@ -44,29 +41,7 @@ listed-points {s} {pts} {w} {u} {a} {count} {q} {r} long f = record {
       below-part (s .n) u (4 * s .n) count m (subst (λ (l : List ℕ). Below (s .n) l) (sym (f .nearby .same)) b) h (omega (arith, f .most));
 }
 
--- whoever was left out is used or too far away
-left-out : {pts : List Float} {used ks js : List ℕ} {a : ℕ} {r : Float} (x : Nearby pts used a r ks js) (k : ℕ) → inReach pts used (pointAt pts a) (x .limit) k ≡ false
-    → (unused used k ≡ false) ⊎ (lt r (apart pts k a) ≡ true)
-left-out {pts} {used} {a = a} {r = r} x k h = out-of-reach pts used r a k (x .limit) (x .limits) h
-
 -- ---- the first point
-near-is : (s : Scene) (pts : List Float) (r : Float) (i : ℕ) (p : Point3f) → p ≡ pointAt pts i → neighbors (s .indexed) (s .grid) pts (s .n) p (reach r) ≡ floatsOf s pts .near r i
-unfolding floatsOf around
-near-is s pts r i p e = ap (λ (q : Point3f). neighbors (s .indexed) (s .grid) pts (s .n) q (reach r)) e
-
-pub with-first : (s : Scene) (pts : List Float) (r : Float) (w u : List ℕ) (count i : ℕ) (p : Point3f) → p ≡ pointAt pts i
-    → Sought s pts w u i p (reach r) count
-    → secondOf (floatsOf s pts) r (usedIn s u) i (listed s u count) (listed s u count) ≡ withFirst (floatsOf s pts) r (usedIn s w) i
-unfolding withFirst
-with-first s pts r w u count i p ep f =
-    let ks : List ℕ = neighbors (s .indexed) (s .grid) pts (s .n) p (reach r) in
-    let test : ℕ → Bool = inReach pts (usedIn s w) (pointAt pts i) (f .nearby .limit) in
-    let below = neighbors-below (s .indexed) (s .grid) pts (s .n) p (reach r) in
-    ap (λ (l : List ℕ). secondOf (floatsOf s pts) r (take (s .n) l) i (listed s u count) (listed s u count)) (f .kept .after)
-    ∙ ap (λ (l : List ℕ). secondOf (floatsOf s pts) r (usedIn s w) i l l) (f .nearby .same)
-    ∙ second-only (floatsOf s pts) r (usedIn s w) test (s .n) i (λ j h t. second-out s pts r (usedIn s w) i j (left-out (f .nearby) j t)) (only test ks) ks below
-    ∙ second-thirds (floatsOf s pts) r (usedIn s w) test (s .n) i (λ j k h t. third-out s pts r (usedIn s w) i k j (left-out (f .nearby) k t)) ks below ks
-    ∙ ap (λ (l : List ℕ). secondOf (floatsOf s pts) r (usedIn s w) i l l) (near-is s pts r i p ep)
 
 -- what is found from the points is, so many of the unused ones being tried
 abbrev firsts : Scene → List Float → Float → List ℕ → List ℕ → ℕ → Option (ℕ × ℕ × ℕ)

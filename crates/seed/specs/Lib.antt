@@ -1,2 +1,3 @@
--- What the crate's contracts cite.
+-- What the crate's contracts cite, leaves first.
 pub mod Found
+pub mod Seconds

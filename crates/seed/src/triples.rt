@@ -2,22 +2,27 @@
 use crate::Seed;
 use decisions::Scene;
 use filters::Limits;
+use nearby::Filter;
 use seedless::Site;
 ghost use mathlib.Core.Path.{_≡_};
 ghost use mathlib.Core.Bool.{true};
 ghost use mathlib.Core.Option.{none};
+ghost use lib.ListN.{drop};
 ghost use Prim.Native.Nat.{_*_, _≤_, _<_, _+_};
 ghost use Rattle.grid.specs.Index.{Indexed};
 ghost use Rattle.spatial_hash.specs.Near.{Hashed};
 ghost use Rattle.patch.specs.Search.{isSecond, isThird, thirdOf, secondOf, firstOf};
 ghost use Rattle.lists.specs.Lists.{upFrom};
-ghost use Rattle.decisions.specs.Decisions.{isClose, floatsOf};
+ghost use Rattle.points.specs.Points.{pointAt};
+ghost use Rattle.decisions.specs.Decisions.{isClose, reach, floatsOf};
 ghost use Rattle.filters.specs.Refused.{Limiting};
 ghost use Rattle.nearby.specs.Ready.{Held, Listed, usedIn, listed, Kept};
+ghost use Rattle.nearby.specs.Narrow.{Filters};
 ghost use Rattle.known_radii.specs.Known.{NothingTo};
 ghost use Rattle.seed.specs.declared.Seed.the-variants.{Nothing};
-ghost use Rattle.seedless.specs.Parts.{withSecond, withFirst};
+ghost use Rattle.seedless.specs.Parts.{withSecond};
 ghost use Rattle.seed.specs.Found.{seedFound, KnownFrom};
+ghost use Rattle.seed.specs.Seconds.{withSeconds, SecondsTried, Searchable, SeedlessBefore, FirstTried};
 ghost use Rattle.three_points.specs.Judged.{Judged};
 
 // Whether j may be the second point after i.
@@ -106,17 +111,26 @@ fn try_second(p: Site, points: &[f32], w: &[u32], count: usize, i: usize, j: usi
     find_third(p, points, w, count, i, j)
 }
 
-// The seed of i and the first second point that has a third one, both among the listed neighbours.
-fn find_second(p: Site, points: &[f32], w: &[u32], count: usize, i: usize) -> Seed
+// The seed of i and the first second point that has a third one, both among the listed neighbours; the second one from
+// one place of the list on and before another.
+fn find_second(
+    p: Site,
+    points: &[f32],
+    w: &[u32],
+    count: usize,
+    i: usize,
+    from: usize,
+    to: usize,
+) -> Seed
     requires { ⌜ Held (p .scene) (now points) (now w) × Listed (p .scene) (now w) count × (i < p .scene .n)
-        × Judged (p .scene) (now points) (p .radius) (p .limits) ⌝ }
+        × Judged (p .scene) (now points) (p .radius) (p .limits) × (to ≤ count) ⌝ }
     ensures { λ r. ⌜ r
         ≡ seedFound (secondOf (floatsOf (p .scene) (now (points .entry))) (p .radius)
         (usedIn (p .scene) (now (w .entry))) i (listed (p .scene) (now (w .entry)) count)
-        (listed (p .scene) (now (w .entry)) count)) ⌝ }
+        (drop from (listed (p .scene) (now (w .entry)) to))) ⌝ }
 {
-    let mut m: usize = 0;
-    while m < count {
+    let mut m = from;
+    while m < to {
         let j = nearby::listed_point(p.scene, w, count, m);
         let found = try_second(p, points, w, count, i, j);
         if let Seed::Triangle(a, b, c) = found {
@@ -127,40 +141,119 @@ fn find_second(p: Site, points: &[f32], w: &[u32], count: usize, i: usize) -> Se
     Seed::Nothing
 }
 
-// What the unused point i gives as the first one.
-fn try_first(p: Site, points: &[f32], w: &mut [u32], i: usize) -> Seed
-    requires { ⌜ Held (p .scene) (now points) (now w) × Indexed (p .scene .grid) (now points) (p .scene .n) (now w)
-        × Hashed (p .hash) (now points) (p .scene .n) (now w) × (i < p .scene .n)
-        × Limiting (p .scene) (p .radius) (p .limits) ⌝ }
-    ensures { λ r. ⌜ (r
-        ≡ seedFound (withFirst (floatsOf (p .scene) (now (points .entry))) (p .radius)
-        (usedIn (p .scene) (now (w .entry))) i))
+// The lesser of two numbers.
+fn lesser(a: usize, b: usize) -> usize
+    ensures { λ r. ⌜ (r ≤ a) × (r ≤ b) × (r < b → r ≡ a) ⌝ }
+{
+    if a < b {
+        return a;
+    }
+    b
+}
+
+// What the unused point i gives as the first one with the second points from one place on and before another.
+fn try_seconds(
+    p: Site,
+    points: &[f32],
+    w: &mut [u32],
+    f: Filter,
+    i: usize,
+    from: usize,
+    to: usize,
+) -> Seed
+    requires { ⌜ Searchable p (now points) (now w) i
+        × Filters (p .scene) (pointAt (now points) i) (pointAt (now points) i) (reach (p .radius)) f ⌝ }
+    ensures { λ r. ⌜ SecondsTried (p .scene) (now (points .entry)) (p .radius) (usedIn (p .scene) (now (w .entry))) f i
+        from to r
         × Kept (p .scene) (now (w .entry)) (now (w .exit)) ⌝ }
 {
     let s = p.scene;
-    let place = points::point_at(points, i);
-    let f = nearby::filter_of(s, place, place, p.radius * 2.0);
     let found = nearby::gather_near(s, points, w, f, p.radius * 2.002, p.hash);
     let count = nearby::narrow(s, points, w, f, found);
-    find_second(p, points, w, count, i)
+    find_second(p, points, w, count, i, from, lesser(to, count))
 }
 
-// The same, where it may be known that it gives nothing.
-fn try_unless_seedless(p: Site, points: &[f32], w: &mut [u32], i: usize, seedless: bool) -> Seed
-    requires { ⌜ Held (p .scene) (now points) (now w) × Indexed (p .scene .grid) (now points) (p .scene .n) (now w)
-        × Hashed (p .hash) (now points) (p .scene .n) (now w) × (i < p .scene .n)
-        × Limiting (p .scene) (p .radius) (p .limits)
-        × (seedless ≡ true
-        → withFirst (floatsOf (p .scene) (now points)) (p .radius) (usedIn (p .scene) (now w)) i ≡ none) ⌝ }
-    ensures { λ r. ⌜ (r
-        ≡ seedFound (withFirst (floatsOf (p .scene) (now (points .entry))) (p .radius)
-        (usedIn (p .scene) (now (w .entry))) i))
+// What a first point gives, whether it is told that no two unused points after it or before point lo make a seed with
+// it, and what is left to pay with.
+pub struct First {
+    pub seed: Seed,
+    pub seedless: bool,
+    pub purse: usize,
+}
+
+// What the unused point i gives as the first one, where the second points before a place give nothing: it is checked at
+// once, and the others are searched if that doesn't tell.
+fn try_rest(
+    p: Site,
+    points: &[f32],
+    w: &mut [u32],
+    f: Filter,
+    lo: usize,
+    i: usize,
+    from: usize,
+    purse: usize,
+) -> First
+    requires { ⌜ Searchable p (now points) (now w) i
+        × Filters (p .scene) (pointAt (now points) i) (pointAt (now points) i) (reach (p .radius)) f
+        × SeedlessBefore p (now points) (usedIn (p .scene) (now w)) lo i
+        × (withSeconds (p .scene) (now points) (p .radius) (usedIn (p .scene) (now w)) f i 0 from ≡ none) ⌝ }
+    ensures { λ r. ⌜ FirstTried (p .scene) (now (points .entry)) (p .radius) (usedIn (p .scene) (now (w .entry))) lo i
+        (r .seed) (r .seedless)
         × Kept (p .scene) (now (w .entry)) (now (w .exit)) ⌝ }
 {
-    if seedless {
-        return Seed::Nothing;
+    let check = seedless::check_first(p, points, w, lo, i, purse, true);
+    if check.seedless {
+        return First {
+            seed: Seed::Nothing,
+            seedless: true,
+            purse: check.purse,
+        };
     }
-    try_first(p, points, w, i)
+    let found = try_seconds(p, points, w, f, i, from, p.scene.n);
+    First {
+        seed: found,
+        seedless: false,
+        purse: check.purse,
+    }
+}
+
+// What the unused point i gives as the first one. Where it has many neighbours, some of the second points are searched
+// before it is checked at once.
+fn try_first(p: Site, points: &[f32], w: &mut [u32], lo: usize, i: usize, purse: usize) -> First
+    requires { ⌜ Searchable p (now points) (now w) i
+        × SeedlessBefore p (now points) (usedIn (p .scene) (now w)) lo i ⌝ }
+    ensures { λ r. ⌜ FirstTried (p .scene) (now (points .entry)) (p .radius) (usedIn (p .scene) (now (w .entry))) lo i
+        (r .seed) (r .seedless)
+        × Kept (p .scene) (now (w .entry)) (now (w .exit)) ⌝ }
+{
+    let check = seedless::check_first(p, points, w, lo, i, purse, false);
+    if check.seedless {
+        return First {
+            seed: Seed::Nothing,
+            seedless: true,
+            purse: check.purse,
+        };
+    }
+    let s = p.scene;
+    let place = points::point_at(points, i);
+    let f = nearby::filter_of(s, place, place, p.radius * 2.0);
+    if check.seconds == 0 {
+        let all = try_seconds(p, points, w, f, i, 0, s.n);
+        return First {
+            seed: all,
+            seedless: false,
+            purse: check.purse,
+        };
+    }
+    let found = try_seconds(p, points, w, f, i, 0, check.seconds);
+    if let Seed::Triangle(a, b, c) = found {
+        return First {
+            seed: Seed::Triangle(a, b, c),
+            seedless: false,
+            purse: 0,
+        };
+    }
+    try_rest(p, points, w, f, lo, i, check.seconds, purse)
 }
 
 // Where the points begin that are known with point i, which is the last of them if it is known.
@@ -224,8 +317,8 @@ pub fn find_from(p: Site, points: &[f32], w: &mut [u32], largest: f32, asks: boo
             return nothing_more(0, true);
         }
         asking = asked.asks;
-        let check = seedless::check_first(p, points, w, lo, i, purse);
-        let found = try_unless_seedless(p, points, w, i, check.seedless);
+        let first = try_first(p, points, w, lo, i, purse);
+        let found = first.seed;
         if let Seed::Triangle(a, b, c) = found {
             return Tried {
                 seed: Seed::Triangle(a, b, c),
@@ -233,8 +326,8 @@ pub fn find_from(p: Site, points: &[f32], w: &mut [u32], largest: f32, asks: boo
                 told: false,
             };
         }
-        purse = check.purse;
-        lo = known_from(lo, i, check.seedless);
+        purse = first.purse;
+        lo = known_from(lo, i, first.seedless);
         left -= 1;
         i += 1;
     }

@@ -29,6 +29,13 @@ pub struct Site {
 // How often a list is halved at most.
 const HALVINGS: usize = 12;
 
+// A first point with so many neighbours or more that the purse doesn't do for is checked at once, after some of its
+// second points were searched.
+const MANY: usize = 256;
+
+// These are one in so many, and what they take may be spent on the check.
+const SHARE: usize = 128;
+
 // Whether point k comes after point i or before point lo.
 fn is_other(lo: usize, i: usize, k: usize) -> bool
     ensures { λ r. ⌜ r ≡ isOther lo i k ⌝ }
@@ -144,10 +151,47 @@ pub fn is_paid(n: usize, searched: usize, purse: usize) -> bool
     n * (n * (4 * searched + 9 + n / 64)) <= purse
 }
 
-// What is told of a first point, and what is left to pay with.
+// How many second points of a first one with so many neighbours are searched before it is checked at once; 0 if it is
+// not.
+fn seconds_before(count: usize) -> usize {
+    if count < MANY {
+        return 0;
+    }
+    count / SHARE
+}
+
+// Whether a purse will not do for a point with so many neighbours; at once it is not asked.
+fn is_unpaid(count: usize, begun: bool, purse: usize, at_once: bool) -> bool
+    requires { ⌜ count ≤ 4096 ⌝ }
+{
+    if at_once {
+        return false;
+    }
+    purse < least_purse(count, begun)
+}
+
+// What a check may spend: the purse, and at once what the searched second points have taken besides.
+fn to_spend(purse: usize, work: usize, at_once: bool) -> usize {
+    if at_once {
+        return added(purse, work / SHARE);
+    }
+    purse
+}
+
+// What a purse holds after a check that told nothing: it is spent, but not at once.
+fn purse_after(purse: usize, work: usize, at_once: bool) -> usize {
+    if at_once {
+        return added(purse, work);
+    }
+    work
+}
+
+// What is told of a first point, what is left to pay with, and how many second points are to be searched before it is
+// checked at once.
 pub struct Checked {
     pub seedless: bool,
     pub purse: usize,
+    pub seconds: usize,
 }
 
 // What is left of a purse once it is told that no two of the `found` points that are unused and come after point i or
@@ -175,7 +219,8 @@ fn pay_found(
     seedless_pairs::pay_pairs(s, points, w, p.radius, limits, i, all, purse)
 }
 
-// Whether no two unused points after point i or before point lo make a seed with it, if that is paid for.
+// Whether no two unused points after point i or before point lo make a seed with it, if that is paid for: from the
+// purse, and at once from what its searched second points have taken besides.
 pub fn check_first(
     p: Site,
     points: &[f32],
@@ -183,6 +228,7 @@ pub fn check_first(
     lo: usize,
     i: usize,
     purse: usize,
+    at_once: bool,
 ) -> Checked
     requires { ⌜ Held (p .scene) (now points) (now w) × Hashed (p .hash) (now points) (p .scene .n) (now w)
         × (i < p .scene .n) × Limiting (p .scene) (p .radius) (p .limits) ⌝ }
@@ -204,23 +250,25 @@ pub fn check_first(
     );
     let near = count_near(s, points, w, found, limits.far);
     let work = work_of(found, near);
-    let begun = lo < i;
-    if purse < least_purse(found, begun) {
+    if is_unpaid(found, lo < i, purse, at_once) {
         return Checked {
             seedless: false,
             purse: added(purse, work),
+            seconds: seconds_before(found),
         };
     }
-    let left = pay_found(p, points, w, found, lo, i, purse);
-    if left == 0 {
+    let rest = pay_found(p, points, w, found, lo, i, to_spend(purse, work, at_once));
+    if rest == 0 {
         return Checked {
             seedless: false,
-            purse: work,
+            purse: purse_after(purse, work, at_once),
+            seconds: 0,
         };
     }
     Checked {
         seedless: true,
-        purse: added(left, work),
+        purse: added(rest, work),
+        seconds: 0,
     }
 }
 

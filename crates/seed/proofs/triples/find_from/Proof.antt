@@ -9,8 +9,9 @@ use Rattle.nearby.proofs.Keeping.{kept-on}
 use Rattle.seed.specs.Found.{seedFound}
 use Rattle.seed.proofs.State.{Seeking, seek-start, seek-end, seek-spent, seek-used, seek-kept, seek-hit, seek-miss}
 use Rattle.seedless.specs.Seedless.{SeedlessBetween}
-use Rattle.seedless.proofs.Threes.{seedless-used, seedless-next, unused-kept}
-use Rattle.seed.proofs.Known.{seedless-on, unused-back, seek-seedless, nothing-back, told-nothing}
+use Rattle.seedless.proofs.Threes.{seedless-used, unused-kept}
+use Rattle.seed.proofs.Known.{seedless-on, unused-back, nothing-back, told-nothing}
+use Rattle.seed.proofs.First.{before-kept}
 use borrow.Author.Needs.{needs}
 use Rattle.seed.proofs.triples.find_from.Statement.{statement}
 use Rattle.seed.proofs.triples.find_from.Tie as tie
@@ -77,75 +78,66 @@ returns-2 c =
     let upto = nothing-back {s = a .p .scene} (a .points .now) (a .largest) (l .inv .0 .kept) (e .ensures .0 (k .0)) in
     (c .nothing-more2 .ensures .0 ∙ sym (ap seedFound (told-nothing (a .p .scene) (a .points .now) (usedIn (a .p .scene) (a .w .now)) (k .1) upto)), λ _. upto, kept-on (l .inv .0 .kept) (e .ensures .1))
 
-check-first-requires : tie.Need-check-first-requires Inv-loop μ-loop
-check-first-requires c κs =
+try-first-requires : tie.Need-try-first-requires Inv-loop μ-loop
+try-first-requires c κs =
+    let a = c .before .before .before .before .before .before .before .before .before .before .before .before .before .before .before .before .args in
+    let u = c .before .before .before .before .before .before .before .before .is-unused in
     let l = c .before .before .before .before .before .before .before .before .before .before .before .before .loop in
     let e = c .before .before .before .before .before .ask-early in
     let q = seek-kept (l .inv .0) (e .last .1 .1 .0) (e .ensures .1) (e .kept .1 .1 .0) in
-    (q .held, q .hashed, c .before .before .before .before .before .before .before .before .before .before .before .loop-test .taken, c .before .before .before .before .before .before .before .before .before .before .before .before .before .before .before .before .pre .3)
-
-try-unless-seedless-requires : tie.Need-try-unless-seedless-requires Inv-loop μ-loop
-try-unless-seedless-requires c κs =
-    let u = c .before .before .before .before .before .before .before .before .before .before .before .before .is-unused in
-    let l = c .before .before .before .before .before .before .before .before .before .before .before .before .before .before .before .before .loop in
-    let e = c .before .before .before .before .before .before .before .before .before .ask-early in
-    let q = seek-kept (l .inv .0) (e .last .1 .1 .0) (e .ensures .1) (e .kept .1 .1 .0) in
-    let t = c .before .before .before .check-first in
-    let k = seek-kept q (t .last .1 .1 .0) (t .ensures .1) (t .kept .1 .1 .0) in
-    let inside = c .before .before .before .before .before .before .before .before .before .before .before .before .before .before .before .loop-test .taken in
-    let free = unused-kept {s = c .before .before .before .before .before .before .before .before .before .before .before .before .before .before .before .before .before .before .before .before .args .p .scene} (l .i) (t .ensures .1) (unused-kept {s = c .before .before .before .before .before .before .before .before .before .before .before .before .before .before .before .before .before .before .before .before .args .p .scene} (l .i) (e .ensures .1) (sym (u .ensures) ∙ not-false (u .result) (c .before .before .before .before .before .before .before .before .before .before .before .if2 .left))) in
-    (k .held, k .indexed, k .hashed, inside, c .before .before .before .before .before .before .before .before .before .before .before .before .before .before .before .before .before .before .before .before .pre .3, λ h. seek-seedless k inside (l .inv .1) free (seedless-next {w₀ = c .before .before .before .before .before .before .before .before .before .before .before .before .before .before .before .before .before .before .before .before .args .w .now} (l .inv .2) (q .kept) (t .ensures .0 h)))
+    let free = unused-back {s = a .p .scene} (l .i) (l .inv .0 .kept) (sym (u .ensures) ∙ not-false (u .result) (c .before .before .before .before .before .before .before .if2 .left)) in (
+      record { held = q .held; indexed = q .indexed; hashed = q .hashed; limiting = c .before .before .before .before .before .before .before .before .before .before .before .before .before .before .before .before .pre .3; inside = c .before .before .before .before .before .before .before .before .before .before .before .loop-test .taken },
+      before-kept {p = a .p} {w = a .w .now} (record { between = l .inv .2; order = l .inv .1; free = free }) (q .kept),
+    )
 
 enum-known-found : tie.Need-enum-known-found Inv-loop μ-loop
 enum-known-found c = search needs
 
 same-length-3 : tie.Need-same-length-3 Inv-loop μ-loop
-same-length-3 c = c .before .before .before .before .before .try-unless-seedless .kept .1 .1 .0 ∙ c .before .before .before .before .before .before .before .before .before .check-first .kept .1 .1 .0 ∙ c .before .before .before .before .before .before .before .before .before .before .before .before .before .before .before .ask-early .kept .1 .1 .0 ∙ c .before .before .before .before .before .before .before .before .before .before .before .before .before .before .before .before .before .before .before .before .before .before .loop .inv .0 .same
+same-length-3 c = c .before .before .before .before .before .try-first .kept .1 .1 .0 ∙ c .before .before .before .before .before .before .before .before .before .before .before .ask-early .kept .1 .1 .0 ∙ c .before .before .before .before .before .before .before .before .before .before .before .before .before .before .before .before .before .before .loop .inv .0 .same
 
 returns-3 : tie.Need-returns-3 Inv-loop μ-loop
 returns-3 c =
-    let u = c .before .before .before .before .before .before .before .before .before .before .before .before .before .before .before .before .before .before .is-unused in
-    let l = c .before .before .before .before .before .before .before .before .before .before .before .before .before .before .before .before .before .before .before .before .before .before .loop in
-    let e = c .before .before .before .before .before .before .before .before .before .before .before .before .before .before .before .ask-early in
+    let a = c .before .before .before .before .before .before .before .before .before .before .before .before .before .before .before .before .before .before .before .before .before .before .args in
+    let u = c .before .before .before .before .before .before .before .before .before .before .before .before .before .before .is-unused in
+    let l = c .before .before .before .before .before .before .before .before .before .before .before .before .before .before .before .before .before .before .loop in
+    let e = c .before .before .before .before .before .before .before .before .before .before .before .ask-early in
     let q = seek-kept (l .inv .0) (e .last .1 .1 .0) (e .ensures .1) (e .kept .1 .1 .0) in
-    let t = c .before .before .before .before .before .before .before .before .before .check-first in
-    let f = c .before .before .before .before .before .try-unless-seedless in
-    let k = seek-kept q (t .last .1 .1 .0) (t .ensures .1) (t .kept .1 .1 .0) in
-    let free = unused-kept {s = c .before .before .before .before .before .before .before .before .before .before .before .before .before .before .before .before .before .before .before .before .before .before .before .before .before .before .args .p .scene} (l .i) (t .ensures .1) (unused-kept {s = c .before .before .before .before .before .before .before .before .before .before .before .before .before .before .before .before .before .before .before .before .before .before .before .before .before .before .args .p .scene} (l .i) (e .ensures .1) (sym (u .ensures) ∙ not-false (u .result) (c .before .before .before .before .before .before .before .before .before .before .before .before .before .before .before .before .before .if2 .left))) in (
-      seek-hit k (c .before .before .before .before .before .before .before .before .before .before .before .before .before .before .before .before .before .before .before .before .before .loop-test .taken) (c .before .before .before .before .before .before .before .before .before .before .before .before .before .before .before .before .before .before .before .before .if1 .left) free (f .ensures .0) (c .before .found .given .1),
+    let f = c .before .before .before .before .before .try-first in
+    let free = unused-kept {s = a .p .scene} (l .i) (e .ensures .1) (sym (u .ensures) ∙ not-false (u .result) (c .before .before .before .before .before .before .before .before .before .before .before .before .before .if2 .left)) in (
+      seek-hit q (c .before .before .before .before .before .before .before .before .before .before .before .before .before .before .before .before .before .loop-test .taken) (c .before .before .before .before .before .before .before .before .before .before .before .before .before .before .before .before .if1 .left) free (f .ensures .0 .same) (c .before .found .given .1),
       λ h. absurd (true-not-false h refl),
-      kept-on (k .kept) (f .ensures .1),
+      kept-on (q .kept) (f .ensures .1),
     )
 
 enum-told : tie.Need-enum-told Inv-loop μ-loop
 enum-told c = search needs
 
 known-from-requires : tie.Need-known-from-requires Inv-loop μ-loop
-known-from-requires c κs = let l = c .before .before .before .before .before .before .before .before .before .before .before .before .before .before .before .before .before .before .before .before .before .loop in (l .inv .1, omega (arith, l .inv .0 .held .few, c .before .before .before .before .before .before .before .before .before .before .before .before .before .before .before .before .before .before .before .before .loop-test .taken))
+known-from-requires c κs = let l = c .before .before .before .before .before .before .before .before .before .before .before .before .before .before .before .before .before .loop in (l .inv .1, omega (arith, l .inv .0 .held .few, c .before .before .before .before .before .before .before .before .before .before .before .before .before .before .before .before .loop-test .taken))
 
 sub-left : tie.Need-sub-left Inv-loop μ-loop
 sub-left c = search needs
 
 add-i-2 : tie.Need-add-i-2 Inv-loop μ-loop
-add-i-2 c = omega (arith, c .before .before .before .before .before .before .before .before .before .before .before .before .before .before .before .before .before .before .before .before .before .loop-test .taken, c .before .before .before .before .before .before .before .before .before .before .before .before .before .before .before .before .before .before .before .before .before .before .loop .inv .0 .held .few)
+add-i-2 c = omega (arith, c .before .before .before .before .before .before .before .before .before .before .before .before .before .before .before .before .before .loop-test .taken, c .before .before .before .before .before .before .before .before .before .before .before .before .before .before .before .before .before .before .loop .inv .0 .held .few)
 
 loop-less-2 : tie.Need-loop-less-2 Inv-loop μ-loop
 loop-less-2 c = search needs
 
 loop-again-2 : tie.Need-loop-again-2 Inv-loop μ-loop
 loop-again-2 c =
-    let u = c .before .before .before .before .before .before .before .before .before .before .before .before .before .before .before .before .before .before .is-unused in
-    let l = c .before .before .before .before .before .before .before .before .before .before .before .before .before .before .before .before .before .before .before .before .before .before .loop in
-    let e = c .before .before .before .before .before .before .before .before .before .before .before .before .before .before .before .ask-early in
+    let a = c .before .before .before .before .before .before .before .before .before .before .before .before .before .before .before .before .before .before .before .before .before .before .args in
+    let u = c .before .before .before .before .before .before .before .before .before .before .before .before .before .before .is-unused in
+    let l = c .before .before .before .before .before .before .before .before .before .before .before .before .before .before .before .before .before .before .loop in
+    let e = c .before .before .before .before .before .before .before .before .before .before .before .ask-early in
     let q = seek-kept (l .inv .0) (e .last .1 .1 .0) (e .ensures .1) (e .kept .1 .1 .0) in
-    let t = c .before .before .before .before .before .before .before .before .before .check-first in
-    let f = c .before .before .before .before .before .try-unless-seedless in
+    let f = c .before .before .before .before .before .try-first in
     let m = c .known-from in
-    let k = seek-kept q (t .last .1 .1 .0) (t .ensures .1) (t .kept .1 .1 .0) in
-    let free = unused-kept {s = c .before .before .before .before .before .before .before .before .before .before .before .before .before .before .before .before .before .before .before .before .before .before .before .before .before .before .args .p .scene} (l .i) (t .ensures .1) (unused-kept {s = c .before .before .before .before .before .before .before .before .before .before .before .before .before .before .before .before .before .before .before .before .before .before .before .before .before .before .args .p .scene} (l .i) (e .ensures .1) (sym (u .ensures) ∙ not-false (u .result) (c .before .before .before .before .before .before .before .before .before .before .before .before .before .before .before .before .before .if2 .left))) in (
-      seek-miss k (f .last .1 .1 .0) (c .before .before .before .before .before .before .before .before .before .before .before .before .before .before .before .before .before .before .before .before .before .loop-test .taken) (c .before .before .before .before .before .before .before .before .before .before .before .before .before .before .before .before .before .before .before .before .if1 .left) free (f .ensures .0) (c .before .enum-told .given .1) (f .ensures .1) (f .kept .1 .1 .0),
+    let free = unused-kept {s = a .p .scene} (l .i) (e .ensures .1) (sym (u .ensures) ∙ not-false (u .result) (c .before .before .before .before .before .before .before .before .before .before .before .before .before .if2 .left)) in (
+      seek-miss q (f .last .1 .1 .0) (c .before .before .before .before .before .before .before .before .before .before .before .before .before .before .before .before .before .loop-test .taken) (c .before .before .before .before .before .before .before .before .before .before .before .before .before .before .before .before .if1 .left) free (f .ensures .0 .same) (c .before .enum-told .given .1) (f .ensures .1) (f .kept .1 .1 .0),
       m .ensures .inside,
-      seedless-on {w₀ = c .before .before .before .before .before .before .before .before .before .before .before .before .before .before .before .before .before .before .before .before .before .before .before .before .before .before .args .w .now} (l .inv .2) (q .kept) (t .ensures .0) (m .ensures),
+      seedless-on {w₀ = a .w .now} (l .inv .2) (q .kept) (f .ensures .0 .told) (m .ensures),
     )
 
 nothing-more-requires-3 : tie.Need-nothing-more-requires-3 Inv-loop μ-loop
@@ -161,4 +153,4 @@ returns-4 c =
     (m .0 ∙ sym (ap seedFound (seek-end (l .inv .0) (c .before .loop-test .left))), λ h. absurd (true-not-false h (m .1)), l .inv .0 .kept)
 
 pub find-from-spec : {M : Type 1} → statement M
-find-from-spec = tie.close (tie.spec Inv-loop μ-loop loop-holds nothing-more-requires same-length returns is-unused-requires add-i loop-less loop-again ask-early-requires is-known-by-requires nothing-more-requires-2 same-length-2 returns-2 check-first-requires try-unless-seedless-requires enum-known-found same-length-3 returns-3 enum-told known-from-requires sub-left add-i-2 loop-less-2 loop-again-2 nothing-more-requires-3 same-length-4 returns-4)
+find-from-spec = tie.close (tie.spec Inv-loop μ-loop loop-holds nothing-more-requires same-length returns is-unused-requires add-i loop-less loop-again ask-early-requires is-known-by-requires nothing-more-requires-2 same-length-2 returns-2 try-first-requires enum-known-found same-length-3 returns-3 enum-told known-from-requires sub-left add-i-2 loop-less-2 loop-again-2 nothing-more-requires-3 same-length-4 returns-4)

@@ -1,13 +1,25 @@
--- `try_first` meets its contract: what is left of the points near point i are its neighbours but for some that it can't choose. Assumes nothing.
-use mathlib.Core.Path.{sym, ap, _∙_, subst}
+-- `try_first` meets its contract: the first second points give a seed, or the others are all that may. Assumes nothing.
+use mathlib.Core.Path.{refl, _∙_, subst}
 use borrow.Author.Needs.{needs}
-use Rattle.vector.specs.Vector.{Finite}
-use Rattle.nearby.proofs.Keeping.{kept-on, held-kept, cells-kept}
-use Rattle.nearby.proofs.Narrowing.{collected-listed, sought}
-use Rattle.seed.specs.Found.{seedFound}
-use Rattle.seed.proofs.State.{listed-points, with-first}
+use Rattle.vector.specs.declared.Point3f.{Point3f}
+use Rattle.lists.proofs.Bools.{true-not-false}
+use Rattle.decisions.specs.Decisions.{reach}
+use Rattle.nearby.specs.Ready.{usedIn}
+use Rattle.nearby.specs.Narrow.{Filters}
+use Rattle.nearby.proofs.Keeping.{kept-on}
+use Rattle.seed.proofs.Seconds.{seconds-all, seconds-hit, seconds-none}
+use Rattle.seed.proofs.First.{searchable-kept, before-kept, seconds-kept, seconds-back, first-back, first-seedless}
 use Rattle.seed.proofs.triples.try_first.Statement.{statement}
 use Rattle.seed.proofs.triples.try_first.Tie as tie
+
+check-first-requires : tie.Need-check-first-requires
+check-first-requires c κs = (c .before .before .before .pre .0 .held, c .before .before .before .pre .0 .hashed, c .before .before .before .pre .0 .inside, c .before .before .before .pre .0 .limiting)
+
+same-length : tie.Need-same-length
+same-length c = search needs
+
+returns : tie.Need-returns
+returns c = let k = c .before .before .before .check-first .ensures in (first-seedless (c .before .before .before .before .before .before .before .pre .0) (c .before .before .before .before .before .before .before .pre .1) (k .0 (c .if1 .taken)), k .1)
 
 point-at-requires : tie.Need-point-at-requires
 point-at-requires c κs = search needs
@@ -15,35 +27,78 @@ point-at-requires c κs = search needs
 filter-of-requires : tie.Need-filter-of-requires
 filter-of-requires c κs = search needs
 
-gather-near-requires : tie.Need-gather-near-requires
-gather-near-requires c κs =
-    (c .before .before .before .before .before .before .before .before .pre .2, subst Finite (sym (c .before .before .filter-of .ensures .center-is ∙ c .before .before .before .before .point-at .ensures)) (c .before .before .before .before .before .before .before .before .pre .2 .linked .ready .numbers (c .before .before .before .before .before .before .before .before .args .i) (c .before .before .before .before .before .before .before .before .pre .3)))
+try-seconds-requires : tie.Need-try-seconds-requires
+try-seconds-requires c κs =
+    let a = c .before .before .before .before .before .before .before .before .before .before .before .before .before .before .args in
+    let k = c .before .before .before .before .before .before .before .before .before .before .check-first in
+    (searchable-kept (k .last .1 .1 .0) (c .before .before .before .before .before .before .before .before .before .before .before .before .before .before .pre .0) (k .ensures .1) (k .kept .1 .1 .0), subst (λ (q : Point3f). Filters (a .p .scene) q q (reach (a .p .radius)) (c .before .before .before .filter-of .result)) (c .before .before .before .before .before .point-at .ensures) (c .before .before .before .filter-of .ensures))
 
-narrow-requires : tie.Need-narrow-requires
-narrow-requires c κs =
-    let g = c .before .before .before .gather-near in
-    let h = held-kept (g .last .1 .1 .0) (c .before .before .before .before .before .before .before .before .before .before .before .before .pre .0) (g .kept .1 .1 .0) in
-    (h, cells-kept (c .before .before .before .before .before .before .before .before .before .before .before .before .args .p .scene .grid) (c .before .before .before .before .before .before .before .before .before .before .before .before .args .points .now) (c .before .before .before .before .before .before .before .before .before .before .before .before .args .p .scene .n) (c .before .before .before .before .before .before .before .before .before .before .before .before .args .w .now) (g .last .1 .1 .0) (c .before .before .before .before .before .before .before .before .before .before .before .before .pre .1 .cells) (g .ensures .kept .before), collected-listed (h .work-long) (g .ensures))
+same-length-2 : tie.Need-same-length-2
+same-length-2 c = c .before .before .try-seconds .kept .1 .1 .0 ∙ c .before .before .before .before .before .before .before .before .before .before .before .before .before .check-first .kept .1 .1 .0
 
-find-second-requires : tie.Need-find-second-requires
-find-second-requires c κs =
-    let g = c .before .before .before .before .before .before .before .gather-near in
-    let n = c .before .before .before .narrow in
-    let h = held-kept (n .last .1 .1 .0) (c .before .before .before .before .before .before .before .before .before .before .before .before .before .before .before .before .pre .0) (n .kept .1 .1 .0 ∙ g .kept .1 .1 .0) in
-    (h, listed-points (h .work-long) (sought (c .before .before .before .before .before .before .before .before .before .before .before .before .point-at .ensures) (c .before .before .before .before .before .before .before .before .before .before .filter-of .ensures) (g .ensures) (n .ensures)), c .before .before .before .before .before .before .before .before .before .before .before .before .before .before .before .before .pre .3, record { numbers = c .before .before .before .before .before .before .before .before .before .before .before .before .before .before .before .before .pre .2 .linked .ready .numbers; limits = c .before .before .before .before .before .before .before .before .before .before .before .before .before .before .before .before .pre .4 })
-
-same-length : tie.Need-same-length
-same-length c = search needs
-
-returns : tie.Need-returns
-returns c =
-    let p = c .before .before .before .before .before .before .before .before .before .before .before .before .before .point-at in
-    let g = c .before .before .before .before .before .before .before .before .gather-near in
-    let n = c .before .before .before .before .narrow in (
-      c .find-second .ensures
-          ∙ ap seedFound (with-first (c .before .before .before .before .before .before .before .before .before .before .before .before .before .before .before .before .before .args .p .scene) (c .before .before .before .before .before .before .before .before .before .before .before .before .before .before .before .before .before .args .points .now) (c .before .before .before .before .before .before .before .before .before .before .before .before .before .before .before .before .before .args .p .radius) (c .before .before .before .before .before .before .before .before .before .before .before .before .before .before .before .before .before .args .w .now) (n .last .1 .1 .0) (n .result) (c .before .before .before .before .before .before .before .before .before .before .before .before .before .before .before .before .before .args .i) (p .result) (p .ensures) (sought (p .ensures) (c .before .before .before .before .before .before .before .before .before .before .before .filter-of .ensures) (g .ensures) (n .ensures))),
-      kept-on (g .ensures .kept) (n .ensures .kept),
+returns-2 : tie.Need-returns-2
+returns-2 c =
+    let a = c .before .before .before .before .before .before .before .before .before .before .before .before .before .before .before .before .before .args in
+    let k = c .before .before .before .before .before .before .before .before .before .before .before .before .before .check-first .ensures .1 in
+    let t = c .before .before .try-seconds .ensures in
+    let f = c .before .before .before .before .before .before .filter-of in
+    let fs = subst (λ (q : Point3f). Filters (a .p .scene) q q (reach (a .p .radius)) (f .result)) (c .before .before .before .before .before .before .before .before .point-at .ensures) (f .ensures) in (
+      record {
+        same = seconds-all (a .p .scene) (a .points .now) (a .p .radius) (usedIn (a .p .scene) (a .w .now)) (f .result) (a .i) fs (seconds-back k (t .0));
+        told = λ h. absurd (true-not-false h refl);
+      },
+      kept-on k (t .1),
     )
 
+try-seconds-requires-2 : tie.Need-try-seconds-requires-2
+try-seconds-requires-2 c κs =
+    let a = c .before .before .before .before .before .before .before .before .before .before .before .before .before .before .args in
+    let k = c .before .before .before .before .before .before .before .before .before .before .check-first in
+    (searchable-kept (k .last .1 .1 .0) (c .before .before .before .before .before .before .before .before .before .before .before .before .before .before .pre .0) (k .ensures .1) (k .kept .1 .1 .0), subst (λ (q : Point3f). Filters (a .p .scene) q q (reach (a .p .radius)) (c .before .before .before .filter-of .result)) (c .before .before .before .before .before .point-at .ensures) (c .before .before .before .filter-of .ensures))
+
+enum-known-found : tie.Need-enum-known-found
+enum-known-found c = search needs
+
+same-length-3 : tie.Need-same-length-3
+same-length-3 c = c .before .before .before .before .before .try-seconds2 .kept .1 .1 .0 ∙ c .before .before .before .before .before .before .before .before .before .before .before .before .before .before .before .before .check-first .kept .1 .1 .0
+
+returns-3 : tie.Need-returns-3
+returns-3 c =
+    let a = c .before .before .before .before .before .before .before .before .before .before .before .before .before .before .before .before .before .before .before .before .args in
+    let k = c .before .before .before .before .before .before .before .before .before .before .before .before .before .before .before .before .check-first .ensures .1 in
+    let t = c .before .before .before .before .before .try-seconds2 .ensures in
+    let f = c .before .before .before .before .before .before .before .before .before .filter-of in
+    let fs = subst (λ (q : Point3f). Filters (a .p .scene) q q (reach (a .p .radius)) (f .result)) (c .before .before .before .before .before .before .before .before .before .before .before .point-at .ensures) (f .ensures) in (
+      record {
+        same = seconds-hit (a .p .scene) (a .points .now) (a .p .radius) (usedIn (a .p .scene) (a .w .now)) (f .result) (a .i) fs (seconds-back k (t .0)) (c .before .found .given .1);
+        told = λ h. absurd (true-not-false h refl);
+      },
+      kept-on k (t .1),
+    )
+
+enum-told : tie.Need-enum-told
+enum-told c = search needs
+
+try-rest-requires : tie.Need-try-rest-requires
+try-rest-requires c κs =
+    let a = c .before .before .before .before .before .before .before .before .before .before .before .before .before .before .before .before .before .before .before .before .args in
+    let k = c .before .before .before .before .before .before .before .before .before .before .before .before .before .before .before .before .check-first in
+    let t = c .before .before .before .before .before .try-seconds2 in
+    let v = t .last .1 .1 .0 in
+    let kept = kept-on (k .ensures .1) (t .ensures .1) in (
+      searchable-kept v (c .before .before .before .before .before .before .before .before .before .before .before .before .before .before .before .before .before .before .before .before .pre .0) kept (t .kept .1 .1 .0 ∙ k .kept .1 .1 .0),
+      subst (λ (q : Point3f). Filters (a .p .scene) q q (reach (a .p .radius)) (c .before .before .before .before .before .before .before .before .before .filter-of .result)) (c .before .before .before .before .before .before .before .before .before .before .before .point-at .ensures) (c .before .before .before .before .before .before .before .before .before .filter-of .ensures),
+      before-kept (c .before .before .before .before .before .before .before .before .before .before .before .before .before .before .before .before .before .before .before .before .pre .1) kept,
+      seconds-none (seconds-kept (t .ensures .1) (t .ensures .0)) (c .before .enum-told .given .1),
+    )
+
+same-length-4 : tie.Need-same-length-4
+same-length-4 c = c .before .before .try-rest .kept .1 .1 .0 ∙ c .before .before .before .before .before .before .before .before .try-seconds2 .kept .1 .1 .0 ∙ c .before .before .before .before .before .before .before .before .before .before .before .before .before .before .before .before .before .before .before .check-first .kept .1 .1 .0
+
+returns-4 : tie.Need-returns-4
+returns-4 c =
+    let kept = kept-on (c .before .before .before .before .before .before .before .before .before .before .before .before .before .before .before .before .before .before .before .check-first .ensures .1) (c .before .before .before .before .before .before .before .before .try-seconds2 .ensures .1) in
+    (first-back kept (c .before .before .try-rest .ensures .0), kept-on kept (c .before .before .try-rest .ensures .1))
+
 pub try-first-spec : {M : Type 1} → statement M
-try-first-spec = tie.close (tie.spec point-at-requires filter-of-requires gather-near-requires narrow-requires find-second-requires same-length returns)
+try-first-spec = tie.close (tie.spec check-first-requires same-length returns point-at-requires filter-of-requires try-seconds-requires same-length-2 returns-2 try-seconds-requires-2 enum-known-found same-length-3 returns-3 enum-told try-rest-requires same-length-4 returns-4)
