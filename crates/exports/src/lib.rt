@@ -220,7 +220,7 @@ pub extern "C" fn yb_reconstruct_with_origins(
         (now (faces .entry)) (now (origins .entry)) (now (words .entry)) (now (floats .entry)) r (now (faces .exit))
         (now (origins .exit)) (now (words .exit)) (now (floats .exit)) ⌝ }
 {
-    with_origins::reconstruct_with_origins(
+    traced_reconstruction::reconstruct_with_origins(
         points,
         normals,
         settings,

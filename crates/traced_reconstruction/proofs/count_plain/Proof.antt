@@ -1,8 +1,8 @@
 -- A slice without room is left as it was. Assumes nothing.
-use Rattle.with_origins.proofs.Finding.{without-room}
+use Rattle.traced_reconstruction.proofs.Finding.{without-room}
 use borrow.Author.Needs.{needs}
-use Rattle.with_origins.proofs.count_plain.Statement.{statement}
-use Rattle.with_origins.proofs.count_plain.Tie as tie
+use Rattle.traced_reconstruction.proofs.count_plain.Statement.{statement}
+use Rattle.traced_reconstruction.proofs.count_plain.Tie as tie
 
 slice-relend-prefix-find-plain : tie.Need-slice-relend-prefix-find-plain
 slice-relend-prefix-find-plain c = search needs

@@ -2,10 +2,10 @@
 use mathlib.Core.List.{[]}
 use native.Mathlib.Omega.{arith}
 use Rattle.ball_pivoting.proofs.Found.{listed-none, listed-self, finds-plain, finds-laid}
-use Rattle.with_origins.proofs.Finding.{for-laid, for-counted, for-plain}
+use Rattle.traced_reconstruction.proofs.Finding.{for-laid, for-counted, for-plain}
 use borrow.Author.Needs.{needs}
-use Rattle.with_origins.proofs.find.Statement.{statement}
-use Rattle.with_origins.proofs.find.Tie as tie
+use Rattle.traced_reconstruction.proofs.find.Statement.{statement}
+use Rattle.traced_reconstruction.proofs.find.Tie as tie
 
 survey-requires : tie.Need-survey-requires
 survey-requires c κs = search needs

@@ -6,11 +6,11 @@ use lib.ListN.{length, replicate}
 use Rattle.numbers.specs.Rounded.{f32}
 use Rattle.domain.specs.declared.Refusal.{Refusal}
 use Rattle.ball_pivoting.proofs.Outcome.{ready-of}
-use Rattle.with_origins.proofs.Finding.{held-of, zeros-again}
+use Rattle.traced_reconstruction.proofs.Finding.{held-of, zeros-again}
 use Rattle.with_origins.proofs.Claim.{turned-away, taken}
 use borrow.Author.Needs.{needs}
-use Rattle.with_origins.proofs.reconstruct_with_origins.Statement.{statement}
-use Rattle.with_origins.proofs.reconstruct_with_origins.Tie as tie
+use Rattle.traced_reconstruction.proofs.reconstruct_with_origins.Statement.{statement}
+use Rattle.traced_reconstruction.proofs.reconstruct_with_origins.Tie as tie
 
 refusal-of-reconstruct-requires : tie.Need-refusal-of-reconstruct-requires
 refusal-of-reconstruct-requires c κs = search needs

@@ -1,0 +1,2 @@
+-- What is found, on whichever path.
+pub mod Finding
