@@ -13,7 +13,7 @@ use Rattle.axis_sort.specs.Axis.{precedes}
 use Rattle.axis_sort.specs.Sorted.{sorted}
 use Rattle.kd_tree.specs.Tree.{split, boxesOf, boxCount}
 use Rattle.kd_tree.specs.Written.{Splits}
-use Rattle.tree_build.specs.Orders.{Ready}
+use Rattle.tree_build.specs.Ready.{Ready}
 use Rattle.axis_guess.specs.Rising.{Rises}
 use Rattle.axis_guess.proofs.Rising.{rising-sorted}
 use Rattle.point_order.specs.Ordering.{Ordering, OrderedAll}

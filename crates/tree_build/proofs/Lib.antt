@@ -1,4 +1,1 @@
-pub mod Sifting
-pub mod Ends
-pub mod Halves
 pub mod Splitting

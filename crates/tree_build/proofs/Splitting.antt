@@ -18,8 +18,9 @@ use Rattle.kd_tree.specs.Boxes.{boxOf, corners, longest}
 use Rattle.kd_tree.specs.Tree.{along, split, boxesOf, boxCount}
 use Rattle.kd_tree.specs.Written.{Written, Splits}
 use Rattle.kd_tree.proofs.Tree.{count-large, count-least, along-length, split-small, split-large, boxes-small, boxes-large, boxes-length}
-use Rattle.tree_build.specs.Orders.{endsBox, Bounding, Numbers, Orders, Dividing, Divided, Ready}
-use Rattle.tree_build.proofs.Ends.{ends-box, order-sizes}
+use Rattle.axis_orders.specs.Orders.{endsBox, Bounding, Numbers, Orders, Dividing, Divided}
+use Rattle.tree_build.specs.Ready.{Ready}
+use Rattle.axis_orders.proofs.Ends.{ends-box, order-sizes}
 
 -- one list after the other
 written-both : (b c d : List Float) (at : ℕ) (xs ys : List Float) → Written b c at xs → Written c d (at + length xs) ys → Written b d at (xs ++ ys)

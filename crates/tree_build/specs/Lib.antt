@@ -1,3 +1,2 @@
--- Lists in parts, and what the splits ask for.
-pub mod Parted
-pub mod Orders
+-- What the splits ask for.
+pub mod Ready

@@ -12,8 +12,8 @@ use borrow.Fn.PlainCycle.{Measures, is, falls, and}
 use Rattle.tree_build.proofs.split.Reads as split
 use Rattle.tree_build.proofs.split.Kinds as split-kinds
 use Rattle.tree_build.proofs.+split.Lts-split as split-lts
-use Rattle.tree_build.proofs.bound.Reads as bound-reads
-use Rattle.tree_build.proofs.divide.Reads as divide-reads
+use Rattle.axis_orders.proofs.bound.Reads as bound-reads
+use Rattle.axis_orders.proofs.divide.Reads as divide-reads
 use Rattle.tree_build.proofs.+split.{statement}
 use Rattle.tree_build.proofs.+split.Tie.{close}
 

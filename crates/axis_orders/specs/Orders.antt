@@ -1,7 +1,7 @@
 -- The three orders of a part of a cloud. Definitions only.
 use mathlib.Core.Path.{_≡_}
 use mathlib.Core.List.{List}
-use Prim.Native.Nat.{ℕ, _+_, _-_, _*_, _/_, _≤_, _<_}
+use Prim.Native.Nat.{ℕ, _-_, _/_, _≤_, _<_}
 use lib.Dec.{T, eqb}
 use lib.Ieee.{Float, nan, binary32, fits}
 use lib.ListN.{length, take, drop, getD}
@@ -13,7 +13,6 @@ use Rattle.domain.specs.Accepted.{Cloud}
 use Rattle.axis_sort.specs.Axis.{coordinateOf, precedes}
 use Rattle.axis_sort.specs.Sorted.{sorted}
 use Rattle.kd_tree.specs.Boxes.{plusZero, corners, longest}
-use Rattle.kd_tree.specs.Tree.{boxCount}
 use Rattle.kd_tree.specs.Written.{Written}
 
 -- the coordinate of the first number of a list, and of the last, minus zero as zero
@@ -64,11 +63,3 @@ pub record Divided (points : List Float) (axis : ℕ) (xs xs' x' y' z' : List �
       (take (length xs / 2) z')
   pub second : Orders points (drop (length xs / 2) xs') (drop (length xs / 2) x') (drop (length xs / 2) y')
       (drop (length xs / 2) z')
-
--- what splitting asks for, of slices of such lengths
-pub record Ready (points : List Float) (xs x y z : List ℕ) (work boxes at : ℕ) : Type 0 where
-  pub numbers : Numbers points
-  pub some : 0 < length xs
-  pub work-enough : length xs ≤ work
-  pub boxes-enough : at + 6 * boxCount (length xs) ≤ boxes
-  pub orders : Orders points xs x y z

@@ -1,10 +1,10 @@
 use mathlib.Core.Path.{refl}
 use native.Mathlib.Omega.{arith}
-use Rattle.tree_build.proofs.Halves.{divided}
-use Rattle.tree_build.proofs.Ends.{order-sizes}
+use Rattle.axis_orders.proofs.Halves.{divided}
+use Rattle.axis_orders.proofs.Ends.{order-sizes}
 use borrow.Author.Needs.{needs}
-use Rattle.tree_build.proofs.divide.Statement.{statement}
-use Rattle.tree_build.proofs.divide.Tie as tie
+use Rattle.axis_orders.proofs.divide.Statement.{statement}
+use Rattle.axis_orders.proofs.divide.Tie as tie
 
 put-along-requires : tie.Need-put-along-requires
 put-along-requires c κs = order-sizes (c .before .before .before .before .before .before .before .before .before .before .pre .numbers) (c .before .before .before .before .before .before .before .before .before .before .pre .orders)

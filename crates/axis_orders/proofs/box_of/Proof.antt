@@ -1,7 +1,7 @@
-use Rattle.tree_build.proofs.Ends.{ends-box-is}
+use Rattle.axis_orders.proofs.Ends.{ends-box-is}
 use borrow.Author.Needs.{needs}
-use Rattle.tree_build.proofs.box_of.Statement.{statement}
-use Rattle.tree_build.proofs.box_of.Tie as tie
+use Rattle.axis_orders.proofs.box_of.Statement.{statement}
+use Rattle.axis_orders.proofs.box_of.Tie as tie
 
 shared-slice-read-corner : tie.Need-shared-slice-read-corner
 shared-slice-read-corner c = search needs

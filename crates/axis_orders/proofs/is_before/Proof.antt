@@ -1,7 +1,7 @@
-use Rattle.tree_build.specs.Parted.{isBefore}
+use Rattle.axis_orders.specs.Parted.{isBefore}
 use borrow.Author.Needs.{needs}
-use Rattle.tree_build.proofs.is_before.Statement.{statement}
-use Rattle.tree_build.proofs.is_before.Tie as tie
+use Rattle.axis_orders.proofs.is_before.Statement.{statement}
+use Rattle.axis_orders.proofs.is_before.Tie as tie
 
 coordinate-requires : tie.Need-coordinate-requires
 coordinate-requires c κs = search needs

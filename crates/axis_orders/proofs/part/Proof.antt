@@ -1,8 +1,8 @@
 use native.Mathlib.Omega.{arith}
-use Rattle.tree_build.proofs.Sifting.{parted-own, parted-other}
+use Rattle.axis_orders.proofs.Sifting.{parted-own, parted-other}
 use borrow.Author.Needs.{needs}
-use Rattle.tree_build.proofs.part.Statement.{statement}
-use Rattle.tree_build.proofs.part.Tie as tie
+use Rattle.axis_orders.proofs.part.Statement.{statement}
+use Rattle.axis_orders.proofs.part.Tie as tie
 
 returns : tie.Need-returns
 returns c = parted-own _ _ _ _ (c .if1 .taken)

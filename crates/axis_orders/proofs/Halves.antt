@@ -26,9 +26,9 @@ use Rattle.kd_tree.proofs.Counted.{sorted-count}
 use Rattle.kd_tree.proofs.Farthest.{eq-turned, eq-le}
 use Rattle.tree_order.specs.InOrder.{All, Ordered}
 use Rattle.tree_order.proofs.Ordered.{all-in, all-take, either, true-T, not-T, T-true, in-order, only-order, before-both, before-self, numbered}
-use Rattle.tree_build.specs.Parted.{isBefore, others, partedBut, orderAlong}
-use Rattle.tree_build.specs.Orders.{Numbers, Orders, Dividing, Divided}
-use Rattle.tree_build.proofs.Ends.{all-below, ordered-first}
+use Rattle.axis_orders.specs.Parted.{isBefore, others, partedBut, orderAlong}
+use Rattle.axis_orders.specs.Orders.{Numbers, Orders, Dividing, Divided}
+use Rattle.axis_orders.proofs.Ends.{all-below, ordered-first}
 
 -- ---- parts of a list in order
 module _ (before : ℕ → ℕ → Bool) where

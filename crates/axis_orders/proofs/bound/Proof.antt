@@ -1,7 +1,7 @@
-use Rattle.tree_build.proofs.Ends.{bounding}
+use Rattle.axis_orders.proofs.Ends.{bounding}
 use borrow.Author.Needs.{needs}
-use Rattle.tree_build.proofs.bound.Statement.{statement}
-use Rattle.tree_build.proofs.bound.Tie as tie
+use Rattle.axis_orders.proofs.bound.Statement.{statement}
+use Rattle.axis_orders.proofs.bound.Tie as tie
 
 box-of-requires : tie.Need-box-of-requires
 box-of-requires c κs = search needs

@@ -1,6 +1,6 @@
 use borrow.Author.Needs.{needs}
-use Rattle.tree_build.proofs.corner.Statement.{statement}
-use Rattle.tree_build.proofs.corner.Tie as tie
+use Rattle.axis_orders.proofs.corner.Statement.{statement}
+use Rattle.axis_orders.proofs.corner.Tie as tie
 
 coordinate-requires : tie.Need-coordinate-requires
 coordinate-requires c κs = search needs

@@ -1,10 +1,10 @@
 use Prim.Native.Nat.{_-_}
 use lib.ListN.{length}
-use Rattle.tree_build.specs.Parted.{isBefore}
-use Rattle.tree_build.proofs.Sifting.{Sifting, sift-start, sift-keep, sift-leave, sift-end}
+use Rattle.axis_orders.specs.Parted.{isBefore}
+use Rattle.axis_orders.proofs.Sifting.{Sifting, sift-start, sift-keep, sift-leave, sift-end}
 use borrow.Author.Needs.{needs}
-use Rattle.tree_build.proofs.sift.Statement.{statement}
-use Rattle.tree_build.proofs.sift.Tie as tie
+use Rattle.axis_orders.proofs.sift.Statement.{statement}
+use Rattle.axis_orders.proofs.sift.Tie as tie
 
 abbrev Inv-loop : tie.InvT-loop
 Inv-loop points axis at pivot list₀ work₀ kept₀ i₀ list work kept i = Sifting (isBefore points axis at pivot) list₀ list work₀ work kept i

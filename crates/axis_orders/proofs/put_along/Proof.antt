@@ -1,7 +1,7 @@
-use Rattle.tree_build.proofs.Sifting.{along-x, along-y, along-z}
+use Rattle.axis_orders.proofs.Sifting.{along-x, along-y, along-z}
 use borrow.Author.Needs.{needs}
-use Rattle.tree_build.proofs.put_along.Statement.{statement}
-use Rattle.tree_build.proofs.put_along.Tie as tie
+use Rattle.axis_orders.proofs.put_along.Statement.{statement}
+use Rattle.axis_orders.proofs.put_along.Tie as tie
 
 put-from-requires : tie.Need-put-from-requires
 put-from-requires c κs = search needs

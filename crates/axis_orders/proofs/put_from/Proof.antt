@@ -1,9 +1,9 @@
 use Prim.Native.Nat.{_-_}
 use lib.ListN.{length}
-use Rattle.tree_build.proofs.Sifting.{Putting, put-start, put-step, put-end}
+use Rattle.axis_orders.proofs.Sifting.{Putting, put-start, put-step, put-end}
 use borrow.Author.Needs.{needs}
-use Rattle.tree_build.proofs.put_from.Statement.{statement}
-use Rattle.tree_build.proofs.put_from.Tie as tie
+use Rattle.axis_orders.proofs.put_from.Statement.{statement}
+use Rattle.axis_orders.proofs.put_from.Tie as tie
 
 abbrev Inv-loop : tie.InvT-loop
 Inv-loop list₀ from work i₀ list i = Putting list₀ from work list i

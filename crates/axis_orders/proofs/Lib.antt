@@ -1,0 +1,3 @@
+pub mod Sifting
+pub mod Ends
+pub mod Halves
