@@ -7,7 +7,7 @@ use Rattle.lists.specs.Members.{In}
 use Rattle.axis_sort.specs.Axis.{coordinateOf}
 use Rattle.kd_tree.specs.Boxes.{least, greatest}
 use Rattle.kd_tree.proofs.Farthest.{Number, low-number, high-number, low-all, high-all}
-use Rattle.nearest.specs.Boxes.{Between}
+use Rattle.box_search.specs.Boxes.{Between}
 
 pub between : (points : List Float) (axis : ℕ) (xs : List ℕ) (some : 0 < length xs) (good : (v : ℕ) → In v xs → Number (coordinateOf points axis v))
     → (v : ℕ) → In v xs → Between (least points axis xs) (greatest points axis xs) (coordinateOf points axis v)

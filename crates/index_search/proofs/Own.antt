@@ -24,9 +24,9 @@ use Rattle.kd_tree.specs.Tree.{split, boxesOf, indexSize, padded, built, same, 
 use Rattle.nearest.specs.Scan.{Near, lengthTo, nearAt, firstLeast, nearest}
 use Rattle.nearest.specs.Parts.{closer, scanned, Length, nearOf, Keeps}
 use Rattle.nearest.specs.declared.Best.{Best}
-use Rattle.nearest.specs.Boxes.{reachOf, Six, Boxed, Ready}
+use Rattle.box_search.specs.Boxes.{reachOf, Six, Boxed, Ready}
 use Rattle.nearest.proofs.Lengths.{distance-length}
-use Rattle.nearest.proofs.Scanning.{held}
+use Rattle.box_search.proofs.Halves.{held}
 use Rattle.points.specs.Points.{pointAt}
 use Rattle.bounds.specs.Within.{Limit}
 use Rattle.nearest.proofs.AnyOrder.{any-order}

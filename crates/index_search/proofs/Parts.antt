@@ -21,11 +21,12 @@ use Rattle.axis_sort.specs.Axis.{coordinateOf}
 use Rattle.axis_sort.specs.Halving.{halving}
 use Rattle.kd_tree.specs.Boxes.{boxOf, corners, least, greatest}
 use Rattle.kd_tree.specs.Tree.{leafSize, along, boxCountTo}
-use Rattle.nearest.specs.Boxes.{wordAt, boxesBelow, secondAt, Between, Inside, Six, Known, Held, Boxed, leaf, node}
+use Rattle.nearest.specs.Parts.{Known}
+use Rattle.box_search.specs.Boxes.{wordAt, boxesBelow, secondAt, Between, Inside, Six, Held, Boxed, leaf, node}
 use Rattle.index_search.specs.Indexed.{Width}
 use Rattle.kd_tree.proofs.Counted.{along-count, along-length, split-count, split-length}
 use Rattle.index_search.proofs.Widths.{few-boxes, many-boxes, Halves, halves}
-use Rattle.nearest.proofs.Scanning.{in-first, in-second}
+use Rattle.box_search.proofs.Halves.{in-first, in-second}
 use Rattle.kd_tree.proofs.Farthest.{Number, low-number, high-number}
 use Rattle.index_search.proofs.Holding.{between}
 

@@ -6,7 +6,7 @@ use native.Mathlib.Decide.{decLt}
 use native.Mathlib.Omega.{arith}
 use borrow.Author.Tests.{le-leb, lt-leb}
 use Rattle.kd_tree.specs.Tree.{leafSize, boxCountTo}
-use Rattle.nearest.specs.Boxes.{boxesBelow}
+use Rattle.box_search.specs.Boxes.{boxesBelow}
 use Rattle.index_search.specs.Indexed.{Power, one, twice, Width}
 
 abbrev byWidth : ℕ → ℕ → ℕ

@@ -31,8 +31,8 @@ pub fn nearest_in(points: &[f32], index: &[u32], width: usize, spot: Point3f) ->
     let square = vector::distance_squared(points::point_at(points, 0), spot);
     let mut best = [square, nearest::limit_of(square)];
     let place = [spot.x, spot.y, spot.z];
-    let far = nearest::reach(index, n, spot);
-    let number = nearest::search(
+    let far = box_search::reach(index, n, spot);
+    let number = box_search::search(
         points,
         &place,
         index,

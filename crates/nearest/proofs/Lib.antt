@@ -2,7 +2,6 @@
 pub mod Cases
 pub mod Lengths
 pub mod Margin
-pub mod Bounds
 pub mod AnyOrder
 pub mod Scanning
 pub mod Settling

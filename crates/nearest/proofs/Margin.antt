@@ -21,7 +21,7 @@ use Rattle.rounding_errors.proofs.Rounding.{Units, units-pos, units-positive}
 use Rattle.rounding_errors.proofs.Operations.{between-units, units-le, mul-units, root-units}
 use Rattle.bounds.specs.Within.{Limit}
 use Rattle.bounds.proofs.Beyond.{limit-tested}
-use Rattle.nearest.specs.Boxes.{greater}
+use Rattle.nearest.specs.Least.{greater}
 
 -- 1.000001 as an f32 is 8388616 / 8388608
 factor : Units (f32 0x3f800008) (8388616 * 2 ^ 126) 149 150

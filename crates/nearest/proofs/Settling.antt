@@ -23,8 +23,7 @@ use Rattle.nearest.specs.declared.Best.{Best}
 use Rattle.nearest.specs.declared.Least.{Least}
 use Rattle.nearest.specs.Scan.{Near, lengthTo, nearAt}
 use Rattle.nearest.specs.Parts.{scanned, Length, nearOf, Limited, Keeps}
-use Rattle.nearest.specs.Boxes.{greater, lesser}
-use Rattle.nearest.specs.Least.{squareTo, nearerNumber, nextLeast, AllFinite, TwoLeast}
+use Rattle.nearest.specs.Least.{greater, lesser, squareTo, nearerNumber, nextLeast, AllFinite, TwoLeast}
 use Rattle.nearest.proofs.AnyOrder.{NotAfter, itself, strictly, Found, found, only-found}
 use Rattle.nearest.proofs.Scanning.{beyond, lengths}
 

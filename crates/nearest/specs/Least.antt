@@ -11,7 +11,12 @@ use Rattle.vector.specs.Vector.{Finite, squared}
 use Rattle.vector.specs.declared.Point3f.{Point3f}
 use Rattle.points.specs.Points.{pointAt}
 use Rattle.nearest.specs.declared.Least.{Least}
-use Rattle.nearest.specs.Boxes.{greater, lesser}
+
+unfoldable pub greater : Float → Float → Float
+greater a b = cond (lt a b) b a
+
+unfoldable pub lesser : Float → Float → Float
+lesser a b = cond (lt a b) a b
 
 -- the computed square of the length from point v to the spot
 abbrev pub squareTo : List Float → Point3f → ℕ → Float

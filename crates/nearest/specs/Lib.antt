@@ -1,5 +1,4 @@
 -- What the crate's contracts cite, leaves first.
 pub mod Scan
 pub mod Parts
-pub mod Boxes
 pub mod Least

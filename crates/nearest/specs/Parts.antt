@@ -2,15 +2,14 @@
 use mathlib.Core.Path.{_≡_}
 use mathlib.Core.Bool.{cond}
 use mathlib.Core.List.{List, [], _∷_}
-use Prim.Native.Nat.{ℕ}
+use Prim.Native.Nat.{ℕ, _+_, _*_, _<_}
 use lib.Dec.{T, ltb}
 use lib.Ieee.{Float, nan, binary32, lt, fits}
-use lib.ListN.{getD}
+use lib.ListN.{length, getD}
+use Rattle.lists.specs.Members.{In}
 use Rattle.numbers.specs.Bounds.{unsigned}
 use Rattle.numbers.specs.Root.{root}
 use Rattle.bounds.specs.Within.{Limit}
-use Rattle.vector.specs.Vector.{point}
-use Rattle.vector.specs.declared.Point3f.{Point3f}
 use Rattle.nearest.specs.declared.Best.{Best}
 use Rattle.nearest.specs.Scan.{Near}
 
@@ -26,6 +25,10 @@ unfoldable pub scanned : (ℕ → Float) → List ℕ → Near → Near
 scanned key [] best = best
 scanned key (x ∷ xs) best = scanned key xs (closer best (key x) x)
 
+-- numbers of points that are there
+abbrev pub Known : List Float → List ℕ → Type 0
+Known points xs = (v : ℕ) → In v xs → 3 * v + 2 < length points
+
 -- a length as `distance` gives it
 pub record Length (d : Float) : Type 0 where
   pub is-f32 : T (fits binary32 d)
@@ -37,10 +40,6 @@ nearOf best = record { distance = root (best .square); number = best .number }
 -- the best one whose square and limit stand in two floats
 abbrev pub bestOf : List Float → ℕ → Best
 bestOf best number = record { square = getD best 0 nan; number = number; limit = getD best 1 nan }
-
--- the spot whose coordinates stand in three floats
-abbrev pub placeOf : List Float → Point3f
-placeOf place = point (getD place 0 nan) (getD place 1 nan) (getD place 2 nan)
 
 -- the square is an f32, and each square above the limit has a greater root
 pub record Limited (best : Best) : Type 0 where

@@ -1,19 +1,14 @@
-// The nearest of a list of points, by boxes that hold its halves: a part whose box is strictly farther than the best so
-// far is left out.
+// The nearest of a list of points, by a scan of their squares: few points need a root.
 use vector::Point3f;
 ghost use mathlib.Core.Path.{_≡_};
-ghost use mathlib.Core.Bool.{not};
-ghost use Prim.Native.Nat.{_≤_, _<_};
 ghost use lib.Dec.{T};
-ghost use lib.Ieee.{binary32, fits, nanBits};
-ghost use lib.ListN.{length, getD};
+ghost use lib.Ieee.{binary32, fits};
 ghost use Rattle.numbers.specs.Root.{root};
 ghost use Rattle.bounds.specs.Within.{Limit};
 ghost use Rattle.vector.specs.Vector.{distance};
 ghost use Rattle.nearest.specs.Scan.{lengthTo};
-ghost use Rattle.nearest.specs.Parts.{closer, scanned, Length, nearOf, bestOf, placeOf, Limited, Keeps};
-ghost use Rattle.nearest.specs.Boxes.{wordAt, greater, lesser, gap, reachOf, boxesBelow, Six, Known, Ready};
-ghost use Rattle.nearest.specs.Least.{squareTo, nearerNumber, nextLeast, TwoLeast, AllFinite};
+ghost use Rattle.nearest.specs.Parts.{closer, scanned, Length, nearOf, bestOf, Known, Limited, Keeps};
+ghost use Rattle.nearest.specs.Least.{greater, lesser, squareTo, nearerNumber, nextLeast, TwoLeast, AllFinite};
 
 // The nearest point so far, by its square. A square above the limit has a root above this one's, so that few points
 // need a root.
@@ -30,7 +25,7 @@ struct Least {
     number: u32,
 }
 
-fn greater(a: f32, b: f32) -> f32
+pub fn greater(a: f32, b: f32) -> f32
     ensures { λ r. ⌜ r ≡ greater a b ⌝ }
 {
     if a < b {
@@ -39,7 +34,7 @@ fn greater(a: f32, b: f32) -> f32
     a
 }
 
-fn lesser(a: f32, b: f32) -> f32
+pub fn lesser(a: f32, b: f32) -> f32
     ensures { λ r. ⌜ r ≡ lesser a b ⌝ }
 {
     if a < b {
@@ -164,7 +159,13 @@ fn two_least(points: &[f32], spot: Point3f, order: &[u32]) -> Least
 
 // The same as `scan`, the best one's square and limit lent where they stand, its number handed on. Where the least
 // square is clearly below all others it settles who is nearest.
-fn scan_leaf(points: &[f32], spot: Point3f, order: &[u32], near: u32, best: &mut [f32; 2]) -> u32
+pub fn scan_leaf(
+    points: &[f32],
+    spot: Point3f,
+    order: &[u32],
+    near: u32,
+    best: &mut [f32; 2],
+) -> u32
     requires { ⌜ Limited (bestOf (now best) near) × Length (root (bestOf (now best) near .square)) ⌝ }
     requires { ⌜ Known (now points) (now order) × AllFinite (now points) spot (now order) ⌝ }
     ensures { λ r. ⌜ Keeps (bestOf (now (best .exit)) r) (scanned (lengthTo (now (points .entry)) spot)
@@ -190,95 +191,4 @@ fn scan_leaf(points: &[f32], spot: Point3f, order: &[u32], near: u32, best: &mut
     let found = scan(points, spot, order, old);
     *best = [found.square, found.limit];
     found.number
-}
-
-// How far the nearest number between lo and hi is from v, below zero where it is less.
-fn gap(v: f32, lo: f32, hi: f32) -> f32
-    ensures { λ r. ⌜ r ≡ gap v lo hi ⌝ }
-{
-    lesser(greater(lo, v), hi) - v
-}
-
-// The coordinate whose bits a word has.
-fn word_at(words: &[u32], at: usize) -> f32
-    requires { ⌜ (at < length (now words)) × T (not (nanBits binary32 (getD (now words) at 0))) ⌝ }
-    ensures { λ r. ⌜ r ≡ wordAt (now (words .entry)) at ⌝ }
-{
-    f32::from_bits(words[at])
-}
-
-// How far the spot is from the box at a place, squared.
-pub fn reach(words: &[u32], at: usize, spot: Point3f) -> f32
-    requires { ⌜ Six (now words) at ⌝ }
-    ensures { λ r. ⌜ r ≡ reachOf (now (words .entry)) at spot ⌝ }
-{
-    let x = gap(spot.x, word_at(words, at), word_at(words, at + 3));
-    let y = gap(spot.y, word_at(words, at + 1), word_at(words, at + 4));
-    let z = gap(spot.z, word_at(words, at + 2), word_at(words, at + 5));
-    vector::magnitude_squared(vector::point(x, y, z))
-}
-
-// How many boxes a part of n points has.
-fn boxes_below(width: usize, n: usize) -> usize
-    requires { ⌜ (width ≤ 4096) × (n ≤ 4096) ⌝ }
-    ensures { λ r. ⌜ r ≡ boxesBelow width n ⌝ }
-{
-    if n <= 8 {
-        return 1;
-    }
-    if 8 * width < n {
-        return 2 * (n - 7 * width) - 1;
-    }
-    2 * width - 1
-}
-
-// The same, but that parts whose box is farther than the best so far are left out, and of two halves the nearer one
-// comes first. What all calls share is lent, since a call hands structs on through memory.
-pub fn search(
-    points: &[f32],
-    spot: &[f32; 3],
-    words: &[u32],
-    at: usize,
-    width: usize,
-    far: f32,
-    order: &[u32],
-    near: u32,
-    best: &mut [f32; 2],
-) -> u32
-    requires { ⌜ Ready (now points) (placeOf (now spot)) (now words) at width far (now order)
-        (bestOf (now best) near) ⌝ }
-    ensures { λ r. ⌜ Keeps (bestOf (now (best .exit)) r) (scanned
-        (lengthTo (now (points .entry)) (placeOf (now (spot .entry)))) (now (order .entry))
-        (nearOf (bestOf (now (best .entry)) near))) ⌝ }
-{
-    if best[1] < far {
-        return near;
-    }
-    let place = Point3f {
-        x: spot[0],
-        y: spot[1],
-        z: spot[2],
-    };
-    let n = order.len();
-    if n <= 8 {
-        return scan_leaf(points, place, order, near, best);
-    }
-    let half = n / 2;
-    let w = width / 2;
-    let first = at + 6;
-    let a = reach(words, first, place);
-    let next = first + 6 * boxes_below(w, half);
-    let b = reach(words, next, place);
-    if b < a {
-        let near = search(points, spot, words, next, w, b, &order[half..], near, best);
-        if best[1] < a {
-            return near;
-        }
-        return search(points, spot, words, first, w, a, &order[..half], near, best);
-    }
-    let near = search(points, spot, words, first, w, a, &order[..half], near, best);
-    if best[1] < b {
-        return near;
-    }
-    search(points, spot, words, next, w, b, &order[half..], near, best)
 }

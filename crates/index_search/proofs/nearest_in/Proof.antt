@@ -12,8 +12,8 @@ use Rattle.index_search.proofs.nearest_in.Tie as tie
 use Rattle.index_search.proofs.nearest_in.Reads as reads
 use Rattle.index_search.proofs.nearest_in.Lts as lts
 use Rattle.nearest.proofs.limit_of.Reads as limit-of-reads
-use Rattle.nearest.proofs.reach.Reads as reach-reads
-use Rattle.nearest.proofs.search.Reads as search-reads
+use Rattle.box_search.proofs.reach.Reads as reach-reads
+use Rattle.box_search.proofs.search.Reads as search-reads
 use Rattle.points.proofs.point_at.Reads as point-at-reads
 use Rattle.vector.proofs.distance_squared.Reads as distance-squared-reads
 

@@ -1,4 +1,4 @@
-use Rattle.nearest.specs.Boxes.{greater}
+use Rattle.nearest.specs.Least.{greater}
 use Rattle.nearest.proofs.greater.Statement.{statement}
 use Rattle.nearest.proofs.greater.Tie as tie
 

@@ -1,4 +1,4 @@
-use Rattle.nearest.specs.Boxes.{lesser}
+use Rattle.nearest.specs.Least.{lesser}
 use Rattle.nearest.proofs.lesser.Statement.{statement}
 use Rattle.nearest.proofs.lesser.Tie as tie
 

@@ -1,12 +1,12 @@
 use native.Mathlib.Omega.{arith}
-use Rattle.nearest.proofs.Bounds.{reach-is, gap-is, six-at}
+use Rattle.box_search.proofs.Bounds.{reach-is, gap-is, six-at}
 use borrow.Author.Needs.{needs}
-use Rattle.nearest.proofs.reach.Statement.{statement}
-use Rattle.nearest.proofs.reach.Tie as tie
-use Rattle.nearest.proofs.reach.Reads as reads
-use Rattle.nearest.proofs.reach.Lts as lts
-use Rattle.nearest.proofs.gap.Reads as gap-reads
-use Rattle.nearest.proofs.word_at.Reads as word-at-reads
+use Rattle.box_search.proofs.reach.Statement.{statement}
+use Rattle.box_search.proofs.reach.Tie as tie
+use Rattle.box_search.proofs.reach.Reads as reads
+use Rattle.box_search.proofs.reach.Lts as lts
+use Rattle.box_search.proofs.gap.Reads as gap-reads
+use Rattle.box_search.proofs.word_at.Reads as word-at-reads
 use Rattle.vector.proofs.magnitude_squared.Reads as magnitude-squared-reads
 use Rattle.vector.proofs.point.Reads as point-reads
 

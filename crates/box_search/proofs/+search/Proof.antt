@@ -6,15 +6,15 @@ use borrow.Fn.Kinds.{In}
 use borrow.Fn.PlainCycle.{Measures, is, falls, and}
 use lib.ListN.{length}
 use lib.Seq.{length-take-le}
-use Rattle.nearest.proofs.Scanning.{second-size, here, left-out, first-held, second-held, first-ready, second-ready, first-size, second-length, in-turn, turned, finite-here}
-use Rattle.nearest.proofs.search.Reads as search′
-use Rattle.nearest.proofs.search.Kinds as search-kinds
-use Rattle.nearest.proofs.+search.Lts-search as search-lts
+use Rattle.box_search.proofs.Halves.{second-size, here, left-out, first-held, second-held, first-ready, second-ready, first-size, second-length, in-turn, turned, finite-here}
+use Rattle.box_search.proofs.search.Reads as search′
+use Rattle.box_search.proofs.search.Kinds as search-kinds
+use Rattle.box_search.proofs.+search.Lts-search as search-lts
 use Rattle.nearest.proofs.scan_leaf.Reads as scan-leaf-reads
-use Rattle.nearest.proofs.boxes_below.Reads as boxes-below-reads
-use Rattle.nearest.proofs.reach.Reads as reach-reads
-use Rattle.nearest.proofs.+search.{statement}
-use Rattle.nearest.proofs.+search.Tie.{close}
+use Rattle.box_search.proofs.boxes_below.Reads as boxes-below-reads
+use Rattle.box_search.proofs.reach.Reads as reach-reads
+use Rattle.box_search.proofs.+search.{statement}
+use Rattle.box_search.proofs.+search.Tie.{close}
 
 abbrev μ-search : Measures 5 search-kinds.ps ℕ
 μ-search κs a = length (a .1 .1 .1 .1 .1 .1 .0 .now)

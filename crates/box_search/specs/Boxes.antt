@@ -4,7 +4,7 @@ use mathlib.Core.Bool.{cond, not}
 use mathlib.Core.List.{List}
 use Prim.Native.Nat.{ℕ, _+_, _-_, _*_, _/_, _≤_, _<_}
 use lib.Dec.{T, leb}
-use lib.Ieee.{Float, binary32, lt, le, ofBits, nanBits}
+use lib.Ieee.{Float, nan, binary32, le, ofBits, nanBits}
 use lib.Ieee.Scale.{finite}
 use lib.ListN.{length, getD, take, drop}
 use Rattle.lists.specs.Members.{In}
@@ -13,18 +13,13 @@ use Rattle.numbers.specs.Root.{root}
 use Rattle.vector.specs.Vector.{Finite, point, magnitudeSquared}
 use Rattle.vector.specs.declared.Point3f.{Point3f}
 use Rattle.points.specs.Points.{pointAt}
 use Rattle.nearest.specs.declared.Best.{Best}
-use Rattle.nearest.specs.Parts.{Length, Limited}
+use Rattle.nearest.specs.Parts.{Length, Known, Limited}
+use Rattle.nearest.specs.Least.{greater, lesser}
 
 -- the coordinate whose bits stand in a word
 abbrev pub wordAt : List ℕ → ℕ → Float
 wordAt words k = ofBits binary32 (getD words k 0)
-
-unfoldable pub greater : Float → Float → Float
-greater a b = cond (lt a b) b a
-
-unfoldable pub lesser : Float → Float → Float
-lesser a b = cond (lt a b) a b
 
 -- how far the nearest number between lo and hi is from v, below zero where it is less
 unfoldable pub gap : Float → Float → Float → Float
@@ -61,10 +56,6 @@ pub record Six (words : List ℕ) (at : ℕ) : Type 0 where
   pub long : at + 6 ≤ length words
   pub numbers : (k : ℕ) → k < 6 → T (not (nanBits binary32 (getD words (at + k) 0)))
 
--- numbers of points that are there
-abbrev pub Known : List Float → List ℕ → Type 0
-Known points xs = (v : ℕ) → In v xs → 3 * v + 2 < length points
-
 -- a box that holds all points of a list
 pub record Held (points : List Float) (words : List ℕ) (xs : List ℕ) (at : ℕ) : Type 0 where
   pub six : Six words at
@@ -87,6 +78,10 @@ pub data Boxed (points : List Float) (words : List ℕ) : List ℕ → ℕ → �
       → Boxed points words (take (length xs / 2) xs) (at + 6) (width / 2)
       → Boxed points words (drop (length xs / 2) xs) (secondAt at width (length xs)) (width / 2)
       → Boxed points words xs at width
+
+-- the spot whose coordinates stand in three floats
+abbrev pub placeOf : List Float → Point3f
+placeOf place = point (getD place 0 nan) (getD place 1 nan) (getD place 2 nan)
 
 -- what a search of a part starts from
 pub record Ready

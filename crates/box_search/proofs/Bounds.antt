@@ -17,7 +17,8 @@ use Rattle.numbers.proofs.ProductOrder.{square-unsigned, square-beyond}
 use Rattle.vector.specs.Vector.{Finite, point, magnitudeSquared, squared}
 use Rattle.vector.specs.declared.Point3f.{Point3f}
 use Rattle.vector.proofs.Distances.{square, squared-is}
-use Rattle.nearest.specs.Boxes.{wordAt, greater, lesser, gap, reachOf, Between, Inside, Six}
+use Rattle.nearest.specs.Least.{greater, lesser}
+use Rattle.box_search.specs.Boxes.{wordAt, gap, reachOf, Between, Inside, Six}
 
 -- ---- the box's distance, from what was read
 pub reach-is : (words : List ℕ) (at : ℕ) (spot : Point3f) {x y z r : Float} {q : Point3f}

@@ -1,11 +1,11 @@
 use native.Mathlib.Omega.{arith}
 use borrow.Author.Tests.{le-leb, lt-leb}
-use Rattle.nearest.specs.Boxes.{boxesBelow}
+use Rattle.box_search.specs.Boxes.{boxesBelow}
 use borrow.Author.Needs.{needs}
-use Rattle.nearest.proofs.boxes_below.Statement.{statement}
-use Rattle.nearest.proofs.boxes_below.Tie as tie
-use Rattle.nearest.proofs.boxes_below.Reads as reads
-use Rattle.nearest.proofs.boxes_below.Lts as lts
+use Rattle.box_search.proofs.boxes_below.Statement.{statement}
+use Rattle.box_search.proofs.boxes_below.Tie as tie
+use Rattle.box_search.proofs.boxes_below.Reads as reads
+use Rattle.box_search.proofs.boxes_below.Lts as lts
 
 returns : tie.Need-returns
 unfolding boxesBelow

@@ -1,11 +1,11 @@
-use Rattle.nearest.proofs.Bounds.{gap-of}
+use Rattle.box_search.proofs.Bounds.{gap-of}
 use borrow.Author.Needs.{needs}
-use Rattle.nearest.proofs.gap.Statement.{statement}
-use Rattle.nearest.proofs.gap.Tie as tie
-use Rattle.nearest.proofs.gap.Reads as reads
-use Rattle.nearest.proofs.gap.Lts as lts
+use Rattle.box_search.proofs.gap.Statement.{statement}
+use Rattle.box_search.proofs.gap.Tie as tie
+use Rattle.box_search.proofs.gap.Reads as reads
+use Rattle.box_search.proofs.gap.Lts as lts
 use Rattle.nearest.proofs.greater.Reads as greater-reads
 use Rattle.nearest.proofs.lesser.Reads as lesser-reads
 
 greater-requires : tie.Need-greater-requires
 greater-requires c κs = search needs

@@ -1,0 +1,3 @@
+-- Laws of the definitions, leaves first.
+pub mod Bounds
+pub mod Halves
