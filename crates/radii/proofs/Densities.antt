@@ -30,8 +30,8 @@ use Rattle.vector.specs.Vector.{Finite}
 use Rattle.spatial_hash.proofs.Squares.{Good}
 use Rattle.radii.specs.Radii.{total, average, nearest, densitiesFrom, stepOf, sampleCount}
 use Rattle.radii.specs.Steps.{withSample}
-use Rattle.radii.proofs.Rising.{Number, Ascending, insert-ascending}
-use Rattle.radii.proofs.Deciding.{nearest-good}
+use Rattle.neighbor_squares.proofs.Rising.{Number, Ascending, insert-ascending}
+use Rattle.radii.proofs.Distances.{nearest-good}
 
 -- ---- the densities so far, before the region of the least distances
 pub densities-kept : (f u : List Float) (n count : ℕ) → count < n → take n u ≡ take n f → take count u ≡ take count f

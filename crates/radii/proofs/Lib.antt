@@ -1,6 +1,5 @@
-pub mod Rising
-pub mod Deciding
-pub mod Looking
+pub mod Distances
+pub mod Summing
 pub mod Densities
 pub mod Spaced
 pub mod Chosen

@@ -1,3 +1,2 @@
 pub mod Radii
-pub mod Squares
 pub mod Steps

@@ -1,5 +1,5 @@
 -- What the contracts of the steps cite. Definitions only.
-use Prim.Native.Nat.{ℕ, _+_, _-_, _≤_, _<_}
+use Prim.Native.Nat.{ℕ, _-_, _≤_, _<_}
 use mathlib.Core.Path.{_≡_}
 use mathlib.Core.Bool.{cond}
 use mathlib.Core.List.{List, [], _∷_, _++_}
@@ -10,7 +10,10 @@ use Rattle.numbers.specs.Rounded.{f32, _⊖_, _⊗_}
 use Rattle.sorting.specs.Sorted.{insert, percentileOf}
 use Rattle.settings.specs.declared.BallPivotingConfig.{BallPivotingConfig}
 use Rattle.grid.specs.declared.SpatialGrid.{SpatialGrid}
+use Rattle.grid.specs.Grid.{cellOf, rangeOf}
 use Rattle.grid.specs.Index.{Indexed}
+use Rattle.vector.specs.declared.Point3f.{Point3f}
+use Rattle.neighbor_squares.specs.declared.Around.{Around}
 use Rattle.spatial_hash.specs.declared.Hash.{Hash}
 use Rattle.spatial_hash.specs.Near.{HashedAll}
 use Rattle.regions.specs.Regions.{floatsLength}
@@ -26,6 +29,15 @@ pub record Ready (c : BallPivotingConfig) (g : SpatialGrid) (h : Hash) (pts : Li
   pub room : floatsLength n ≤ length f
   pub percentiles : c .«percentile_count» ≤ 8
   pub additional : c .«additional_count» ≤ 8
+
+-- the neighbours of a place at 3 × radius
+abbrev pub aroundOf : BallPivotingConfig → SpatialGrid → Point3f → Around
+aroundOf c g p = record {
+  indexed = c .«use_spatial_index»;
+  range = rangeOf g (c .radius ⊗ f32 0x40400000);
+  cell =
+      cellOf g p;
+}
 
 -- the radii xs are in the first slots, and the others are 0
 pub record Listed (xs : List Float) (r : Radii) : Type 0 where

@@ -3,7 +3,6 @@ mod choice;
 mod nearest;
 mod samples;
 
-use grid::Cell;
 use grid::SpatialGrid;
 use settings::BallPivotingConfig;
 use spatial_hash::Hash;
@@ -17,13 +16,6 @@ ghost use Rattle.radii.specs.Steps.{Ready, Listed};
 pub struct Radii {
     pub list: [f32; 17],
     pub count: u32,
-}
-
-// Which points are neighbours: all, or, if they are indexed, those whose cell lies within the range of a cell.
-pub struct Around {
-    pub indexed: bool,
-    pub range: u32,
-    pub cell: Cell,
 }
 
 // The radii for n points that have been indexed and hashed.

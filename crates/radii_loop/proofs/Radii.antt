@@ -20,7 +20,7 @@ use Rattle.sorting.specs.Sorted.{sorted, All, whole, percentileOf}
 use Rattle.spatial_hash.proofs.Squares.{Good}
 use Rattle.radii.specs.Radii.{distancesTo, total, average, nearOf, nearest, densitiesFrom, stepOf, sampleCount, dedup}
 use Rattle.radii.specs.Radii.{radiusCandidates, radiiFrom, adaptiveRadii}
-use Rattle.radii.proofs.Rising.{sorted-rising}
+use Rattle.neighbor_squares.proofs.Rising.{sorted-rising}
 use Rattle.ball_pivoting.specs.Reconstruct.{pointCount, spatialIndexOf, radiiOf}
 use Rattle.total_order.specs.TotalOrder.{totallySorted, Given}
 use Rattle.total_order.proofs.Order.{Fine}

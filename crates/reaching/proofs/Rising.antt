@@ -25,7 +25,7 @@ use Rattle.grid.proofs.Near.{neighbors-below}
 use Rattle.lists.proofs.Bools.{and-both}
 use Rattle.spatial_hash.proofs.Squares.{Good, root-good, squared-good, distance-back}
 use Rattle.radii.specs.Radii.{distancesTo, average, nearOf, nearest, densitiesFrom, stepOf, sampleCount, spaced, dedup, radiusCandidates, radiiFrom, adaptiveRadii}
-use Rattle.radii.proofs.Rising.{Number, Ascending, insert-ascending, sorted-good}
+use Rattle.neighbor_squares.proofs.Rising.{Number, Ascending, insert-ascending, sorted-good}
 use Rattle.radii.proofs.Densities.{average-number}
 use Rattle.decisions.proofs.Growth.{double-number}
 

@@ -26,7 +26,7 @@ use Rattle.bounds.specs.Within.{within}
 use Rattle.vector.specs.Vector.{Finite}
 use Rattle.spatial_hash.specs.Near.{Gathers, Gathered, Linked, Room}
 use Rattle.spatial_hash.proofs.Inside.{bucket-in, bucket-out}
-use Rattle.spatial_hash.proofs.Chains.{listed-has, listed-beyond}
+use Rattle.bucket_order.proofs.Chains.{listed-has, listed-beyond}
 use Rattle.spatial_hash.proofs.Residues.{residues-once, residues-below, rows-count}
 use Rattle.spatial_hash.proofs.Slots.{slot-above, slot-under}
 

@@ -14,13 +14,14 @@ use lib.Ieee.{Float}
 use Rattle.vector.specs.declared.Point3f.{Point3f}
 use Rattle.lists.proofs.Bools.{either}
 use Rattle.spatial_hash.specs.declared.Hash.{Hash}
-use Rattle.spatial_hash.specs.Buckets.{rowFor, placeFor, bucketOf, bucketAt, buckets, linksOf, isOut, bucketIn, Chained}
-use Rattle.spatial_hash.specs.Order.{Laid}
+use Rattle.bucket_order.specs.Chains.{Chained}
+use Rattle.spatial_hash.specs.Buckets.{rowFor, placeFor, bucketOf, bucketAt, buckets, linksOf, isOut, bucketIn}
+use Rattle.bucket_order.specs.Order.{Laid}
 use Rattle.spatial_hash.specs.Near.{Empty, Heading, HashedAll}
 use Rattle.spatial_hash.proofs.Sizes.{joined-below}
-use Rattle.spatial_hash.proofs.Chains.{last-le, chained-start, chained-step}
+use Rattle.bucket_order.proofs.Chains.{last-le, chained-start, chained-step}
 use Rattle.spatial_hash.proofs.Inside.{link-in, bucket-in}
-use Rattle.spatial_hash.proofs.Ordering.{in-front}
+use Rattle.bucket_order.proofs.Ordering.{in-front}
 use Rattle.spatial_hash.proofs.Kept.{ready-same, laid-same}
 
 -- the heads below b are empty, and what lies before the links is as it was

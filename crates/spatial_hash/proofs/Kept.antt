@@ -12,10 +12,10 @@ use Rattle.sifting.proofs.Parts.{drop-more}
 use Rattle.spatial_hash.specs.declared.Hash.{Hash}
 use Rattle.lists.specs.Lists.{unused}
 use Rattle.spatial_hash.specs.Buckets.{bucketIn, linksOf, isOut}
-use Rattle.spatial_hash.specs.Order.{reads, startOf, partOf, Laid}
+use Rattle.bucket_order.specs.Order.{reads, startOf, partOf, Laid}
 use Rattle.spatial_hash.specs.Near.{Ready, Linked, Hashed, HashedAll}
-use Rattle.spatial_hash.proofs.Chains.{chain-same}
-use Rattle.spatial_hash.proofs.Words.{reads-same}
+use Rattle.bucket_order.proofs.Chains.{chain-same}
+use Rattle.bucket_order.proofs.Words.{reads-same}
 
 pub ready-same : (pts : List Float) (n : ℕ) (w u : List ℕ) → length u ≡ length w → Ready pts n w → Ready pts n u
 ready-same pts n w u l s = record { few = s .few; points-long = s .points-long; work-long = let o = s .work-long in omega arith; numbers = s .numbers }

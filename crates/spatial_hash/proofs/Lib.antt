@@ -3,13 +3,9 @@ pub mod Sizes
 pub mod Corners
 pub mod Slots
 pub mod Inside
-pub mod Chains
-pub mod Words
-pub mod Ordering
 pub mod Kept
 pub mod Heads
 pub mod Residues
-pub mod Leaving
 pub mod Removing
 pub mod Appending
 pub mod Runs

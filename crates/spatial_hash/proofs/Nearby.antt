@@ -25,7 +25,7 @@ use Rattle.lists.proofs.Members.{only-count, only-fewer, only-at-most}
 use Rattle.spatial_hash.specs.Buckets.{linksOf, isOut}
 use Rattle.spatial_hash.specs.Near.{noneOut, Gathered, Surrounds, Near, HashedAll}
 use Rattle.spatial_hash.specs.declared.Hash.{Hash}
-use Rattle.spatial_hash.proofs.Chains.{without}
+use Rattle.bucket_order.proofs.Chains.{without}
 
 -- ---- lists with the same members
 no-count : {k : ℕ} → (1 ≤ k → ⊥) → k ≡ 0

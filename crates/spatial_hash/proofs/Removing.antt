@@ -15,14 +15,15 @@ use Rattle.points.specs.Points.{pointAt}
 use Rattle.lists.specs.Lists.{bit, count}
 use Rattle.lists.proofs.Bools.{either}
 use Rattle.spatial_hash.specs.declared.Hash.{Hash}
-use Rattle.spatial_hash.specs.Buckets.{rowFor, placeFor, bucketOf, bucketIn, linksOf, isOut, chain}
-use Rattle.spatial_hash.specs.Order.{reads, startOf, partOf, Laid}
-use Rattle.spatial_hash.specs.Leave.{Leaving, Left}
+use Rattle.bucket_order.specs.Chains.{chain}
+use Rattle.spatial_hash.specs.Buckets.{rowFor, placeFor, bucketOf, bucketIn, linksOf, isOut}
+use Rattle.bucket_order.specs.Order.{reads, startOf, partOf, Laid}
+use Rattle.bucket_order.specs.Leave.{Leaving, Left}
 use Rattle.spatial_hash.specs.Near.{Linked, Removed}
 use Rattle.spatial_hash.proofs.Inside.{link-out, link-same, bucket-in, bucket-out, bucket-same}
-use Rattle.spatial_hash.proofs.Chains.{chain-has, chain-same, chain-without, without, without-hit, without-miss}
-use Rattle.spatial_hash.proofs.Words.{reads-same, reads-cons}
-use Rattle.spatial_hash.proofs.Ordering.{in-front, row-goes}
+use Rattle.bucket_order.proofs.Chains.{chain-has, chain-same, chain-without, without, without-hit, without-miss}
+use Rattle.bucket_order.proofs.Words.{reads-same, reads-cons}
+use Rattle.bucket_order.proofs.Ordering.{in-front, row-goes}
 use Rattle.spatial_hash.proofs.Heads.{row-below, place-below}
 use Rattle.spatial_hash.proofs.Residues.{joined-apart}
 use Rattle.spatial_hash.proofs.Sizes.{joined-below}

@@ -6,13 +6,14 @@ use native.Mathlib.Omega.{arith}
 use lib.ListN.{length, getD, set}
 use lib.Ieee.{Float}
 use Rattle.spatial_hash.specs.declared.Hash.{Hash}
-use Rattle.spatial_hash.specs.Buckets.{bucketIn, linksOf, chain, next, residues, row, listed, pointsIn, Appended}
-use Rattle.spatial_hash.specs.Order.{reads, startOf, Laid}
+use Rattle.bucket_order.specs.Chains.{chain, listed}
+use Rattle.spatial_hash.specs.Buckets.{bucketIn, linksOf, next, residues, row, pointsIn, Appended}
+use Rattle.bucket_order.specs.Order.{reads, startOf, Laid}
 use Rattle.spatial_hash.specs.Near.{Linked, Room}
-use Rattle.spatial_hash.proofs.Chains.{listed-append}
-use Rattle.spatial_hash.proofs.Words.{reads-length, reads-append}
+use Rattle.bucket_order.proofs.Chains.{listed-append}
+use Rattle.bucket_order.proofs.Words.{reads-length, reads-append}
 use Rattle.spatial_hash.proofs.Sizes.{joined-below}
-use Rattle.spatial_hash.proofs.Ordering.{row-goes}
+use Rattle.bucket_order.proofs.Ordering.{row-goes}
 use Rattle.spatial_hash.proofs.Kept.{behind}
 use Rattle.spatial_hash.proofs.Residues.{next-goes, next-wraps}
 use Rattle.spatial_hash.proofs.Appending.{Walking, appended-none, appended-one, appended-both, walking-start, walking-as, walking-room, walking-step}

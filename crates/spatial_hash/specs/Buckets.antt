@@ -1,4 +1,4 @@
--- Cells, buckets and their chains, and how a walk through them appends to a list. Definitions only.
+-- Cells and buckets, and how a walk through them appends to a list. Definitions only.
 use Prim.Native.Nat.{ℕ, zero, suc, _+_, _*_, _%_, _≤_, _<_}
 use mathlib.Core.Path.{_≡_}
 use mathlib.Core.Bool.{Bool, true, false}
@@ -10,8 +10,9 @@ use Rattle.numbers.specs.Rounded.{_⊖_, _⊗_}
 use Rattle.numbers.specs.Cut.{cut}
 use Rattle.vector.specs.declared.Point3f.{Point3f}
 use Rattle.points.specs.Points.{pointAt}
-use Rattle.regions.specs.Regions.{neighborsAt, usedAt, linksAt, startsAt}
+use Rattle.regions.specs.Regions.{neighborsAt, usedAt, linksAt}
 use Rattle.lists.specs.Lists.{count}
+use Rattle.bucket_order.specs.Chains.{listed}
 use Rattle.spatial_hash.specs.declared.Hash.{Hash}
 use Rattle.spatial_hash.specs.declared.Span.{Span}
 
@@ -54,24 +55,6 @@ isOut n ls j = ltb n (getD ls j 0)
 unfoldable pub bucketIn : Hash → List Float → ℕ → List ℕ → ℕ → ℕ
 bucketIn h pts n ls j = elim (isOut n ls j) [ true ↦ buckets h | false ↦ bucketAt h pts j ]
 
--- ---- chains, where f gives each point's bucket
-
--- of the points below j in bucket b the last one's number plus 1; 0 if there is none
-unfoldable pub lastIn : (ℕ → ℕ) → ℕ → ℕ → ℕ
-lastIn f b zero = 0
-lastIn f b (suc j) = elim (eqb (f j) b) [ true ↦ suc j | false ↦ lastIn f b j ]
-
--- those points, the last one first
-unfoldable pub chain : (ℕ → ℕ) → ℕ → ℕ → List ℕ
-chain f b zero = []
-chain f b (suc j) = elim (eqb (f j) b) [ true ↦ j ∷ chain f b j | false ↦ chain f b j ]
-
--- the n points' words when the first j are chained into m buckets: each bucket has its last point, and each point in
--- one of them the one before it there
-pub record Chained (f : ℕ → ℕ) (n m : ℕ) (w : List ℕ) (j : ℕ) : Type 0 where
-  pub heads : (b : ℕ) → b < m → getD w (startsAt n + b) 0 ≡ lastIn f b j
-  pub links : (i : ℕ) → i < j → f i < m → getD w (linksAt n + i) 0 ≡ lastIn f (f i) i
-
 -- ---- the buckets that a walk visits
 
 -- the remainder after r, from m - 1 back to 0
@@ -112,11 +95,6 @@ planeOf m x ys zs = rows (m + 1) (row m x (spanned m ys)) (spanned m zs)
 
 abbrev pub boxOf : ℕ → Span → Span → Span → List ℕ
 boxOf m xs ys zs = rows (m + 1) (rows m (spanned m xs) (spanned m ys)) (spanned m zs)
-
--- the points below n of several buckets
-unfoldable pub listed : (ℕ → ℕ) → ℕ → List ℕ → List ℕ
-listed f n [] = []
-listed f n (b ∷ bs) = chain f b n ++ listed f n bs
 
 -- the n points of several buckets of a hash
 abbrev pub pointsIn : Hash → List Float → ℕ → List ℕ → List ℕ → List ℕ

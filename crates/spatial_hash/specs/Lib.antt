@@ -1,4 +1,2 @@
 pub mod Buckets
-pub mod Order
-pub mod Leave
 pub mod Near

@@ -19,8 +19,9 @@ use Rattle.bounds.specs.declared.Bounds.{Bounds}
 use Rattle.bounds.specs.Within.{within}
 use Rattle.sifting.specs.Sift.{isWithin}
 use Rattle.spatial_hash.specs.declared.Hash.{Hash}
-use Rattle.spatial_hash.specs.Buckets.{Chained, bucketAt, bucketIn, buckets, linksOf, isOut}
-use Rattle.spatial_hash.specs.Order.{Laid}
+use Rattle.bucket_order.specs.Chains.{Chained}
+use Rattle.spatial_hash.specs.Buckets.{bucketAt, bucketIn, buckets, linksOf, isOut}
+use Rattle.bucket_order.specs.Order.{Laid}
 
 -- js has every point within the bounds but some that are out, each at most once, and none but the n of the cloud
 pub record Gathers (pts : List Float) (n : ℕ) (out : ℕ → Bool) (b : Bounds) (js : List ℕ) : Type 0 where

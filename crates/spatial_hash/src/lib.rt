@@ -4,7 +4,6 @@
 // The points of a row of buckets, those with the same remainders on the first two axes, lie one after another, so that
 // a walk goes from row to row and passes no empty bucket.
 mod cells;
-mod leave;
 mod links;
 mod order;
 mod walk;
@@ -83,13 +82,13 @@ pub fn remove(points: &[f32], w: &mut [u32], n: usize, hash: Hash, k: usize)
     requires { ⌜ Linked hash (now points) n (now w) × (k < n) ⌝ }
     ensures { λ _. ⌜ Removed hash (now (points .entry)) n (now (w .entry)) (now (w .exit)) k ⌝ }
 {
-    if leave::is_out(w, n, k) {
+    if links::is_out(w, n, k) {
         return;
     }
     let side = hash.side;
     let place = points::point_at(points, k);
     let row = regions::STARTS * n + cells::row_of(hash, place) * (side + 1);
     let own = row + cells::place_in_row(hash, place);
-    leave::leave_row(w, n, k, own, row + side);
+    bucket_order::leave_row(w, n, k, own, row + side);
     w[regions::LINKS * n + k] = (n + 1) as u32;
 }

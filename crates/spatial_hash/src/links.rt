@@ -1,4 +1,5 @@
-// Chaining the points into buckets. A bucket's word and a point's have the number of the next point plus 1, or 0.
+// Chaining the points into buckets. A bucket's word and a point's have the number of the next point plus 1, or 0;
+// a point's that was taken out has a number beyond all others.
 use super::cells;
 use crate::Hash;
 use vector::Point3f;
@@ -7,7 +8,8 @@ ghost use Prim.Native.Nat.{ℕ, _+_, _*_, _≤_, _<_};
 ghost use Rattle.points.specs.Points.{pointAt};
 ghost use lib.ListN.{length, take, getD, set};
 ghost use Rattle.regions.specs.Regions.{linksAt, startsAt, bucketRoom, wordsLength};
-ghost use Rattle.spatial_hash.specs.Buckets.{Chained, bucketAt, buckets};
+ghost use Rattle.bucket_order.specs.Chains.{Chained};
+ghost use Rattle.spatial_hash.specs.Buckets.{bucketAt, buckets, linksOf, isOut};
 ghost use Rattle.vector.specs.Vector.{Finite};
 ghost use Rattle.spatial_hash.specs.Near.{Empty};
 
@@ -57,6 +59,14 @@ pub fn clear_heads(w: &mut [u32], n: usize, side: usize)
         w[regions::STARTS * n + b] = 0;
         b += 1;
     }
+}
+
+// Whether point k was taken out.
+pub fn is_out(w: &[u32], n: usize, k: usize) -> bool
+    requires { ⌜ (n ≤ 4096) × (k < n) × (wordsLength n ≤ length (now w)) ⌝ }
+    ensures { λ r. ⌜ r ≡ isOut n (linksOf n (now (w .entry))) k ⌝ }
+{
+    w[regions::LINKS * n + k] > n as u32
 }
 
 // Puts point j at the head of bucket b.

@@ -8,7 +8,7 @@ ghost use Prim.Native.Nat.{_+_, _-_, _*_, _≤_, _<_};
 ghost use lib.ListN.{length};
 ghost use Rattle.regions.specs.Regions.{orderAt, wordsLength};
 ghost use Rattle.spatial_hash.specs.Buckets.{linksOf, residues, row, rowOf, planeOf, boxOf, pointsIn, Appended};
-ghost use Rattle.spatial_hash.specs.Order.{reads};
+ghost use Rattle.bucket_order.specs.Order.{reads};
 ghost use Rattle.spatial_hash.specs.Near.{Room};
 
 // The points at some places of the order, one after another.

@@ -4,7 +4,7 @@ use Prim.Native.Nat.{ℕ}
 use borrow.Author.Needs.{needs}
 use Rattle.grid.specs.declared.Cell.{Cell}
 use Rattle.grid.specs.Grid.{rangeOf}
-use Rattle.radii.specs.declared.Around.{Around}
+use Rattle.neighbor_squares.specs.declared.Around.{Around}
 use Rattle.radii.proofs.nearest.around_of.Statement.{statement}
 use Rattle.radii.proofs.nearest.around_of.Tie as tie
 

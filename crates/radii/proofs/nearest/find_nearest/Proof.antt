@@ -6,9 +6,10 @@ use borrow.Author.Needs.{needs}
 use Rattle.numbers.specs.Root.{root}
 use Rattle.lists.specs.Lists.{upFrom}
 use Rattle.grid.proofs.Near.{indexed-kept}
-use Rattle.radii.specs.declared.Around.{Around}
-use Rattle.radii.specs.Squares.{aroundOf, isNear, leastSquares}
-use Rattle.radii.proofs.Deciding.{nearest-is}
+use Rattle.neighbor_squares.specs.declared.Around.{Around}
+use Rattle.radii.specs.Steps.{aroundOf}
+use Rattle.neighbor_squares.specs.Squares.{isNear, leastSquares}
+use Rattle.radii.proofs.Distances.{nearest-is}
 use Rattle.radii.proofs.nearest.find_nearest.Statement.{statement}
 use Rattle.radii.proofs.nearest.find_nearest.Tie as tie
 

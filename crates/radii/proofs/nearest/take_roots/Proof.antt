@@ -1,7 +1,7 @@
 -- `radii::nearest::take_roots` meets its contract. Assumes nothing.
 use Prim.Native.Nat.{_-_}
 use borrow.Author.Needs.{needs}
-use Rattle.radii.proofs.Looking.{Rooted, roots-start, roots-step, roots-end}
+use Rattle.radii.proofs.Summing.{Rooted, roots-start, roots-step, roots-end}
 use Rattle.radii.proofs.nearest.take_roots.Statement.{statement}
 use Rattle.radii.proofs.nearest.take_roots.Tie as tie
 
