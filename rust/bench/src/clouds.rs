@@ -314,6 +314,7 @@ pub fn bench() -> bool {
     reached &= origins(&races);
     reached &= without_area();
     reached &= slow::rows(None, None);
+    reached &= slow::large();
     reached &= estimates();
     let growth = walls[3] / walls[1];
     println!("bell walls from 1,024 to 4,096 points: {growth:.1} times the time (to reach: below 5)");

@@ -6,7 +6,8 @@
 //! index of points, `bench orders` the order of faces, `bench area` the refusal of clouds without area, `bench refused` that of
 //! clouds over which no triangle is found, `bench rules` rule 2 beside rule 1, `bench origins` calls that tell where each face
 //! came from beside those that don't. Both sides are called in turn, and the best of their rounds counts. It fails where a
-//! ratio that is to be reached is not. `bench alone NAME POINTS` times the port on a family without the Rust.
+//! ratio that is to be reached is not. `bench alone NAME POINTS` times the port on a family without the Rust, `bench large` the
+//! families at many points.
 
 mod clock;
 mod clouds;
@@ -32,9 +33,10 @@ fn main() {
         Some("slow") => slow::bench(),
         Some("refused") => refused::bench(),
         Some("alone") => slow::alone(),
+        Some("large") => slow::large(),
         Some("hunt") => slow::hunt(),
         Some(other) => panic!(
-            "bench {other}: there are only `bench` and `bench` clouds, area, rules, origins, files, stl, nearest, orders, refused, slow, alone and hunt"
+            "bench {other}: there are only `bench` and `bench` clouds, area, rules, origins, files, stl, nearest, orders, refused, slow, alone, large and hunt"
         ),
     };
     std::process::exit(i32::from(!reached));

@@ -10,17 +10,17 @@ use std::time::Instant;
 const ROWS: [(&str, usize, f64); 14] = [
     ("zero", 4_096, 5.0),
     ("late", 4_096, 1.0),
-    ("second", 150, 3.0),
-    ("arc", 150, 1.2),
-    ("arc, low", 100, 3.0),
-    ("two", 100, 2.5),
-    ("score", 200, 8.0),
-    ("area", 200, 20.0),
-    ("dust", 150, 1.1),
-    ("corners", 150, 2.0),
-    ("edge", 150, 1.0),
+    ("second", 150, 30.0),
+    ("arc", 150, 10.0),
+    ("arc, low", 100, 50.0),
+    ("two", 100, 50.0),
+    ("score", 200, 20.0),
+    ("area", 200, 50.0),
+    ("dust", 150, 4.0),
+    ("corners", 150, 3.0),
+    ("edge", 150, 20.0),
     ("pivots", 1_024, 0.9),
-    ("needles", 100, 3.0),
+    ("needles", 100, 50.0),
     ("sparse", 4_093, 2.0),
 ];
 
@@ -48,16 +48,36 @@ pub fn rows(only: Option<String>, size: Option<usize>) -> bool {
     reached
 }
 
-/// `bench alone NAME POINTS`: the port's time on a family, in seconds, best of three; the Rust is not run.
-pub fn alone() -> bool {
-    let name = std::env::args().nth(2).expect("a family");
-    let size = std::env::args().nth(3).and_then(|s| s.parse().ok()).expect("a number of points");
-    let name = slow::FAMILIES.iter().find(|f| **f == name).expect("a family's name");
-    let cloud = slow::family(name, &mut Random::new(1, 0), size);
+/// A family, its points, and how many seconds the port may take. The Rust, which takes minutes to hours, is not run.
+const LARGE: [(&str, usize, f64); 7] = [
+    ("arc", 4_096, 3.0),
+    ("arc, low", 4_096, 3.0),
+    ("two", 512, 0.2),
+    ("score", 4_096, 4.0),
+    ("area", 4_096, 4.0),
+    ("dust", 1_024, 4.0),
+    ("corners", 1_024, 4.0),
+];
+
+/// `bench large`, and rows of `bench clouds`: families of many points, the port alone. True if each is quick enough.
+pub fn large() -> bool {
+    let mut reached = true;
+    for (name, n, most) in LARGE {
+        let seconds = best_of(1, name, n);
+        let short = if seconds > most { "  short" } else { "" };
+        println!("{name:<40} {n:>6} {:>6} {:>10} {:>10.1} {:>8} below {:.0}{short}", "", "", seconds * 1e3, "", most * 1e3);
+        reached &= short.is_empty();
+    }
+    reached
+}
+
+/// The port's time on a family in seconds, the best of so many rounds; one that takes over 10 is not taken again.
+fn best_of(rounds: usize, name: &'static str, n: usize) -> f64 {
+    let cloud = slow::family(name, &mut Random::new(1, 0), n);
     let normals = vec![0.0; cloud.points.len()];
-    let mut lent = crate::clouds::lend(size);
+    let mut lent = crate::clouds::lend(n);
     let mut best = f64::INFINITY;
-    for _ in 0..3 {
+    for _ in 0..rounds {
         let start = clock::now();
         std::hint::black_box(port::reconstruct(&cloud.points, &normals, &cloud.settings, &mut lent));
         best = best.min((clock::now() - start).as_secs_f64());
@@ -65,6 +85,15 @@ pub fn alone() -> bool {
             break;
         }
     }
+    best
+}
+
+/// `bench alone NAME POINTS`: the port's time on a family, in seconds, best of three; the Rust is not run.
+pub fn alone() -> bool {
+    let name = std::env::args().nth(2).expect("a family");
+    let size = std::env::args().nth(3).and_then(|s| s.parse().ok()).expect("a number of points");
+    let name = slow::FAMILIES.iter().find(|f| **f == name).expect("a family's name");
+    let best = best_of(3, name, size);
     println!("{name:<12} {size:>6} {best:>9.4} s");
     true
 }
