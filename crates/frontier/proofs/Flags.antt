@@ -14,7 +14,8 @@ use Rattle.lists.proofs.Bools.{either, not-true}
 use Rattle.lists.proofs.Counts.{any-false, true-any, false-any, count-append}
 use Rattle.patch.proofs.Edges.{same-key, same-refl, same-false}
 use Rattle.patch.proofs.View.{decode-encode}
-use Rattle.frontier.specs.Work.{flag, entryOf, wordsOf, Open, NoneProcessed, Tells}
+use Rattle.frontier_words.specs.Words.{flag, wordsOf}
+use Rattle.frontier.specs.Work.{entryOf, Open, NoneProcessed, Tells}
 
 -- ---- one word
 word-plain : (processed : List Edge) (e : Edge) → any (same e) processed ≡ false → entryOf processed e ≡ encode e + 0

@@ -1,4 +1,2 @@
-pub mod Sifting
-pub mod Slices
 pub mod Flags
 pub mod Work

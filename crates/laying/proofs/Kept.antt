@@ -31,8 +31,9 @@ use Rattle.seed.specs.declared.Seed.the-variants.{Triangle, Nothing}
 use Rattle.seed.specs.Found.{seedFound}
 use Rattle.frontier.specs.declared.Counts.{Counts}
 use Rattle.regions.specs.Regions.{usedIn}
-use Rattle.frontier.specs.Work.{Holds, Sized, OnlyIn}
-use Rattle.frontier.proofs.Slices.{before-same, after-same, only-wider}
+use Rattle.frontier_words.specs.Words.{Sized, OnlyIn}
+use Rattle.frontier.specs.Work.{Holds}
+use Rattle.frontier_words.proofs.Slices.{before-same, after-same, only-wider}
 use Rattle.laying.specs.Laying.{AllSearchable, Searchable, Without}
 
 -- ---- neither the index nor the words that hold a state were changed

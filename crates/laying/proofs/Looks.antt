@@ -15,7 +15,8 @@ use Rattle.decisions.specs.declared.Scene.{Scene}
 use Rattle.frontier.specs.declared.Counts.{Counts}
 use Rattle.frontier.specs.declared.Entry.{Entry}
 use Rattle.regions.specs.Regions.{usedAt, usedIn, frontierEnd}
-use Rattle.frontier.specs.Work.{entryOf, Holds, Pops, Tells, Ready, OnlyIn}
+use Rattle.frontier_words.specs.Words.{OnlyIn}
+use Rattle.frontier.specs.Work.{entryOf, Holds, Pops, Tells, Ready}
 use Rattle.frontier.proofs.Work.{ready}
 use Rattle.laying.specs.Laying.{Searchable, pivotOver, looked, Lays, Opened, BetweenLooks, Pivoting}
 use Rattle.laying.proofs.Kept.{sized, searchable-same, Waiting, waiting}

@@ -30,7 +30,8 @@ use Rattle.pivot.specs.declared.Pivot.{Pivot}
 use Rattle.pivot.specs.declared.Pivot.the-variants.{To, Nowhere}
 use Rattle.pivot.specs.Found.{pivotFound}
 use Rattle.frontier.specs.declared.Counts.{Counts}
-use Rattle.frontier.specs.Work.{Holds, Takes, Alone, Open, Misses, Ready, Room, OnlyIn}
+use Rattle.frontier_words.specs.Words.{OnlyIn}
+use Rattle.frontier.specs.Work.{Holds, Takes, Alone, Open, Misses, Ready, Room}
 use Rattle.frontier.proofs.Work.{ready}
 use Rattle.laying.specs.Laying.{Searchable, Without, rulesOf, pivotOver, looked, Lays, Opened, Pivoting}
 use Rattle.laying.proofs.Kept.{Beside, beside-both, beside-search, beside-without, holds-beside, sized, searchable-searched, searchable-laid, pointOf, pointOf-found}

@@ -25,7 +25,8 @@ use Rattle.seed.specs.declared.Seed.{Seed}
 use Rattle.seed.specs.declared.Seed.the-variants.{Triangle, Nothing}
 use Rattle.seed.specs.Found.{seedFound}
 use Rattle.frontier.specs.declared.Counts.{Counts}
-use Rattle.frontier.specs.Work.{Holds, Takes, Begins, Clears, NoneProcessed, Room, OnlyIn}
+use Rattle.frontier_words.specs.Words.{OnlyIn}
+use Rattle.frontier.specs.Work.{Holds, Takes, Begins, Clears, NoneProcessed, Room}
 use Rattle.frontier.proofs.Work.{ready}
 use Rattle.laying.specs.Laying.{AllSearchable, Searchable, Without, rulesOf, Lays, BetweenLooks, BetweenRadii}
 use Rattle.laying.proofs.Kept.{Beside, beside-both, beside-search, beside-without, holds-beside, searchable-searched, searchable-laid, searchable-begun, seedIn, seedIn-found}

@@ -4,7 +4,7 @@ use Rattle.frontier.proofs.begin.Statement.{statement}
 use Rattle.frontier.proofs.begin.Tie as tie
 use Rattle.frontier.proofs.begin.Reads as reads
 use Rattle.frontier.proofs.begin.Lts as lts
-use Rattle.frontier.proofs.clear_used.Reads as clear-used-reads
+use Rattle.frontier_words.proofs.clear_used.Reads as clear-used-reads
 
 clear-used-requires : tie.Need-clear-used-requires
 clear-used-requires c κs = search needs

@@ -1,6 +1,6 @@
 -- `frontier::pop` meets its contract. Assumes nothing.
 use Prim.Native.Nat.{_*_}
-use Rattle.frontier.proofs.Slices.{only-none}
+use Rattle.frontier_words.proofs.Slices.{only-none}
 use Rattle.frontier.proofs.Work.{by-queue, by-heap}
 use borrow.Author.Needs.{needs}
 use Rattle.frontier.proofs.pop.Statement.{statement}

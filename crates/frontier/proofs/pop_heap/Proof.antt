@@ -1,14 +1,14 @@
 -- `frontier::pop_heap` meets its contract. Assumes nothing.
 use Prim.Native.Nat.{_*_}
 use native.Mathlib.Omega.{arith}
-use Rattle.frontier.proofs.Slices.{only-wider}
+use Rattle.frontier_words.proofs.Slices.{only-wider}
 use Rattle.frontier.proofs.Work.{pop-takes}
 use borrow.Author.Needs.{needs}
 use Rattle.frontier.proofs.pop_heap.Statement.{statement}
 use Rattle.frontier.proofs.pop_heap.Tie as tie
 use Rattle.frontier.proofs.pop_heap.Reads as reads
 use Rattle.frontier.proofs.pop_heap.Lts as lts
-use Rattle.frontier.proofs.pop_frontier.Reads as pop-frontier-reads
+use Rattle.frontier_words.proofs.pop_frontier.Reads as pop-frontier-reads
 
 pop-frontier-requires : tie.Need-pop-frontier-requires
 pop-frontier-requires c κs = search needs

@@ -1,8 +1,8 @@
 -- `frontier::add_triangle_edges_to_frontier` meets its contract. Assumes nothing.
-use Rattle.frontier.proofs.Work.{pushed-three}
+use Rattle.frontier_words.proofs.Parts.{pushed-three}
 use borrow.Author.Needs.{needs}
-use Rattle.frontier.proofs.add_triangle_edges_to_frontier.Statement.{statement}
-use Rattle.frontier.proofs.add_triangle_edges_to_frontier.Tie as tie
+use Rattle.frontier_words.proofs.add_triangle_edges_to_frontier.Statement.{statement}
+use Rattle.frontier_words.proofs.add_triangle_edges_to_frontier.Tie as tie
 
 push-edge-requires : tie.Need-push-edge-requires
 push-edge-requires c κs = search needs

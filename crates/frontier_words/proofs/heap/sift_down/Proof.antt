@@ -3,11 +3,11 @@ use borrow.Author.Needs.{needs}
 use Prim.Native.Nat.{_-_, _≤_, _<_}
 use mathlib.Core.Path.{_≡_, refl}
 use lib.ListN.{length, length-set}
-use Rattle.frontier.proofs.Sifting.{Sifting, start, step, end-left, end-none}
-use Rattle.frontier.proofs.heap.sift_down.Statement.{statement}
-use Rattle.frontier.proofs.heap.sift_down.Tie as tie
-use Rattle.frontier.proofs.heap.sift_down.Reads as reads
-use Rattle.frontier.proofs.heap.sift_down.Lts as lts
+use Rattle.frontier_words.proofs.Sifting.{Sifting, start, step, end-left, end-none}
+use Rattle.frontier_words.proofs.heap.sift_down.Statement.{statement}
+use Rattle.frontier_words.proofs.heap.sift_down.Tie as tie
+use Rattle.frontier_words.proofs.heap.sift_down.Reads as reads
+use Rattle.frontier_words.proofs.heap.sift_down.Lts as lts
 
 abbrev Inv-loop : tie.InvT-loop
 Inv-loop w₀ m v p₀ w p = (length w ≡ length w₀) × (p < m) × (m ≤ length w) × Sifting w₀ m v w p

@@ -1,10 +1,10 @@
-use Rattle.frontier.proofs.Work.{taken}
+use Rattle.frontier_words.proofs.Parts.{taken}
 use borrow.Author.Needs.{needs}
-use Rattle.frontier.proofs.pop_frontier.Statement.{statement}
-use Rattle.frontier.proofs.pop_frontier.Tie as tie
-use Rattle.frontier.proofs.pop_frontier.Reads as reads
-use Rattle.frontier.proofs.pop_frontier.Lts as lts
-use Rattle.frontier.proofs.heap.pop.Reads as pop-reads
+use Rattle.frontier_words.proofs.pop_frontier.Statement.{statement}
+use Rattle.frontier_words.proofs.pop_frontier.Tie as tie
+use Rattle.frontier_words.proofs.pop_frontier.Reads as reads
+use Rattle.frontier_words.proofs.pop_frontier.Lts as lts
+use Rattle.frontier_words.proofs.heap.pop.Reads as pop-reads
 
 mul-at : tie.Need-mul-at
 mul-at c = search needs

@@ -1,11 +1,11 @@
-use Rattle.frontier.proofs.Work.{wrote-more, wrote-full}
+use Rattle.frontier_words.proofs.Parts.{wrote-more, wrote-full}
 use lib.ListN.{length-set}
 use native.Mathlib.Omega.{arith}
 use borrow.Author.Needs.{needs}
-use Rattle.frontier.proofs.put_face.Statement.{statement}
-use Rattle.frontier.proofs.put_face.Tie as tie
-use Rattle.frontier.proofs.put_face.Reads as reads
-use Rattle.frontier.proofs.put_face.Lts as lts
+use Rattle.frontier_words.proofs.put_face.Statement.{statement}
+use Rattle.frontier_words.proofs.put_face.Tie as tie
+use Rattle.frontier_words.proofs.put_face.Reads as reads
+use Rattle.frontier_words.proofs.put_face.Lts as lts
 
 mul-i : tie.Need-mul-i
 mul-i c = search needs

@@ -1,9 +1,9 @@
 -- `frontier::push_edge` meets its contract. Assumes nothing.
 use Prim.Native.Nat.{_+_, _*_}
-use Rattle.frontier.proofs.Work.{pushed-one}
+use Rattle.frontier_words.proofs.Parts.{pushed-one}
 use borrow.Author.Needs.{needs}
-use Rattle.frontier.proofs.push_edge.Statement.{statement}
-use Rattle.frontier.proofs.push_edge.Tie as tie
+use Rattle.frontier_words.proofs.push_edge.Statement.{statement}
+use Rattle.frontier_words.proofs.push_edge.Tie as tie
 
 mul-i : tie.Need-mul-i
 mul-i c = search needs

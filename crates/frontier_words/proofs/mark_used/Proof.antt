@@ -1,9 +1,9 @@
-use Rattle.frontier.proofs.Work.{marked-one}
+use Rattle.frontier_words.proofs.Parts.{marked-one}
 use borrow.Author.Needs.{needs}
-use Rattle.frontier.proofs.mark_used.Statement.{statement}
-use Rattle.frontier.proofs.mark_used.Tie as tie
-use Rattle.frontier.proofs.mark_used.Reads as reads
-use Rattle.frontier.proofs.mark_used.Lts as lts
+use Rattle.frontier_words.proofs.mark_used.Statement.{statement}
+use Rattle.frontier_words.proofs.mark_used.Tie as tie
+use Rattle.frontier_words.proofs.mark_used.Reads as reads
+use Rattle.frontier_words.proofs.mark_used.Lts as lts
 
 mul-i : tie.Need-mul-i
 mul-i c = search needs

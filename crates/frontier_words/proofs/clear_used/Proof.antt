@@ -3,11 +3,11 @@ use mathlib.Core.Path.{_≡_, refl}
 use native.Mathlib.Omega.{arith}
 use lib.ListN.{length, length-set}
 use borrow.Author.Needs.{needs}
-use Rattle.frontier.proofs.Work.{Clearing, clearing-start, clearing-step, clearing-end}
-use Rattle.frontier.proofs.clear_used.Statement.{statement}
-use Rattle.frontier.proofs.clear_used.Tie as tie
-use Rattle.frontier.proofs.clear_used.Reads as reads
-use Rattle.frontier.proofs.clear_used.Lts as lts
+use Rattle.frontier_words.proofs.Parts.{Clearing, clearing-start, clearing-step, clearing-end}
+use Rattle.frontier_words.proofs.clear_used.Statement.{statement}
+use Rattle.frontier_words.proofs.clear_used.Tie as tie
+use Rattle.frontier_words.proofs.clear_used.Reads as reads
+use Rattle.frontier_words.proofs.clear_used.Lts as lts
 
 abbrev Inv-loop : tie.InvT-loop
 Inv-loop w₀ n i₀ w i = (length w ≡ length w₀) × Clearing n w₀ w i

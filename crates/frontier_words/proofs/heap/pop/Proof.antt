@@ -1,11 +1,11 @@
-use Rattle.frontier.proofs.Sifting.{pop-more, pop-none}
+use Rattle.frontier_words.proofs.Sifting.{pop-more, pop-none}
 use mathlib.Core.Path.{refl}
 use borrow.Author.Needs.{needs}
-use Rattle.frontier.proofs.heap.pop.Statement.{statement}
-use Rattle.frontier.proofs.heap.pop.Tie as tie
-use Rattle.frontier.proofs.heap.pop.Reads as reads
-use Rattle.frontier.proofs.heap.pop.Lts as lts
-use Rattle.frontier.proofs.heap.sift_down.Reads as sift-down-reads
+use Rattle.frontier_words.proofs.heap.pop.Statement.{statement}
+use Rattle.frontier_words.proofs.heap.pop.Tie as tie
+use Rattle.frontier_words.proofs.heap.pop.Reads as reads
+use Rattle.frontier_words.proofs.heap.pop.Lts as lts
+use Rattle.frontier_words.proofs.heap.sift_down.Reads as sift-down-reads
 
 slice-read-top : tie.Need-slice-read-top
 slice-read-top c = search needs

@@ -1,10 +1,10 @@
-use Rattle.frontier.proofs.Work.{marked-three}
+use Rattle.frontier_words.proofs.Parts.{marked-three}
 use borrow.Author.Needs.{needs}
-use Rattle.frontier.proofs.mark_seed.Statement.{statement}
-use Rattle.frontier.proofs.mark_seed.Tie as tie
-use Rattle.frontier.proofs.mark_seed.Reads as reads
-use Rattle.frontier.proofs.mark_seed.Lts as lts
-use Rattle.frontier.proofs.mark_used.Reads as mark-used-reads
+use Rattle.frontier_words.proofs.mark_seed.Statement.{statement}
+use Rattle.frontier_words.proofs.mark_seed.Tie as tie
+use Rattle.frontier_words.proofs.mark_seed.Reads as reads
+use Rattle.frontier_words.proofs.mark_seed.Lts as lts
+use Rattle.frontier_words.proofs.mark_used.Reads as mark-used-reads
 
 mark-used-requires : tie.Need-mark-used-requires
 mark-used-requires c κs = search needs
