@@ -4,8 +4,8 @@ ghost use mathlib.Core.Path.{_≡_};
 ghost use Rattle.needle_angles.specs.NeedleAngles.{NeedleAngle, NeedleClass, angleOf};
 
 // The class of needles, from the squares of the lengths: one edge's from `least` to `most`, the other two edges' from
-// `short` to `long`. It is the most of 10, 16, 32, 64 and 128 times that those are as long, or 0 where they are less
-// than 10 or more than 8,192 times as long.
+// `short` to `long`. It is 10, 16, 32, 64 or 128, and those are at least so many times as long; or 0, with edges less
+// than 10 or more than 8,192 times as long, where that can't be told.
 pub fn needle_class(least: f32, most: f32, short: f32, long: f32) -> u32
     ensures { λ k. ⌜ NeedleClass least most short long k ⌝ }
 {

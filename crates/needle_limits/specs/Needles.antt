@@ -8,13 +8,13 @@ use Rattle.thin.specs.Thin.{ThinLimit}
 use Rattle.needle_angles.specs.NeedleAngles.{angleOf, ratioOf}
 use Rattle.needle_limits.specs.declared.NeedleLimits.{NeedleLimits}
 
--- a triangle with such a least angle, such an edge ratio and an aspect ratio of at most the given one has a score below
--- the threshold, in each order of its edges and with each area
+-- a triangle whose least angle and edge ratio these bound, and whose aspect ratio is at most the given one, has a score
+-- below the threshold, in each order of its edges and with each area
 pub record Needles (threshold angle ratio aspect : Float) : Type 0 where
   pub below : (a b c u v w area : Float) → AngleBound a b c angle → EdgeBound a b c ratio → InOrder a b c u v w
       → T (le (shapeOf u v w area .«aspect_ratio») aspect) → T (lt (qualityOf u v w area .«quality_score») threshold)
 
--- a limit is one for such an aspect ratio
+-- a limit for an aspect ratio with which that holds
 pub record NeedleLimit (threshold angle ratio limit : Float) : Type 0 where
   pub aspect : Float
   pub refuses : Needles threshold angle ratio aspect
