@@ -392,11 +392,11 @@ YbEstimate yb_estimate_optimal_radius(const float *points, size_t points_len, fl
  *
  * Time: a bell wall of 4,096 points takes some 3 ms. Where no three points make a seed, most of them are told so in
  * whole ranges; what has to be measured one by one grows with the cube of the number of points near each other. Of the
- * clouds searched for, random points with a threshold that is just out of reach (1.00001) take longest: 0.8 s at 512
- * points and 6.6 s at 1,024, which comes to some 7 minutes at 4,096 (that one is worked out, not measured). Slivers
- * along a shallow arc take 8 s at 4,096 points with one radius; with nine radii and threshold 0.36 it is 0.5 s at 1,024
- * and more than two minutes at 4,096. Under the default settings it is two tiny clusters next to each other: 2.3 s at
- * 512 points.
+ * clouds searched for these take longest. Three clusters at the corners of a triangle, with a threshold within some
+ * ulps of its score, where only measuring tells: 0.5 s at 512 points, 2.3 s at 1,024 and 16 s at 4,096. Tiny clusters
+ * along a line, each twice as far out as the last, whose points are so near each other that rounding decides: 0.4 s,
+ * 3 s and 73 s. Slivers along a shallow arc with nine radii take 2.6 s at 4,096 points. Under the default settings
+ * two short lines of points next to each other take 1.1 s at 512 points and 8.2 s at 1,024.
  */
 YbPatch yb_reconstruct_with_normals(const float *points, size_t points_len, const float *normals, size_t normals_len,
                                     YbBallPivotingConfig settings, uint32_t *faces, size_t faces_len,
