@@ -4,7 +4,7 @@ use Rattle.std.specs.Prelude.{ℕ, ◌+◌, ◌-◌, ◌*◌, ◌^◌, ◌≤◌
 use Rattle.std.specs.Bool.{beq}
 use Rattle.std.specs.Float.Ieee.{eq}
 use Rattle.std.specs.Float.Ieee.Exact.{HasValue}
-use Rattle.patterns.specs.Pattern.{unitsOf}
+use Rattle.patterns.specs.Pattern.{units_of}
 use Rattle.vector.specs.declared.Point3f.{Point3f}
 
 -- ---- points on the lattice
@@ -27,9 +27,9 @@ pub record Place : Type 0 where
 
 -- the point p is at that place
 pub record At (p : Point3f) (v : Place) : Type 0 where
-  pub x-is : Coordinate p.x v.x
-  pub y-is : Coordinate p.y v.y
-  pub z-is : Coordinate p.z v.z
+  pub x_is : Coordinate p.x v.x
+  pub y_is : Coordinate p.y v.y
+  pub z_is : Coordinate p.z v.z
 
 -- ---- the exact square of the distance
 
@@ -37,23 +37,23 @@ pub record At (p : Point3f) (v : Place) : Type 0 where
 abbrev pub gap : ℕ → ℕ → ℕ
 gap a b = a - b + (b - a)
 
-abbrev pub signedApart : Signed → Signed → ℕ
-signedApart v w = cond (beq v.negative w.negative) (gap v.size w.size) (v.size + w.size)
+abbrev pub signed_apart : Signed → Signed → ℕ
+signed_apart v w = cond (beq v.negative w.negative) (gap v.size w.size) (v.size + w.size)
 
 abbrev pub square : ℕ → ℕ
 square n = n * n
 
 -- the card's D, a number of 4096ths
-abbrev pub exactSquare : Place → Place → ℕ
-exactSquare v w =
-    square (signedApart v.x w.x) + square (signedApart v.y w.y) + square (signedApart v.z w.z)
+abbrev pub exact_square : Place → Place → ℕ
+exact_square v w =
+    square (signed_apart v.x w.x) + square (signed_apart v.y w.y) + square (signed_apart v.z w.z)
 
 -- ---- how near the computed length is
 
 -- An f32 with the bits b is the fraction u / 2 ^ 149, where u is `unitsOf b`, and its square is u² / 2 ^ 298.
 -- That differs from D / 4096 by at most (D / 4096) / part; here all of it is times 2 ^ 298 * 4096 * part.
 abbrev pub WithinMargin : ℕ → ℕ → ℕ → Type 0
-WithinMargin part D b = gap (square (unitsOf b) * 4096) (D * 2 ^ 298) * part ≤ D * 2 ^ 298
+WithinMargin part D b = gap (square (units_of b) * 4096) (D * 2 ^ 298) * part ≤ D * 2 ^ 298
 
 -- What the theorem says of the bits b of a computed length and the exact square D / 4096: the length is a number
 -- (infinity has the bits 0x7f800000), its square differs from the exact one by at most the card's part, it is 0
@@ -62,18 +62,18 @@ pub record Accurate (D b : ℕ) : Type 0 where
   pub number : b < 0x7f800000
   pub near : WithinMargin 2097152 D b
   pub none : D ≡ 0 → b ≡ 0
-  pub some : 0 < D → 2 ^ 149 ≤ unitsOf b * 64
+  pub some : 0 < D → 2 ^ 149 ≤ units_of b * 64
 
 -- The same in smaller numbers: the length is M / 2 ^ 29, and M² differs from 2 ^ 46 * D by at most 2 ^ 25 * D.
 pub record Measured (D b : ℕ) : Type 0 where
   pub M : ℕ
-  pub fraction : unitsOf b ≡ M * 2 ^ 120
+  pub fraction : units_of b ≡ M * 2 ^ 120
   pub near : gap (square M) (2 ^ 46 * D) ≤ 2 ^ 25 * D
 
 -- ---- equal points, on the lattice or not
 
 -- as f32 are compared: 0 and -0 alike
 pub record Equal (p q : Point3f) : Type 0 where
-  pub x-equal : T (eq p.x q.x)
-  pub y-equal : T (eq p.y q.y)
-  pub z-equal : T (eq p.z q.z)
+  pub x_equal : T (eq p.x q.x)
+  pub y_equal : T (eq p.y q.y)
+  pub z_equal : T (eq p.z q.z)

@@ -1,6 +1,6 @@
 // The pieces of the arc cosine.
 ghost use Rattle.std.specs.Prelude.{◌≡◌};
-ghost use Rattle.numbers.specs.Acos.{R, abs, highPart, acosMiddle, acosLow, acosHigh, acosInside};
+ghost use Rattle.numbers.specs.Acos.{R, abs, high_part, acos_middle, acos_low, acos_high, acos_inside};
 
 // v without its sign.
 pub fn abs(v: f32) -> f32
@@ -19,7 +19,7 @@ fn ratio(z: f32) -> f32
 
 // s with its low 12 bits cleared.
 fn clear_low(s: f32) -> f32
-    ensures { result ≡ highPart s }
+    ensures { result ≡ high_part s }
 {
     if s != s {
         return s;
@@ -30,14 +30,14 @@ fn clear_low(s: f32) -> f32
 
 // For |v| below 0.5.
 pub fn acos_middle(v: f32) -> f32
-    ensures { result ≡ acosMiddle v }
+    ensures { result ≡ acos_middle v }
 {
     1.5707962513 - (v - (7.5497894159e-08 - v * ratio(v * v)))
 }
 
 // For v at most -0.5.
 pub fn acos_low(v: f32) -> f32
-    ensures { result ≡ acosLow v }
+    ensures { result ≡ acos_low v }
 {
     let z = (1.0 + v) * 0.5;
     let s = numbers::sqrt(z);
@@ -46,7 +46,7 @@ pub fn acos_low(v: f32) -> f32
 
 // For v at least 0.5.
 pub fn acos_high(v: f32) -> f32
-    ensures { result ≡ acosHigh v }
+    ensures { result ≡ acos_high v }
 {
     let z = (1.0 - v) * 0.5;
     let s = numbers::sqrt(z);
@@ -57,7 +57,7 @@ pub fn acos_high(v: f32) -> f32
 
 // For v neither 1 nor -1.
 pub fn acos_inside(v: f32) -> f32
-    ensures { result ≡ acosInside v }
+    ensures { result ≡ acos_inside v }
 {
     let m = abs(v);
     if m > 1.0 {

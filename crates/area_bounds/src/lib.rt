@@ -1,12 +1,12 @@
 // Bounds of a triangle's area, by which triangles that are too small or too large are known without measuring them.
 ghost use Rattle.std.specs.Prelude.{◌≡◌, true};
-ghost use Rattle.area_bounds.specs.Inner.AreaBound.{crossBound, areaBound, crossSquared, AreaLimit, TooLong};
+ghost use Rattle.area_bounds.specs.Inner.AreaBound.{cross_bound, area_bound, cross_squared, AreaLimit, TooLong};
 ghost use Rattle.area_bounds.specs.Inner.AreaBound.{LargeLimit};
 
 use vector::Point3f;
 
 fn cross_bound(v: Point3f, w: Point3f) -> Point3f
-    ensures { result ≡ crossBound v w }
+    ensures { result ≡ cross_bound v w }
 {
     Point3f {
         x: v.y * w.z + v.z * w.y,
@@ -17,14 +17,14 @@ fn cross_bound(v: Point3f, w: Point3f) -> Point3f
 
 // What the area is at most, where v bounds an edge and w another.
 pub fn area_bound(v: Point3f, w: Point3f) -> f32
-    ensures { result ≡ areaBound v w }
+    ensures { result ≡ area_bound v w }
 {
     vector::magnitude(cross_bound(v, w)) * 0.5
 }
 
 // The square of twice the area.
 pub fn cross_squared(p1: Point3f, p2: Point3f, p3: Point3f) -> f32
-    ensures { result ≡ crossSquared p1 p2 p3 }
+    ensures { result ≡ cross_squared p1 p2 p3 }
 {
     vector::magnitude_squared(vector::cross(vector::difference(p2, p1), vector::difference(p3, p1)))
 }

@@ -1,5 +1,5 @@
 -- What is found, on either path, beside what the source finds (`beside`), and where a face of area zero can come from
--- (`from-seeds`). Assumes nothing.
+-- (`from_seeds`). Assumes nothing.
 use Prim.Native.Nat.{ℕ}
 use mathlib.Core.Path.{◌≡◌, refl, sym, ap, ◌∙◌, subst}
 use mathlib.Core.Bool.{true, false}
@@ -9,87 +9,87 @@ use lib.Dec.{T}
 use lib.Ieee.{Float, inf, lt}
 use Rattle.numbers.specs.Rounded.{◌⊗◌}
 use Rattle.quality.specs.Measures.{tiny}
-use Rattle.area_bounds.proofs.Tiny.{accepted-large}
+use Rattle.area_bounds.proofs.Tiny.{accepted_large}
 use Rattle.settings.specs.declared.BallPivotingConfig.{BallPivotingConfig}
-use Rattle.points.specs.Points.{pointAt}
+use Rattle.points.specs.Points.{point_at}
 use Rattle.lists.specs.Lists.{count}
 use Rattle.patch.specs.Lay.{Rules}
 use Rattle.patch.specs.Search.{Floats, searching}
 use Rattle.patch.specs.Frontier.{pop_of}
-use Rattle.decisions.specs.Decisions.{qualityAt, accepts, floatsOf}
-use Rattle.decisions.specs.Found.{areaAt}
-use Rattle.ball_pivoting.specs.Reconstruct.{pointCount, scene_of, radiiOf, laid_of, laid, plainly, found_at, found}
+use Rattle.decisions.specs.Decisions.{quality_at, accepts, floats_of}
+use Rattle.decisions.specs.Found.{area_at}
+use Rattle.ball_pivoting.specs.Reconstruct.{point_count, scene_of, radii_of, laid_of, laid, plainly, found_at, found}
 use Rattle.amending.specs.Amending.{Amends}
-use Rattle.amending.proofs.Laying.{amended-none, amended-same}
-use Rattle.amending.proofs.Seeds.{only-seeds}
-use Rattle.amending.proofs.Searching.{searching-amends}
-use Rattle.arealess.specs.Source.{sourceFloats, sourceLaid, sourceFoundAt, sourceFound}
-use Rattle.arealess.specs.Arealess.{areaZero, FoundBeside, OnlyFromSeeds}
-use Rattle.arealess.proofs.Floats.{floats-amended, low-scores}
-use Rattle.arealess.proofs.Plain.{plain-none}
+use Rattle.amending.proofs.Laying.{amended_none, amended_same}
+use Rattle.amending.proofs.Seeds.{only_seeds}
+use Rattle.amending.proofs.Searching.{searching_amends}
+use Rattle.arealess.specs.Source.{source_floats, source_laid, source_found_at, source_found}
+use Rattle.arealess.specs.Arealess.{area_zero, FoundBeside, OnlyFromSeeds}
+use Rattle.arealess.proofs.Floats.{floats_amended, low_scores}
+use Rattle.arealess.proofs.Plain.{plain_none}
 
 module _ (c : BallPivotingConfig) (pts : List Float) where
   abbrev n : ℕ
-  n = pointCount pts
+  n = point_count pts
 
   abbrev source : Rules Float
-  source = searching (sourceFloats (scene_of c pts) pts) n
+  source = searching (source_floats (scene_of c pts) pts) n
 
   abbrev ours : Rules Float
-  ours = searching (floatsOf (scene_of c pts) pts) n
+  ours = searching (floats_of (scene_of c pts) pts) n
 
-  amends : Amends (areaZero pts) source ours
+  amends : Amends (area_zero pts) source ours
   amends =
-      subst (λ (f : Floats Float). Amends (areaZero pts) source (searching f n)) (sym (floats-amended (scene_of c pts) pts))
-      (searching-amends (areaZero pts) (sourceFloats (scene_of c pts) pts) (low-scores (scene_of c pts) pts) n)
+      subst (λ (f : Floats Float). Amends (area_zero pts) source (searching f n)) (sym (floats_amended (scene_of c pts) pts))
+      (searching_amends (area_zero pts) (source_floats (scene_of c pts) pts) (low_scores (scene_of c pts) pts) n)
 
-  laid_none : count (areaZero pts) (laid_of c pts).faces ≡ 0
+  laid_none : count (area_zero pts) (laid_of c pts).faces ≡ 0
   unfolding laid_of
-  laid_none = amended-none (areaZero pts) source ours amends (pop_of c.frontier_rule) n (radiiOf c pts)
+  laid_none = amended_none (area_zero pts) source ours amends (pop_of c.frontier_rule) n (radii_of c pts)
 
-  laid_same : count (areaZero pts) (sourceLaid c pts).faces ≡ 0 → laid_of c pts ≡ sourceLaid c pts
-  unfolding laid_of sourceLaid
-  laid_same h = amended-same (areaZero pts) source ours amends (pop_of c.frontier_rule) n (radiiOf c pts) h
+  laid_same : count (area_zero pts) (source_laid c pts).faces ≡ 0 → laid_of c pts ≡ source_laid c pts
+  unfolding laid_of source_laid
+  laid_same h = amended_same (area_zero pts) source ours amends (pop_of c.frontier_rule) n (radii_of c pts) h
 
   -- ---- on either path
-  found-at : (rs : List Float) → count (areaZero pts) (sourceFoundAt c pts rs).faces ≡ 0 → found_at c pts rs ≡ sourceFoundAt c pts rs
-  unfolding sourceFoundAt found_at laid
-  found-at [] h = refl
-  found-at (r ∷ rs) h = ap laid (laid_same h)
+  found_at_lem : (rs : List Float) → count (area_zero pts) (source_found_at c pts rs).faces ≡ 0 → found_at c pts rs ≡ source_found_at c pts rs
+  unfolding source_found_at found_at laid
+  found_at_lem [] h = refl
+  found_at_lem (r ∷ rs) h = ap laid (laid_same h)
 
-  none-at : (rs : List Float) → count (areaZero pts) (found_at c pts rs).faces ≡ 0
+  none_at : (rs : List Float) → count (area_zero pts) (found_at c pts rs).faces ≡ 0
   unfolding found_at laid plainly
-  none-at [] = plain-none pts c.radius
-  none-at (r ∷ rs) = laid_none
+  none_at [] = plain_none pts c.radius
+  none_at (r ∷ rs) = laid_none
 
-  found_none : count (areaZero pts) (found c pts).faces ≡ 0
+  found_none : count (area_zero pts) (found c pts).faces ≡ 0
   unfolding found
-  found_none = none-at (radiiOf c pts)
+  found_none = none_at (radii_of c pts)
 
-  found-same : count (areaZero pts) (sourceFound c pts).faces ≡ 0 → found c pts ≡ sourceFound c pts
-  unfolding found sourceFound
-  found-same h = found-at (radiiOf c pts) h
+  found_same : count (area_zero pts) (source_found c pts).faces ≡ 0 → found c pts ≡ source_found c pts
+  unfolding found source_found
+  found_same h = found_at_lem (radii_of c pts) h
 
   pub beside : FoundBeside c pts
   beside = record {
-    same = found-same;
-    differs = λ h q. let z = found_none in let e = ap (count (areaZero pts)) q in absurd (omega arith);
+    same = found_same;
+    differs = λ h q. let z = found_none in let e = ap (count (area_zero pts)) q in absurd (omega arith);
     none = found_none;
   }
 
   -- ---- seeds
-  large : (r : Float) (i j k : ℕ) → T (lt (r ⊗ c.max_edge_factor) (inf false)) → accepts (scene_of c pts) r (qualityAt pts i j k) ≡ true
-      → lt (areaAt pts i j k) tiny ≡ false
-  unfolding accepts qualityAt areaAt scene_of
-  large r i j k b h = accepted-large r c.min_triangle_area c.quality_threshold c.max_edge_factor b (pointAt pts i) (pointAt pts j)
-      (pointAt pts k) h
+  large : (r : Float) (i j k : ℕ) → T (lt (r ⊗ c.max_edge_factor) (inf false)) → accepts (scene_of c pts) r (quality_at pts i j k) ≡ true
+      → lt (area_at pts i j k) tiny ≡ false
+  unfolding accepts quality_at area_at scene_of
+  large r i j k b h = accepted_large r c.min_triangle_area c.quality_threshold c.max_edge_factor b (point_at pts i) (point_at pts j)
+      (point_at pts k) h
 
-  pub from-seeds : OnlyFromSeeds c pts
-  unfolding sourceLaid
-  from-seeds = record {
-    only-seeds = only-seeds (areaZero pts) source (pop_of c.frontier_rule) amends.pivots-good n (radiiOf c pts);
-    plain-none = plain-none pts c.radius;
-    seeds = amends.seeds-good;
-    pivots = λ r used e k q. amends.pivots-good r used e k (sym (amends.pivots-same r used e) ∙ q);
+  pub from_seeds : OnlyFromSeeds c pts
+  unfolding source_laid
+  from_seeds = record {
+    only_seeds = only_seeds (area_zero pts) source (pop_of c.frontier_rule) amends.pivots_good n (radii_of c pts);
+    plain_none = plain_none pts c.radius;
+    seeds = amends.seeds_good;
+    pivots = λ r used e k q. amends.pivots_good r used e k (sym (amends.pivots_same r used e) ∙ q);
     large = large;
   }

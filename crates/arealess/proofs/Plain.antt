@@ -9,82 +9,82 @@ use lib.ListN.{length, take}
 use lib.Ieee.{Float, lt, le, eq, is_nan, of_bits, mul, round, odd}
 use lib.Ieee.Scale.{finite}
 use Rattle.numbers.specs.Rounded.{f32, ◌⊗◌}
-use Rattle.numbers.proofs.OrderLaws.{le_left, lt-le, le_trans}
-use Rattle.numbers.proofs.ProductOrder.{mul-monotone}
+use Rattle.numbers.proofs.OrderLaws.{le_left, lt_le, le_trans}
+use Rattle.numbers.proofs.ProductOrder.{mul_monotone}
 use Rattle.vector.specs.Vector.{difference, magnitude, cross}
 use Rattle.quality.specs.Measures.{half}
 use Rattle.triangle.specs.Quality.{area, circumradius, is_zero}
-use Rattle.points.specs.Points.{pointAt}
+use Rattle.points.specs.Points.{point_at}
 use Rattle.lists.specs.Lists.{bit, count, up_from}
 use Rattle.patch.specs.Lay.{Face, face}
-use Rattle.lists.proofs.Counts.{count-append}
-use Rattle.lists.proofs.Bools.{and_both, not-true}
-use Rattle.decisions.specs.Found.{areaAt}
-use Rattle.plain.specs.Plain.{candidates, sound, valid, facesOver, facesAt, plainFacesFrom, plainFaces}
-use Rattle.arealess.specs.Arealess.{areaZero}
-use Rattle.arealess.proofs.Floats.{zero-le}
+use Rattle.lists.proofs.Counts.{count_append}
+use Rattle.lists.proofs.Bools.{and_both, not_true}
+use Rattle.decisions.specs.Found.{area_at}
+use Rattle.plain.specs.Plain.{candidates, sound, valid, faces_over, faces_at, plain_faces_from, plain_faces}
+use Rattle.arealess.specs.Arealess.{area_zero}
+use Rattle.arealess.proofs.Floats.{zero_le}
 
 abbrev least : Float
 least = f32 0x358637bd
 
-half-finite : T (finite half)
+half_finite : T (finite half)
 unfolding of_bits
-half-finite = tt
+half_finite = tt
 
-half-above : T (le (f32 0) half)
+half_above : T (le (f32 0) half)
 unfolding le lt eq of_bits
-half-above = tt
+half_above = tt
 
-least-number : T (not (is_nan (least ⊗ half)))
+least_number : T (not (is_nan (least ⊗ half)))
 unfolding mul round odd of_bits is_nan
-least-number = tt
+least_number = tt
 
 least_above : le (least ⊗ half) (f32 0) ≡ false
 unfolding mul round odd of_bits le lt eq
 least_above = refl
 
-long-not-zero : (m : Float) → lt least m ≡ true → is_zero (m ⊗ half) ≡ false
-long-not-zero m h = not-true (λ (z : is_zero (m ⊗ half) ≡ true).
-    let low = zero-le (m ⊗ half) z in
-    let up = mul-monotone least m half half-finite (lt-le least m (subst T (sym h) tt)) half-above least-number (le_left (m ⊗ half) (f32 0) low) in
+long_not_zero : (m : Float) → lt least m ≡ true → is_zero (m ⊗ half) ≡ false
+long_not_zero m h = not_true (λ (z : is_zero (m ⊗ half) ≡ true).
+    let low = zero_le (m ⊗ half) z in
+    let up = mul_monotone least m half half_finite (lt_le least m (subst T (sym h) tt)) half_above least_number (le_left (m ⊗ half) (f32 0) low) in
     subst T least_above (le_trans (least ⊗ half) (m ⊗ half) (f32 0) up low))
 
 module _ (pts : List Float) (radius : Float) where
-  pub valid-area : (i a b : ℕ) → valid pts radius i a b ≡ true → areaZero pts (face i a b) ≡ false
-  unfolding valid sound areaZero areaAt area
-  valid-area i a b h =
-      let m = magnitude (cross (difference (pointAt pts a) (pointAt pts i)) (difference (pointAt pts b) (pointAt pts i))) in
-      long-not-zero m (and_both {p = lt least m} {q = le (circumradius (pointAt pts i) (pointAt pts a) (pointAt pts b)) (radius ⊗ f32 0x3fc00000)} h).0
+  pub valid_area : (i a b : ℕ) → valid pts radius i a b ≡ true → area_zero pts (face i a b) ≡ false
+  unfolding valid sound area_zero area_at area
+  valid_area i a b h =
+      let m = magnitude (cross (difference (point_at pts a) (point_at pts i)) (difference (point_at pts b) (point_at pts i))) in
+      long_not_zero m (and_both {p = lt least m} {q = le (circumradius (point_at pts i) (point_at pts a) (point_at pts b)) (radius ⊗ f32 0x3fc00000)} h).0
 
-  over_none : (i a : ℕ) (bs : List ℕ) → count (areaZero pts) (facesOver pts radius i a bs) ≡ 0
-  unfolding facesOver
+  over_none : (i a : ℕ) (bs : List ℕ) → count (area_zero pts) (faces_over pts radius i a bs) ≡ 0
+  unfolding faces_over
   over_none i a [] = refl
   over_none i a (b ∷ bs) = go (valid pts radius i a b) refl (over_none i a bs)
     where
-      go : (t : Bool) → valid pts radius i a b ≡ t → count (areaZero pts) (facesOver pts radius i a bs) ≡ 0
-          → count (areaZero pts) (cond t (face i a b ∷ facesOver pts radius i a bs) (facesOver pts radius i a bs)) ≡ 0
-      go true e ih = let z : bit (areaZero pts (face i a b)) ≡ 0 = ap bit (valid-area i a b e) in omega arith
+      go : (t : Bool) → valid pts radius i a b ≡ t → count (area_zero pts) (faces_over pts radius i a bs) ≡ 0
+          → count (area_zero pts) (cond t (face i a b ∷ faces_over pts radius i a bs) (faces_over pts radius i a bs)) ≡ 0
+      go true e ih = let z : bit (area_zero pts (face i a b)) ≡ 0 = ap bit (valid_area i a b e) in omega arith
       go false e ih = ih
 
-  at_none : (i : ℕ) (js : List ℕ) → count (areaZero pts) (facesAt pts radius i js) ≡ 0
-  unfolding facesAt
+  at_none : (i : ℕ) (js : List ℕ) → count (area_zero pts) (faces_at pts radius i js) ≡ 0
+  unfolding faces_at
   at_none i [] = refl
-  at_none i (a ∷ bs) = let e = count-append (areaZero pts) (facesOver pts radius i a bs)
-      (facesAt pts radius i bs) in let x = over_none i a bs in let y = at_none i bs in omega arith
+  at_none i (a ∷ bs) = let e = count_append (area_zero pts) (faces_over pts radius i a bs)
+      (faces_at pts radius i bs) in let x = over_none i a bs in let y = at_none i bs in omega arith
 
-  of_none : (is : List ℕ) → count (areaZero pts) (plainFacesFrom pts radius is) ≡ 0
-  unfolding plainFacesFrom
+  of_none : (is : List ℕ) → count (area_zero pts) (plain_faces_from pts radius is) ≡ 0
+  unfolding plain_faces_from
   of_none [] = refl
   of_none (i ∷ is) =
       let now = candidates pts radius i (up_from 0 i) in
-      let e = count-append (areaZero pts) (facesAt pts radius i now)
-      (plainFacesFrom pts radius is) in let x = at_none i now in let y = of_none is in omega arith
+      let e = count_append (area_zero pts) (faces_at pts radius i now)
+      (plain_faces_from pts radius is) in let x = at_none i now in let y = of_none is in omega arith
 
-  pub plain-none : count (areaZero pts) (plainFaces pts radius) ≡ 0
-  unfolding plainFaces
-  plain-none = let x = of_none (up_from 0 (length pts / 3)) in let y = take-few 10000 (plainFacesFrom pts radius (up_from 0 (length pts / 3))) in omega arith
+  pub plain_none : count (area_zero pts) (plain_faces pts radius) ≡ 0
+  unfolding plain_faces
+  plain_none = let x = of_none (up_from 0 (length pts / 3)) in let y = take_few 10000 (plain_faces_from pts radius (up_from 0 (length pts / 3))) in omega arith
     where
-      take-few : (k : ℕ) (fs : List Face) → count (areaZero pts) (take k fs) ≤ count (areaZero pts) fs
-      take-few zero fs = omega arith
-      take-few (suc k) [] = omega arith
-      take-few (suc k) (f ∷ fs) = let ih = take-few k fs in omega arith
+      take_few : (k : ℕ) (fs : List Face) → count (area_zero pts) (take k fs) ≤ count (area_zero pts) fs
+      take_few zero fs = omega arith
+      take_few (suc k) [] = omega arith
+      take_few (suc k) (f ∷ fs) = let ih = take_few k fs in omega arith

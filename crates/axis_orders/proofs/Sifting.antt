@@ -8,8 +8,8 @@ use borrow.Author.Tests.{eq-eqb, ne_eqb}
 use lib.ListN.{length, take, drop, get_or, set, length-set, drop_of_length-le}
 use lib.Seq.{take-suc, take-suc-set, take-set-le, drop-set-lt, drop-cons, drop-drop, get_or-drop, take_all}
 use Rattle.lists.specs.Members.{only}
-use Rattle.lists.proofs.Members.{only-skip, only-take}
-use Rattle.axis_orders.specs.Inner.Parted.{others, partedBut, orderAlong, NumbersSifted}
+use Rattle.lists.proofs.Members.{only_skip, only_take}
+use Rattle.axis_orders.specs.Inner.Parted.{others, parted_but, order_along, NumbersSifted}
 
 -- one element more at the end of what a list begins with
 take_next : (l : List ℕ) (k v : ℕ) → k < length l → take (k + 1) (set l k v) ≡ take k l ++ (v ∷ [])
@@ -19,17 +19,17 @@ take_next l k v h = let e : k + 1 ≡ suc k = omega arith in ap (λ (n : ℕ). t
 module _ (test : ℕ → Bool) (whole rest l : List ℕ) (k v : ℕ) (leads : whole ≡ take k l ++ only test (v ∷ rest)) where
   stays : test v ≡ true → k < length l → whole ≡ take (k + 1) (set l k v) ++ only test rest
   stays t h =
-      leads ∙ ap (λ (z : List ℕ). take k l ++ z) (only-take test v rest t) ∙ sym (append_assoc (take k l) (v ∷ []) (only test rest))
+      leads ∙ ap (λ (z : List ℕ). take k l ++ z) (only_take test v rest t) ∙ sym (append_assoc (take k l) (v ∷ []) (only test rest))
       ∙ ap (λ (z : List ℕ). z ++ only test rest) (sym (take_next l k v h))
 
   goes : test v ≡ false → whole ≡ take k (set l k v) ++ only test rest
-  goes t = leads ∙ ap (λ (z : List ℕ). take k l ++ z) (only-skip test v rest t) ∙ ap (λ (z : List ℕ). z ++ only test rest)
+  goes t = leads ∙ ap (λ (z : List ℕ). take k l ++ z) (only_skip test v rest t) ∙ ap (λ (z : List ℕ). z ++ only test rest)
       (sym (take-set-le k l k v (omega arith)))
 
 -- ---- sifting: `front` is written to the list itself, behind what has been read
 pub record Sifting (test : ℕ → Bool) (list₀ list work₀ work : List ℕ) (kept i : ℕ) : Type 0 where
   pub size : length list ≡ length list₀
-  pub work-size : length work ≡ length work₀
+  pub work_size : length work ≡ length work₀
   pub most : kept ≤ i
   pub inside : i ≤ length list₀
   pub unread : drop i list ≡ drop i list₀
@@ -37,13 +37,13 @@ pub record Sifting (test : ℕ → Bool) (list₀ list work₀ work : List ℕ) 
   pub aside : others test list₀ ≡ take (i - kept) work ++ others test (drop i list₀)
 
 module _ {test : ℕ → Bool} {list₀ work₀ : List ℕ} where
-  pub sift-start : Sifting test list₀ list₀ work₀ work₀ 0 0
-  sift-start = record { size = refl; work-size = refl; most = omega arith; inside = omega arith; unread = refl; front = refl; aside = refl }
+  pub sift_start : Sifting test list₀ list₀ work₀ work₀ 0 0
+  sift_start = record { size = refl; work_size = refl; most = omega arith; inside = omega arith; unread = refl; front = refl; aside = refl }
 
   module _ {list work : List ℕ} {kept i : ℕ} (s : Sifting test list₀ list work₀ work kept i) where
-    pub sift-end : length list ≤ i → NumbersSifted test list₀ list work kept
+    pub sift_end : length list ≤ i → NumbersSifted test list₀ list work kept
     unfolding only
-    sift-end h =
+    sift_end h =
         let e : i ≡ length list₀ = omega (arith, s.size, s.inside) in
         let none : drop i list₀ ≡ [] = drop_of_length-le list₀ {i = i} (omega arith) in
         record {
@@ -64,14 +64,14 @@ module _ {test : ℕ → Bool} {list₀ work₀ : List ℕ} where
       abbrev work' : List ℕ
       work' = set work (i - kept) here
 
-      list-room : kept < length list
-      list-room = omega (arith, s.most)
+      list_room : kept < length list
+      list_room = omega (arith, s.most)
 
-      work-room : i - kept < length work
-      work-room = omega (arith, s.work-size, s.size, s.most)
+      work_room : i - kept < length work
+      work_room = omega (arith, s.work_size, s.size, s.most)
 
-      here-same : drop i list₀ ≡ here ∷ drop (i + 1) list₀
-      here-same =
+      here_same : drop i list₀ ≡ here ∷ drop (i + 1) list₀
+      here_same =
           let h : i < length list₀ = omega (arith, s.size) in
           let n : suc i ≡ i + 1 = omega arith in
           let z : i + 0 ≡ i = omega arith in
@@ -85,7 +85,7 @@ module _ {test : ℕ → Bool} {list₀ work₀ : List ℕ} where
           → Sifting test list₀ list' work₀ work' left (i + 1)
       on h f a = record {
         size = length-set list kept here ∙ s.size;
-        work-size = length-set work (i - kept) here ∙ s.work-size;
+        work_size = length-set work (i - kept) here ∙ s.work_size;
         most = h;
         inside = omega (arith, s.size);
         unread = drop-set-lt (i + 1) list kept here (omega (arith, s.most)) ∙
@@ -98,24 +98,24 @@ module _ {test : ℕ → Bool} {list₀ work₀ : List ℕ} where
           more : (w : List ℕ) → drop (1 + i) w ≡ drop 1 (drop i w)
           more w = let e : i + 1 ≡ 1 + i = omega arith in ap (λ (k : ℕ). drop k w) (sym e) ∙ sym (drop-drop 1 i w)
 
-      leads-front : only test list₀ ≡ take kept list ++ only test (here ∷ drop (i + 1) list₀)
-      leads-front = s.front ∙ ap (λ (z : List ℕ). take kept list ++ only test z) here-same
+      leads_front : only test list₀ ≡ take kept list ++ only test (here ∷ drop (i + 1) list₀)
+      leads_front = s.front ∙ ap (λ (z : List ℕ). take kept list ++ only test z) here_same
 
-      leads-aside : others test list₀ ≡ take (i - kept) work ++ others test (here ∷ drop (i + 1) list₀)
-      leads-aside = s.aside ∙ ap (λ (z : List ℕ). take (i - kept) work ++ others test z) here-same
+      leads_aside : others test list₀ ≡ take (i - kept) work ++ others test (here ∷ drop (i + 1) list₀)
+      leads_aside = s.aside ∙ ap (λ (z : List ℕ). take (i - kept) work ++ others test z) here_same
 
-      pub sift-keep : {b : Bool} → b ≡ test here → b ≡ true → Sifting test list₀ list' work₀ work' (kept + 1) (i + 1)
-      sift-keep e t =
+      pub sift_keep : {b : Bool} → b ≡ test here → b ≡ true → Sifting test list₀ list' work₀ work' (kept + 1) (i + 1)
+      sift_keep e t =
           let n : i - kept ≡ i + 1 - (kept + 1) = omega arith in
-          on (omega (arith, s.most)) (stays test _ _ list kept here leads-front (sym e ∙ t) list-room)
-          (goes (λ (x : ℕ). not (test x)) _ _ work (i - kept) here leads-aside (ap not (sym e ∙ t)) ∙ ap
+          on (omega (arith, s.most)) (stays test _ _ list kept here leads_front (sym e ∙ t) list_room)
+          (goes (λ (x : ℕ). not (test x)) _ _ work (i - kept) here leads_aside (ap not (sym e ∙ t)) ∙ ap
           (λ (k : ℕ). take k work' ++ others test (drop (i + 1) list₀)) n)
 
-      pub sift-leave : {b : Bool} → b ≡ test here → b ≡ false → Sifting test list₀ list' work₀ work' kept (i + 1)
-      sift-leave e t =
+      pub sift_leave : {b : Bool} → b ≡ test here → b ≡ false → Sifting test list₀ list' work₀ work' kept (i + 1)
+      sift_leave e t =
           let n : i - kept + 1 ≡ i + 1 - kept = omega (arith, s.most) in
-          on (omega (arith, s.most)) (goes test _ _ list kept here leads-front (sym e ∙ t))
-          (stays (λ (x : ℕ). not (test x)) _ _ work (i - kept) here leads-aside (ap not (sym e ∙ t)) work-room ∙ ap
+          on (omega (arith, s.most)) (goes test _ _ list kept here leads_front (sym e ∙ t))
+          (stays (λ (x : ℕ). not (test x)) _ _ work (i - kept) here leads_aside (ap not (sym e ∙ t)) work_room ∙ ap
           (λ (k : ℕ). take k work' ++ others test (drop (i + 1) list₀)) n)
 
 -- ---- copying from a place on
@@ -126,8 +126,8 @@ pub record Putting (list₀ : List ℕ) (from : ℕ) (work list : List ℕ) (i :
   pub same : take i list ≡ take from list₀ ++ take (i - from) work
 
 module _ {list₀ : List ℕ} {from : ℕ} {work : List ℕ} where
-  pub put-start : from ≤ length list₀ → Putting list₀ from work list₀ from
-  put-start h = record {
+  pub put_start : from ≤ length list₀ → Putting list₀ from work list₀ from
+  put_start h = record {
     size = refl;
     least = omega arith;
     most = h;
@@ -149,35 +149,35 @@ module _ {list₀ : List ℕ} {from : ℕ} {work : List ℕ} where
             ∙ ap (λ (z : List ℕ). take from list₀ ++ z) (sym (take-suc work (i - from) 0 (omega (arith, p.least, p.size))) ∙ ap (λ (k : ℕ). take k work) n);
       }
 
-  pub put-end : {list : List ℕ} {i : ℕ} → Putting list₀ from work list i → length list ≤ i → list ≡ take from list₀ ++ take (length list₀ - from) work
-  put-end {list} {i} p h =
+  pub put_end : {list : List ℕ} {i : ℕ} → Putting list₀ from work list i → length list ≤ i → list ≡ take from list₀ ++ take (length list₀ - from) work
+  put_end {list} {i} p h =
       let e : i ≡ length list₀ = omega (arith, p.size, p.most) in
       sym (take_all i list h) ∙ p.same ∙ ap (λ (n : ℕ). take from list₀ ++ take (n - from) work) e
 
 -- ---- an order parted, or left as it is
 module _ (own axis : ℕ) (test : ℕ → Bool) (l : List ℕ) where
-  pub parted-own : own ≡ axis → l ≡ partedBut own axis test l
-  unfolding partedBut
-  parted-own e = rw (eq-eqb own axis e)
+  pub parted_own : own ≡ axis → l ≡ parted_but own axis test l
+  unfolding parted_but
+  parted_own e = rw (eq-eqb own axis e)
 
-  pub parted-other : (l' w' l'' : List ℕ) (r : ℕ) → (own ≡ axis → ⊥) → NumbersSifted test l l' w' r → length l' ≡ length l → l'' ≡ take r l'
-      ++ take (length l' - r) w' → l'' ≡ partedBut own axis test l
-  unfolding partedBut
-  parted-other l' w' l'' r no_own s e k = rw (ne_eqb own axis no_own) (k ∙ (λ i. s.front i ++ (ap (λ (n : ℕ). take (n - r) w') e ∙ s.aside) i))
+  pub parted_other : (l' w' l'' : List ℕ) (r : ℕ) → (own ≡ axis → ⊥) → NumbersSifted test l l' w' r → length l' ≡ length l → l'' ≡ take r l'
+      ++ take (length l' - r) w' → l'' ≡ parted_but own axis test l
+  unfolding parted_but
+  parted_other l' w' l'' r no_own s e k = rw (ne_eqb own axis no_own) (k ∙ (λ i. s.front i ++ (ap (λ (n : ℕ). take (n - r) w') e ∙ s.aside) i))
 
 -- ---- the order along an axis
 put_whole : (o x : List ℕ) {r : List ℕ} → length x ≡ length o → r ≡ take 0 o ++ take (length o - 0) x → r ≡ x
 put_whole o x e k = k ∙ take_all (length o - 0) x (omega arith)
 
 module _ (o x y z : List ℕ) (axis : ℕ) {r : List ℕ} where
-  pub along-x : length x ≡ length o → axis ≡ 0 → r ≡ take 0 o ++ take (length o - 0) x → r ≡ orderAlong axis x y z
-  unfolding orderAlong
-  along-x e a k = rw (eq-eqb axis 0 a) (put_whole o x e k)
+  pub along_x : length x ≡ length o → axis ≡ 0 → r ≡ take 0 o ++ take (length o - 0) x → r ≡ order_along axis x y z
+  unfolding order_along
+  along_x e a k = rw (eq-eqb axis 0 a) (put_whole o x e k)
 
-  pub along-y : length y ≡ length o → (axis ≡ 0 → ⊥) → axis ≡ 1 → r ≡ take 0 o ++ take (length o - 0) y → r ≡ orderAlong axis x y z
-  unfolding orderAlong
-  along-y e a b k = rw (ne_eqb axis 0 a, eq-eqb axis 1 b) (put_whole o y e k)
+  pub along_y : length y ≡ length o → (axis ≡ 0 → ⊥) → axis ≡ 1 → r ≡ take 0 o ++ take (length o - 0) y → r ≡ order_along axis x y z
+  unfolding order_along
+  along_y e a b k = rw (ne_eqb axis 0 a, eq-eqb axis 1 b) (put_whole o y e k)
 
-  pub along-z : length z ≡ length o → (axis ≡ 0 → ⊥) → (axis ≡ 1 → ⊥) → r ≡ take 0 o ++ take (length o - 0) z → r ≡ orderAlong axis x y z
-  unfolding orderAlong
-  along-z e a b k = rw (ne_eqb axis 0 a, ne_eqb axis 1 b) (put_whole o z e k)
+  pub along_z : length z ≡ length o → (axis ≡ 0 → ⊥) → (axis ≡ 1 → ⊥) → r ≡ take 0 o ++ take (length o - 0) z → r ≡ order_along axis x y z
+  unfolding order_along
+  along_z e a b k = rw (ne_eqb axis 0 a, ne_eqb axis 1 b) (put_whole o z e k)

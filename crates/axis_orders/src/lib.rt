@@ -1,17 +1,17 @@
 // The orders of a part of a cloud, one along each axis: its box stands at their ends, and each is parted at the middle
 // one of an order as it is, so none is sorted again.
 ghost use Rattle.std.specs.Prelude.{◌≡◌, ◌++◌, ◌+◌, ◌-◌, ◌≤◌, ◌<◌, length, take};
-ghost use Rattle.kd_tree.specs.Boxes.{plusZero};
-ghost use Rattle.axis_sort.specs.Axis.{coordinateOf};
-ghost use Rattle.axis_orders.specs.Inner.Parted.{isBeforePivot, partedBut, orderAlong, NumbersSifted};
-ghost use Rattle.axis_orders.specs.Inner.Orders.{endsBox, Bounding, Dividing, Divided};
+ghost use Rattle.kd_tree.specs.Boxes.{plus_zero};
+ghost use Rattle.axis_sort.specs.Axis.{coordinate_of};
+ghost use Rattle.axis_orders.specs.Inner.Parted.{is_before_pivot, parted_but, order_along, NumbersSifted};
+ghost use Rattle.axis_orders.specs.Inner.Orders.{ends_box, Bounding, Dividing, Divided};
 
 use bounds::Bounds;
 
 // Whether a number comes before another, whose coordinate is given, along an axis.
 pub fn is_before(points: &[f32], axis: usize, at: f32, pivot: u32, number: u32) -> bool
     requires { axis < 3 }
-    ensures { result ≡ isBeforePivot points.now axis at pivot number }
+    ensures { result ≡ is_before_pivot points.now axis at pivot number }
 {
     let x = axis_sort::coordinate(points, axis, number);
     if x == at {
@@ -31,7 +31,7 @@ fn sift(
     work: &mut [u32],
 ) -> usize
     requires { (axis < 3) × (length list.old ≤ length work.old) }
-    ensures { NumbersSifted (isBeforePivot points.now axis at pivot) list.old
+    ensures { NumbersSifted (is_before_pivot points.now axis at pivot) list.old
         list.new
         work.new result }
 {
@@ -75,7 +75,7 @@ fn part(
 )
     requires { (axis < 3) × (length list.old ≤ length work.old) }
     ensures { list.new
-        ≡ partedBut own axis (isBeforePivot points.now axis at pivot) list.old }
+        ≡ parted_but own axis (is_before_pivot points.now axis at pivot) list.old }
 {
     if own == axis {
         return;
@@ -88,7 +88,7 @@ fn part(
 fn put_along(axis: usize, order: &mut [u32], x: &[u32], y: &[u32], z: &[u32])
     requires { (length x.now ≡ length order.old) × (length y.now ≡ length order.old)
         × (length z.now ≡ length order.old) }
-    ensures { order.new ≡ orderAlong axis x.now y.now z.now }
+    ensures { order.new ≡ order_along axis x.now y.now z.now }
 {
     if axis == 0 {
         put_from(order, 0, x);
@@ -126,7 +126,7 @@ pub fn divide(
 // A coordinate, minus zero as zero.
 fn corner(points: &[f32], axis: usize, number: u32) -> f32
     requires { axis < 3 }
-    ensures { result ≡ plusZero (coordinateOf points.now axis number) }
+    ensures { result ≡ plus_zero (coordinate_of points.now axis number) }
 {
     kd_tree::plus_zero(axis_sort::coordinate(points, axis, number))
 }
@@ -134,7 +134,7 @@ fn corner(points: &[f32], axis: usize, number: u32) -> f32
 // The box at the ends of three orders.
 fn box_of(points: &[f32], x: &[u32], y: &[u32], z: &[u32]) -> Bounds
     requires { (0 < length x.now) × (0 < length y.now) × (0 < length z.now) }
-    ensures { result ≡ endsBox points.now x.now y.now z.now }
+    ensures { result ≡ ends_box points.now x.now y.now z.now }
 {
     let lo = vector::point(
         corner(points, 0, x[0]),
@@ -152,7 +152,7 @@ fn box_of(points: &[f32], x: &[u32], y: &[u32], z: &[u32]) -> Bounds
 // Writes the box of three orders from `at` on, and answers the axis where it is longest.
 pub fn bound(points: &[f32], x: &[u32], y: &[u32], z: &[u32], boxes: &mut [f32], at: usize) -> usize
     requires { (0 < length x.now) × (0 < length y.now) × (0 < length z.now) × (at + 6 ≤ length boxes.old) }
-    ensures { Bounding (endsBox points.now x.now y.now z.now)
+    ensures { Bounding (ends_box points.now x.now y.now z.now)
         boxes.old boxes.new at result }
 {
     let b = box_of(points, x, y, z);

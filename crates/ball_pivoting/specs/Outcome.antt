@@ -1,35 +1,35 @@
 -- The one claim about the main call: its whole result, for all input. Definitions only.
 use Rattle.std.specs.Prelude.{ℕ, zero, suc, ◌<◌, ◌≡◌, Bool, true, List, [], ◌∷◌, eqb, length, get_or, drop, Float}
 use Rattle.numbers.specs.Rounded.{f32}
-use Rattle.domain.specs.Refusals.{reconstructRefusal}
+use Rattle.domain.specs.Refusals.{reconstruct_refusal}
 use Rattle.settings.specs.declared.BallPivotingConfig.{BallPivotingConfig}
 use Rattle.lists.specs.Lists.{any}
-use Rattle.patch.specs.Lay.{Face, face, State, seedsOf}
+use Rattle.patch.specs.Lay.{Face, face, State, seeds_of}
 use Rattle.patch.specs.Shape.{touches, Shape}
-use Rattle.ball_pivoting.specs.Reconstruct.{pointCount, found, laid_of, reconstructed, facesAfter}
+use Rattle.ball_pivoting.specs.Reconstruct.{point_count, found, laid_of, reconstructed, faces_after}
 use Rattle.clearing.specs.Swept.{swept}
 use Rattle.ball_pivoting.specs.declared.Patch.{Patch}
 
 -- the checks up to 7 pass
 abbrev pub passes : List Float → List Float → BallPivotingConfig → ℕ → ℕ → Bool
-passes points normals c words floats = eqb (reconstructRefusal points normals c words floats).answer 0
+passes points normals c words floats = eqb (reconstruct_refusal points normals c words floats).answer 0
 
 -- the first k faces in a slice, three numbers each
-unfoldable pub facesIn : ℕ → List ℕ → List Face
-facesIn zero slice = []
-facesIn (suc k) slice = face (get_or slice 0 0) (get_or slice 1 0) (get_or slice 2 0) ∷ facesIn k (drop 3 slice)
+unfoldable pub faces_in : ℕ → List ℕ → List Face
+faces_in zero slice = []
+faces_in (suc k) slice = face (get_or slice 0 0) (get_or slice 1 0) (get_or slice 2 0) ∷ faces_in k (drop 3 slice)
 
 -- what comes back of the multi-radius path over n points: the faces fs, their number F, the number S of seeds,
 -- the looks and the pivots
 pub record Returned (n : ℕ) (s : State) (fs : List Face) (F S looks pivots : ℕ) : Type 0 where
   -- they are those of s, the definition's state when all radii are done
-  pub faces-are : fs ≡ s.faces
+  pub faces_are : fs ≡ s.faces
   pub number_is : F ≡ length s.faces
-  pub seeds-are : S ≡ seedsOf s
-  pub looks-are : looks ≡ s.looks
-  pub pivots-are : pivots ≡ s.pivots
+  pub seeds_are : S ≡ seeds_of s
+  pub looks_are : looks ≡ s.looks
+  pub pivots_are : pivots ≡ s.pivots
   -- of them holds the one claim, with its field `points`: they touch exactly F + 2S points
-  pub shape : Shape fs s.seedFlags F S looks pivots
+  pub shape : Shape fs s.seed_flags F S looks pivots
   -- all of them points of the cloud
   pub inside : (x : ℕ) → any (touches x) fs ≡ true → x < n
 
@@ -40,11 +40,11 @@ pub record Reconstructs
   -- the answer, detail, counts and radii are the definition's
   pub result : p ≡ reconstructed points normals c (length faces) (length words) (length floats)
   -- and so is every lent slice
-  pub faces-after : faces' ≡ facesAfter p (found c points) faces
-  pub words-after : words' ≡ swept 0 (passes points normals c (length words) (length floats)) words
-  pub floats-after : floats' ≡ swept (f32 0) (passes points normals c (length words) (length floats)) floats
+  pub faces_after_lem : faces' ≡ faces_after p (found c points) faces
+  pub words_after : words' ≡ swept 0 (passes points normals c (length words) (length floats)) words
+  pub floats_after : floats' ≡ swept (f32 0) (passes points normals c (length words) (length floats)) floats
   -- where the cloud is accepted and there are radii, the multi-radius path was taken,
   -- and of the faces in front of the slice and the counts that come back holds the one claim
   pub shape : p.answer ≡ 0 → 0 < p.radii_count
-      → Returned (pointCount points) (laid_of c points)
-      (facesIn p.faces faces') p.faces p.seeds p.looks p.pivots
+      → Returned (point_count points) (laid_of c points)
+      (faces_in p.faces faces') p.faces p.seeds p.looks p.pivots

@@ -1,8 +1,8 @@
 // What comes back of what was found. The definition of the whole call and the one claim about it are in specs/; the
 // call itself is in `reconstruction`.
 ghost use Rattle.std.specs.Prelude.{◌≡◌, ◌≤◌};
-ghost use Rattle.ball_pivoting.specs.Reconstruct.{refused, reasonBy};
-ghost use Rattle.ball_pivoting.specs.Inner.Parts.{acceptedBy, Delivers};
+ghost use Rattle.ball_pivoting.specs.Reconstruct.{refused, reason_by};
+ghost use Rattle.ball_pivoting.specs.Inner.Parts.{accepted_by, Delivers};
 
 use radii::Radii;
 
@@ -53,7 +53,7 @@ pub fn refuse(answer: u32, detail: u32) -> Patch
 // What was found and fits.
 pub fn accept(found: Finding) -> Patch
     requires { found.faces ≤ 10000 }
-    ensures { result ≡ acceptedBy found }
+    ensures { result ≡ accepted_by found }
 {
     let radii = found.radii;
     let list = radii.list;
@@ -88,7 +88,7 @@ pub fn deliver(found: Finding, faces: &mut [u32]) -> Patch
 // The answer where no triangle was found: there are too few points, or no triple was judged, or all that were judged
 // were turned down.
 pub fn reason_by(n: usize, judged: bool) -> u32
-    ensures { result ≡ reasonBy n judged }
+    ensures { result ≡ reason_by n judged }
 {
     if n < 3 {
         return answers::TOO_FEW_POINTS;

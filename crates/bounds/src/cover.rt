@@ -1,13 +1,13 @@
 // Bounds on one axis.
 ghost use Rattle.std.specs.Prelude.{◌≡◌, T};
 ghost use Rattle.std.specs.Float.Ieee.Scale.{finite};
-ghost use Rattle.bounds.specs.Inner.Cover.{isCovering, CoversOn};
+ghost use Rattle.bounds.specs.Inner.Cover.{is_covering, CoversOn};
 
 use crate::Interval;
 
 // Whether the interval has the coordinate, and both of its ends are farther from it than the limit.
 fn is_covering(v: f32, limit: f32, lo: f32, hi: f32) -> bool
-    ensures { result ≡ isCovering v limit lo hi }
+    ensures { result ≡ is_covering v limit lo hi }
 {
     lo <= v && (v <= hi && ((lo - v) * (lo - v) > limit && (hi - v) * (hi - v) > limit))
 }

@@ -1,7 +1,7 @@
 // Tests that refuse every triangle of a point and of points in two boxes at once: what refuses a triangle by squares is
 // asked at the ends of intervals that hold the squares.
 ghost use Rattle.std.specs.Prelude.{◌≡◌, true};
-ghost use Rattle.intervals.specs.Inner.Enclosed.{differencesOf, CrossSquares};
+ghost use Rattle.intervals.specs.Inner.Enclosed.{differences_of, CrossSquares};
 ghost use Rattle.box_filters.specs.Inner.LowBy.{AnglesWithin, LowBy};
 ghost use Rattle.box_filters.specs.Inner.RefusedWithin.{EdgesOf, AreasOf, RefusedBy, Unreached};
 ghost use Rattle.box_filters.specs.Inner.RefusedWithin.{RefusedWithin};
@@ -35,7 +35,7 @@ pub fn edges_of(p: Bounds, q: Bounds, t: Bounds) -> Edges
 // The squares of twice the area of these triangles, whichever of their points comes first; x holds those with a point
 // of p first.
 pub fn areas_of(p: Bounds, q: Bounds, t: Bounds, x: Interval) -> Interval
-    requires { CrossSquares (differencesOf q p) (differencesOf t p) x }
+    requires { CrossSquares (differences_of q p) (differences_of t p) x }
     ensures { AreasOf p q t result }
 {
     let tq = intervals::differences(t, q);

@@ -3,15 +3,15 @@
 ghost use Rattle.std.specs.Prelude.{◌≡◌, not, ◌≤◌, ◌<◌, T, length, get_or};
 ghost use Rattle.std.specs.Float.{binary32};
 ghost use Rattle.std.specs.Float.Ieee.{nan_bits};
-ghost use Rattle.nearest.specs.Scan.{lengthTo};
-ghost use Rattle.nearest.specs.Parts.{scanned, nearOfBest, bestIn, KeepsBest};
-ghost use Rattle.box_search.specs.Boxes.{float_at, sideGap, reachOf, boxesBelow, spotIn, Six, SearchReady};
+ghost use Rattle.nearest.specs.Scan.{length_to};
+ghost use Rattle.nearest.specs.Parts.{scanned, near_of_best, best_in, KeepsBest};
+ghost use Rattle.box_search.specs.Boxes.{float_at, side_gap, reach_of, boxes_below, spot_in, Six, SearchReady};
 
 use vector::Point3f;
 
 // How far the nearest number between lo and hi is from v, below zero where it is less.
 fn gap(v: f32, lo: f32, hi: f32) -> f32
-    ensures { result ≡ sideGap v lo hi }
+    ensures { result ≡ side_gap v lo hi }
 {
     nearest::lesser(nearest::greater(lo, v), hi) - v
 }
@@ -27,7 +27,7 @@ fn word_at(words: &[u32], at: usize) -> f32
 // How far the spot is from the box at a place, squared.
 pub fn reach(words: &[u32], at: usize, spot: Point3f) -> f32
     requires { Six words.now at }
-    ensures { result ≡ reachOf words.now at spot }
+    ensures { result ≡ reach_of words.now at spot }
 {
     let x = gap(spot.x, word_at(words, at), word_at(words, at + 3));
     let y = gap(spot.y, word_at(words, at + 1), word_at(words, at + 4));
@@ -38,7 +38,7 @@ pub fn reach(words: &[u32], at: usize, spot: Point3f) -> f32
 // How many boxes a part of n points has.
 fn boxes_below(width: usize, n: usize) -> usize
     requires { (width ≤ 4096) × (n ≤ 4096) }
-    ensures { result ≡ boxesBelow width n }
+    ensures { result ≡ boxes_below width n }
 {
     if n <= 8 {
         return 1;
@@ -62,11 +62,11 @@ pub fn search(
     near: u32,
     best: &mut [f32; 2],
 ) -> u32
-    requires { SearchReady points.now (spotIn spot.now) words.now at width far order.now
-        (bestIn best.old near) }
-    ensures { KeepsBest (bestIn best.new result) (scanned
-        (lengthTo points.now (spotIn spot.now)) order.now
-        (nearOfBest (bestIn best.old near))) }
+    requires { SearchReady points.now (spot_in spot.now) words.now at width far order.now
+        (best_in best.old near) }
+    ensures { KeepsBest (best_in best.new result) (scanned
+        (length_to points.now (spot_in spot.now)) order.now
+        (near_of_best (best_in best.old near))) }
 {
     if best[1] < far {
         return near;

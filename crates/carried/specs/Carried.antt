@@ -2,7 +2,7 @@
 -- that it reads consecutive lines: up to the end of the bytes it is the body of the file. Definitions only.
 use Rattle.std.specs.Prelude.{ℕ, ◌≤◌, ◌≡◌, List, [], ◌∷◌, length, drop}
 use Rattle.numerals.specs.Format.{parsed}
-use Rattle.cloud_lines.specs.Format.{pointFields}
+use Rattle.cloud_lines.specs.Format.{point_fields}
 use Rattle.cloud_lines.specs.Reading.{Stepped}
 use Rattle.cloud_lines.specs.declared.line.Point.{Point}
 use Rattle.cloud_lines.specs.declared.reader.LineRead.{LineRead}
@@ -22,7 +22,7 @@ Carried r r' (p ∷ ps) = (m : Moved) × (NextLine r m × ((m.read ≡ LineRead.
 -- lines one behind the other, as many as there are points
 unfoldable pub consecutive : List Point → List ℕ → List ℕ → Type 0
 consecutive [] bs rest = bs ≡ rest
-consecutive (p ∷ ps) bs rest = (behind : List ℕ) × ((pointFields bs ≡ parsed p behind) × consecutive ps behind rest)
+consecutive (p ∷ ps) bs rest = (behind : List ℕ) × ((point_fields bs ≡ parsed p behind) × consecutive ps behind rest)
 
 pub record Carries (r r' : Reader) (ps : List Point) : Type 0 where
   -- the bytes are the same, and the lines stand one behind the other between the two places

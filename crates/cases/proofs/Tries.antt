@@ -1,9 +1,9 @@
 -- The cases of how many first points are tried, by computation. Assumes nothing.
 use mathlib.Core.Path.{refl}
-use Rattle.patch.specs.Search.{isSecond, isThird, thirdOf, second_of, first_of, searching}
+use Rattle.patch.specs.Search.{is_second, is_third, third_of, second_of, first_of, searching}
 use Rattle.cases.specs.Tries.{TryCases}
 use Rattle.lists.specs.Lists.{up_from}
 
-pub try-cases : TryCases
-unfolding isSecond isThird thirdOf second_of first_of up_from searching
-try-cases = record { last-try = refl; too-late = refl; used-is-no-try = refl }
+pub try_cases : TryCases
+unfolding is_second is_third third_of second_of first_of up_from searching
+try_cases = record { last_try = refl; too_late = refl; used_is_no_try = refl }

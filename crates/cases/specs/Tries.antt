@@ -1,5 +1,5 @@
 -- How many first points a search for a seed tries: 1,000 that are unused. Cases over made-up decisions.
--- `try-cases` of proofs/Tries.antt is their theorem.
+-- `try_cases` of proofs/Tries.antt is their theorem.
 use Rattle.std.specs.Prelude.{ℕ, ◌+◌, ◌≡◌, true, false, cond, [], ◌∷◌, ltb}
 use Rattle.std.proofs.Math.Option.{none, some}
 use Rattle.patch.specs.Search.{Floats, searching}
@@ -18,8 +18,8 @@ alone n = record {
 
 pub record TryCases : Type 0 where
   -- behind 999 points that are alone the triangle is found
-  pub last-try : (searching (alone 999) 1002).seedOf 0 [] ≡ some (999, 1000, 1001)
+  pub last_try : (searching (alone 999) 1002).seed_of 0 [] ≡ some (999, 1000, 1001)
   -- behind 1,000 it is not
-  pub too-late : (searching (alone 1000) 1003).seedOf 0 [] ≡ none
+  pub too_late : (searching (alone 1000) 1003).seed_of 0 [] ≡ none
   -- a used point is no try: with one of the 1,000 used it is found again
-  pub used-is-no-try : (searching (alone 1000) 1003).seedOf 0 (1 ∷ []) ≡ some (1000, 1001, 1002)
+  pub used_is_no_try : (searching (alone 1000) 1003).seed_of 0 (1 ∷ []) ≡ some (1000, 1001, 1002)

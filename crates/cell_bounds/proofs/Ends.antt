@@ -12,30 +12,30 @@ use lib.Ieee.Bits.{is_true}
 use lib.Ieee.Scale.{finite}
 use lib.Ieee.Positive.{positive}
 use Rattle.numbers.specs.Rounded.{f32, ◌⊖◌, ◌⊘◌}
-use Rattle.numbers.proofs.OrderLaws.{lt-le, le-or-lt, bottom-le, le-top, finite_number}
-use Rattle.numbers.proofs.SumOrder.{sub-monotone}
-use Rattle.numbers.proofs.QuotientOrder.{div-monotone}
-use Rattle.numbers.proofs.CutOrder.{cut-monotone}
-use Rattle.numbers.proofs.Bounded.{bounded-finite}
+use Rattle.numbers.proofs.OrderLaws.{lt_le, le_or_lt, bottom_le, le_top, finite_number}
+use Rattle.numbers.proofs.SumOrder.{sub_monotone}
+use Rattle.numbers.proofs.QuotientOrder.{div_monotone}
+use Rattle.numbers.proofs.CutOrder.{cut_monotone}
+use Rattle.numbers.proofs.Bounded.{bounded_finite}
 use Rattle.lists.proofs.Bools.{and_both}
-use Rattle.numbers.proofs.Above.{positive-is}
+use Rattle.numbers.proofs.Above.{positive_is}
 use Rattle.bounds.proofs.Beyond.{high, low}
 use Rattle.bounds.specs.declared.Interval.{Interval}
 use Rattle.bounds.specs.Inner.Within as bounds-within
 use Rattle.grid.specs.declared.SpatialGrid.{SpatialGrid}
 use Rattle.grid.specs.declared.Cell.{Cell}
-use Rattle.grid.specs.Grid.{cellOn, cell_of, withinRange, in_range}
+use Rattle.grid.specs.Grid.{cell_on, cell_of, within_range, in_range}
 use Rattle.cell_bounds.specs.Inner.Axis.{ordinary, usable, LowerEnd, UpperEnd, HoldingOn}
 use Rattle.cell_bounds.specs.Inner.CellBounds.{Holding}
 
 pub so : (b : Bool) → b ≡ true → T b
 so b e = subst T (sym e) tt
 
-pub ordinary-finite : (x : Float) → ordinary x ≡ true → T (finite x)
+pub ordinary_finite : (x : Float) → ordinary x ≡ true → T (finite x)
 unfolding ordinary of_bits
-ordinary-finite x e =
+ordinary_finite x e =
     let a = and_both {p = le (neg (f32 0x49742400)) x} {q = le x (f32 0x49742400)} e in
-    bounded-finite x (f32 0x49742400) tt (record { upper = so (le x (f32 0x49742400)) a.1; lower = so (le (neg (f32 0x49742400)) x) a.0 })
+    bounded_finite x (f32 0x49742400) tt (record { upper = so (le x (f32 0x49742400)) a.1; lower = so (le (neg (f32 0x49742400)) x) a.0 })
 
 module _ (size least v : Float) (u : usable size least v ≡ true) where
   parts : (T (positive size)) × (T (finite least)) × (T (finite v))
@@ -44,49 +44,49 @@ module _ (size least v : Float) (u : usable size least v ≡ true) where
       let a = and_both {p = lt (f32 0) size} {q = ordinary size && (ordinary least && ordinary v)} u in
       let b = and_both {p = ordinary size} {q = ordinary least && ordinary v} a.1 in
       let c = and_both {p = ordinary least} {q = ordinary v} b.1 in
-      (positive-is size (so (lt (f32 0) size) a.0) (ordinary-finite size b.0), ordinary-finite least c.0, ordinary-finite v c.1)
+      (positive_is size (so (lt (f32 0) size) a.0) (ordinary_finite size b.0), ordinary_finite least c.0, ordinary_finite v c.1)
 
-  grows : (x y : Float) → T (finite x) → T (finite y) → T (le x y) → cellOn size least x ≤ cellOn size least y
-  unfolding cellOn
+  grows : (x y : Float) → T (finite x) → T (finite y) → T (le x y) → cell_on size least x ≤ cell_on size least y
+  unfolding cell_on
   grows x y f g h =
-      cut-monotone ((x ⊖ least) ⊘ size) ((y ⊖ least) ⊘ size) (div-monotone (x ⊖ least) (y ⊖ least) size parts.0 (sub-monotone x y least f g parts.1 h))
+      cut_monotone ((x ⊖ least) ⊘ size) ((y ⊖ least) ⊘ size) (div_monotone (x ⊖ least) (y ⊖ least) size parts.0 (sub_monotone x y least f g parts.1 h))
 
-  module _ (range cell own : ℕ) (is : own ≡ cellOn size least v) where
-    pub lower-tested : own + range < cell → LowerEnd size least range cell v
-    unfolding withinRange
-    lower-tested far q f w = elim (le-or-lt v q (finite_number v parts.2) (finite_number q f)) [
+  module _ (range cell own : ℕ) (is : own ≡ cell_on size least v) where
+    pub lower_tested : own + range < cell → LowerEnd size least range cell v
+    unfolding within_range
+    lower_tested far q f w = elim (le_or_lt v q (finite_number v parts.2) (finite_number q f)) [
       | inl h ↦ h
       | inr h ↦
-          let a = and_both {p = leb cell (cellOn size least q + range)} {q = leb (cellOn size least q) (cell + range)} w in
-          absurd (omega (arith, leb-true cell (cellOn size least q + range) a.0, grows q v f parts.2 (lt-le q v h)))
+          let a = and_both {p = leb cell (cell_on size least q + range)} {q = leb (cell_on size least q) (cell + range)} w in
+          absurd (omega (arith, leb-true cell (cell_on size least q + range) a.0, grows q v f parts.2 (lt_le q v h)))
     ]
 
-    pub upper-tested : cell + range < own → UpperEnd size least range cell v
-    unfolding withinRange
-    upper-tested far q f w = elim (le-or-lt q v (finite_number q f) (finite_number v parts.2)) [
+    pub upper_tested : cell + range < own → UpperEnd size least range cell v
+    unfolding within_range
+    upper_tested far q f w = elim (le_or_lt q v (finite_number q f) (finite_number v parts.2)) [
       | inl h ↦ h
       | inr h ↦
-          let a = and_both {p = leb cell (cellOn size least q + range)} {q = leb (cellOn size least q) (cell + range)} w in
-          absurd (omega (arith, leb-true (cellOn size least q) (cell + range) a.1, grows v q parts.2 f (lt-le v q h)))
+          let a = and_both {p = leb cell (cell_on size least q + range)} {q = leb (cell_on size least q) (cell + range)} w in
+          absurd (omega (arith, leb-true (cell_on size least q) (cell + range) a.1, grows v q parts.2 f (lt_le v q h)))
     ]
 
 module _ (size least : Float) (range cell : ℕ) where
-  pub lower-none : LowerEnd size least range cell low
+  pub lower_none : LowerEnd size least range cell low
   unfolding div of_bits neg
-  lower-none q f w = bottom-le q (finite_number q f)
+  lower_none q f w = bottom_le q (finite_number q f)
 
-  pub upper-none : UpperEnd size least range cell high
+  pub upper_none : UpperEnd size least range cell high
   unfolding div of_bits
-  upper-none q f w = le-top q (finite_number q f)
+  upper_none q f w = le_top q (finite_number q f)
 
 -- ---- an interval, and all three
-pub holding-on : (size least : Float) (range cell : ℕ) (lo hi : Float) → LowerEnd size least range cell lo → UpperEnd size least range cell hi
+pub holding_on : (size least : Float) (range cell : ℕ) (lo hi : Float) → LowerEnd size least range cell lo → UpperEnd size least range cell hi
     → HoldingOn size least range cell (record {
       lo =
           lo;
       hi = hi;
     })
-holding-on size least range cell lo hi below above q f w = rw (is_true (le lo q) (below q f w), is_true (le q hi) (above q f w))
+holding_on size least range cell lo hi below above q f w = rw (is_true (le lo q) (below q f w), is_true (le q hi) (above q f w))
 
 pub holding : (g : SpatialGrid) (c : Cell) (range : ℕ) (x y z : Interval) → HoldingOn g.cell_size g.bounds_min.x range c.x x
     → HoldingOn g.cell_size g.bounds_min.y range c.y y
@@ -96,7 +96,7 @@ unfolding in_range cell_of bounds-within.within
 holding g c range x y z hx hy hz q f w =
     let size = g.cell_size in
     let least = g.bounds_min in
-    let a = and_both {p = withinRange range c.x (cellOn size least.x q.x)} {q = withinRange range c.y (cellOn size least.y q.y)
-    && withinRange range c.z (cellOn size least.z q.z)} w in
-    let b = and_both {p = withinRange range c.y (cellOn size least.y q.y)} {q = withinRange range c.z (cellOn size least.z q.z)} a.1 in
-    rw (hx q.x f.x-finite a.0, hy q.y f.y-finite b.0, hz q.z f.z-finite b.1)
+    let a = and_both {p = within_range range c.x (cell_on size least.x q.x)} {q = within_range range c.y (cell_on size least.y q.y)
+    && within_range range c.z (cell_on size least.z q.z)} w in
+    let b = and_both {p = within_range range c.y (cell_on size least.y q.y)} {q = within_range range c.z (cell_on size least.z q.z)} a.1 in
+    rw (hx q.x f.x_finite a.0, hy q.y f.y_finite b.0, hz q.z f.z_finite b.1)

@@ -1,7 +1,7 @@
 // Bounds on one axis.
 ghost use Rattle.std.specs.Prelude.{◌≡◌, T};
 ghost use Rattle.std.specs.Float.Ieee.Scale.{finite};
-ghost use Rattle.cell_bounds.specs.Inner.Axis.{ordinary, usable, holdsPlace, LowerEnd, UpperEnd, HoldingOn};
+ghost use Rattle.cell_bounds.specs.Inner.Axis.{ordinary, usable, holds_place, LowerEnd, UpperEnd, HoldingOn};
 ghost use Rattle.cell_bounds.specs.Inner.Axis.{ReachingOn};
 
 use bounds::Interval;
@@ -57,7 +57,7 @@ pub fn interval(size: f32, least: f32, v: f32, reach: f32, range: u32, cell: u32
 
 // Whether two ordinary ends have v between them.
 fn holds_place(v: f32, lo: f32, hi: f32) -> bool
-    ensures { result ≡ holdsPlace v lo hi }
+    ensures { result ≡ holds_place v lo hi }
 {
     is_ordinary(lo) && (is_ordinary(hi) && (lo <= v && v <= hi))
 }

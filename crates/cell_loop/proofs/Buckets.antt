@@ -15,11 +15,11 @@ use Rattle.lists.proofs.Bools.{and_both}
 use Rattle.lists.specs.Members.{only, In}
 use Rattle.lists.proofs.Members.{in_head}
 
-pub only-ext : (p q : ℕ → Bool) → ((k : ℕ) → p k ≡ q k) → (xs : List ℕ) → only p xs ≡ only q xs
-only-ext p q h xs = ap (λ (t : ℕ → Bool). only t xs) (λ i k. h k i)
+pub only_ext : (p q : ℕ → Bool) → ((k : ℕ) → p k ≡ q k) → (xs : List ℕ) → only p xs ≡ only q xs
+only_ext p q h xs = ap (λ (t : ℕ → Bool). only t xs) (λ i k. h k i)
 
-pub extended-ext : (f h : ℕ → List ℕ) → ((k : ℕ) → f k ≡ h k) → (xs : List ℕ) → extended f xs ≡ extended h xs
-extended-ext f h e xs = ap (λ (t : ℕ → List ℕ). extended t xs) (λ i k. e k i)
+pub extended_ext : (f h : ℕ → List ℕ) → ((k : ℕ) → f k ≡ h k) → (xs : List ℕ) → extended f xs ≡ extended h xs
+extended_ext f h e xs = ap (λ (t : ℕ → List ℕ). extended t xs) (λ i k. e k i)
 
 none_only : (t : ℕ → Bool) (xs : List ℕ) → ((k : ℕ) → In k xs → t k ≡ false) → only t xs ≡ []
 unfolding only
@@ -53,8 +53,8 @@ module _ (less : ℕ → ℕ → Bool) (p q : ℕ → Bool) (apart : (k : ℕ) �
 abbrev pub among : ℕ → ℕ → ℕ → ℕ → ℕ → Bool
 among range centre k m v = leb (centre + k) (v + range) && ltb (v + range) (centre + k + m)
 
-none-among : (range centre k v : ℕ) → among range centre k 0 v ≡ false
-none-among range centre k v = go (dec_lt (v + range) (centre + k))
+none_among : (range centre k v : ℕ) → among range centre k 0 v ≡ false
+none_among range centre k v = go (dec_lt (v + range) (centre + k))
   where
     go : Dec (v + range < centre + k) → among range centre k 0 v ≡ false
     go (yes l) = rw (lt-leb (centre + k) (v + range) l) refl
@@ -62,9 +62,9 @@ none-among range centre k v = go (dec_lt (v + range) (centre + k))
         rw (le-leb (centre + k) (v + range) (omega arith), le-ltb (v + range) (centre + k + 0) (omega arith)) refl
 
 -- the first step, or one of the others
-among-step : (range centre k m v : ℕ)
+among_step : (range centre k m v : ℕ)
     → among range centre k (suc m) v ≡ cond (eqb (v + range) (centre + k)) true (among range centre (k + 1) m v)
-among-step range centre k m v = go (dec_lt (v + range) (centre + k)) (dec_lt (centre + k) (v + range))
+among_step range centre k m v = go (dec_lt (v + range) (centre + k)) (dec_lt (centre + k) (v + range))
   where
     go : Dec (v + range < centre + k) → Dec (centre + k < v + range)
         → among range centre k (suc m) v ≡ cond (eqb (v + range) (centre + k)) true (among range centre (k + 1) m v)
@@ -91,12 +91,12 @@ among-step range centre k m v = go (dec_lt (v + range) (centre + k)) (dec_lt (ce
           eq-eqb (v + range) (centre + k) (omega arith),
         ) refl
 
-and-cond : (t u b : Bool) → (cond t true u && b) ≡ cond (t && b) true (u && b)
-and-cond true true true = refl
-and-cond true true false = refl
-and-cond true false true = refl
-and-cond true false false = refl
-and-cond false u b = refl
+and_cond : (t u b : Bool) → (cond t true u && b) ≡ cond (t && b) true (u && b)
+and_cond true true true = refl
+and_cond true true false = refl
+and_cond true false true = refl
+and_cond true false false = refl
+and_cond false u b = refl
 
 module _ (range centre : ℕ) (key : ℕ → ℕ) (others : ℕ → Bool) (less : ℕ → ℕ → Bool)
     (rises : (i j : ℕ) → less i j ≡ true → others i ≡ true → others j ≡ true → key i ≤ key j) where
@@ -106,37 +106,37 @@ module _ (range centre : ℕ) (key : ℕ → ℕ) (others : ℕ → Bool) (less 
   abbrev later : ℕ → ℕ → ℕ → Bool
   later k m j = among range centre k m (key j) && others j
 
-  later-from : (k m j : ℕ) → later k m j ≡ true → (centre + k ≤ key j + range) × (others j ≡ true)
-  later-from k m j h =
+  later_from : (k m j : ℕ) → later k m j ≡ true → (centre + k ≤ key j + range) × (others j ≡ true)
+  later_from k m j h =
       let b = and_both {p = among range centre k m (key j)} {q = others j} h in
       let c = and_both {p = leb (centre + k) (key j + range)} {q = ltb (key j + range) (centre + k + m)} b.0 in
       (leb-true (centre + k) (key j + range) c.0, b.1)
 
-  here-at : (k j : ℕ) → here k j ≡ true → (key j + range ≡ centre + k) × (others j ≡ true)
-  here-at k j h =
+  here_at : (k j : ℕ) → here k j ≡ true → (key j + range ≡ centre + k) × (others j ≡ true)
+  here_at k j h =
       let b = and_both {p = eqb (key j + range) (centre + k)} {q = others j} h in
       (eqb-true (key j + range) (centre + k) b.0, b.1)
 
   apart : (k m j : ℕ) → here k j ≡ true → later (k + 1) m j ≡ true → ⊥
   apart k m j h l =
-      let a = here-at k j h in
-      let b = later-from (k + 1) m j l in
+      let a = here_at k j h in
+      let b = later_from (k + 1) m j l in
       omega arith
 
   first : (k m i j : ℕ) → less i j ≡ true → later (k + 1) m i ≡ true → here k j ≡ true → ⊥
   first k m i j o l h =
-      let a = here-at k j h in
-      let b = later-from (k + 1) m i l in
+      let a = here_at k j h in
+      let b = later_from (k + 1) m i l in
       let r = rises i j o b.1 a.1 in
       omega arith
 
   pub buckets : (xs : List ℕ) → Sorted less xs → (m k : ℕ)
       → only (later k m) xs ≡ extended (λ a. only (λ j. is_at range centre a (key j) && others j) xs) (up_from k m)
   unfolding up_from extended is_at
-  buckets xs s zero k = none_only (later k 0) xs (λ j l. rw (none-among range centre k (key j)) refl)
+  buckets xs s zero k = none_only (later k 0) xs (λ j l. rw (none_among range centre k (key j)) refl)
   buckets xs s (suc m) k =
-      only-ext (later k (suc m)) (λ j. cond (here k j) true (later (k + 1) m j))
-      (λ j. ap (λ (t : Bool). t && others j) (among-step range centre k m (key j))
-      ∙ and-cond (eqb (key j + range) (centre + k)) (among range centre (k + 1) m (key j)) (others j)) xs
+      only_ext (later k (suc m)) (λ j. cond (here k j) true (later (k + 1) m j))
+      (λ j. ap (λ (t : Bool). t && others j) (among_step range centre k m (key j))
+      ∙ and_cond (eqb (key j + range) (centre + k)) (among range centre (k + 1) m (key j)) (others j)) xs
       ∙ split less (here k) (later (k + 1) m) (apart k m) (first k m) xs s
       ∙ ap (λ (l : List ℕ). only (here k) xs ++ l) (buckets xs s m (k + 1))

@@ -6,7 +6,7 @@ mod point_lines;
 
 ghost use Rattle.std.specs.Prelude.{◌≡◌, length, drop};
 ghost use Rattle.cloud.specs.Format.{body, under};
-ghost use Rattle.cloud.specs.Answers.{Outcome, outcome, outcomeOf, read_of, Answered};
+ghost use Rattle.cloud.specs.Answers.{Outcome, outcome, outcome_of, read_of, Answered};
 
 use crate::point_lines::{Counted, count_points, store_points};
 use cloud_lines::line::radius_at;
@@ -43,7 +43,7 @@ fn read_points(
     normals: &mut [f32],
 ) -> CloudRead
     ensures { Answered
-        (outcomeOf (length points.old) (length normals.old)
+        (outcome_of (length points.old) (length normals.old)
         (under radius (body (drop from bytes.now)))) points.old normals.old result
         points.new normals.new }
 {

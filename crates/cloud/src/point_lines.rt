@@ -3,7 +3,7 @@
 ghost use Rattle.std.specs.Prelude.{◌≡◌, drop};
 ghost use Rattle.cloud.specs.Format.{body};
 ghost use Rattle.cloud.specs.Answers.{counted};
-ghost use Rattle.cloud.specs.Inner.Ready.{Fitting, laidOut};
+ghost use Rattle.cloud.specs.Inner.Ready.{Fitting, laid_out};
 
 use cloud_lines::reader::store_lines;
 use cloud_lines::skipping::skip_point;
@@ -35,9 +35,9 @@ pub fn count_points(s: &[u8], from: usize) -> Counted
 pub fn store_points(s: &[u8], from: usize, count: usize, points: &mut [f32], normals: &mut [f32])
     requires { Fitting s.now from count points.old normals.old }
     ensures { (points.new
-        ≡ laidOut (λ p. p.position) (body (drop from s.now)) points.old)
+        ≡ laid_out (λ p. p.position) (body (drop from s.now)) points.old)
         × (normals.new
-        ≡ laidOut (λ p. p.normal) (body (drop from s.now)) normals.old) }
+        ≡ laid_out (λ p. p.normal) (body (drop from s.now)) normals.old) }
 {
     store_lines(s, from, count, points, normals);
 }

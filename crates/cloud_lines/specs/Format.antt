@@ -17,7 +17,7 @@ triple last bs =
     then (field 44 bs₁) (λ y bs₂. then (field last bs₂) (λ z rest. parsed (record { x = x; y = y; z = z }) rest)))
 
 -- a point's line: x,y,z,nx,ny,nz
-unfoldable pub pointFields : List ℕ → Parsed Point
+unfoldable pub point_fields : List ℕ → Parsed Point
 unfolding then triple
-pointFields bs =
+point_fields bs =
     then (triple 44 bs) (λ p bs₁. then (triple 10 bs₁) (λ n rest. parsed (record { position = p; normal = n }) rest))

@@ -1,8 +1,8 @@
 // The lines of the file: numbers, each ended by a comma or, at the end of its line, by a line feed.
 ghost use Rattle.std.specs.Prelude.{◌≡◌, ◌≤◌, length, drop};
-ghost use Rattle.cloud_lines.specs.Format.{field, triple, pointFields};
-ghost use Rattle.numerals.specs.Inner.Answers.{numberMeans, numberEnd};
-ghost use Rattle.cloud_lines.specs.Inner.Answers.{tripleMeans, pointMeans, tripleEnd, pointEnd};
+ghost use Rattle.cloud_lines.specs.Format.{field, triple, point_fields};
+ghost use Rattle.numerals.specs.Inner.Answers.{number_means, number_end};
+ghost use Rattle.cloud_lines.specs.Inner.Answers.{triple_means, point_means, triple_end, point_end};
 
 use numerals::{NumberRead, byte_is, number_at};
 
@@ -37,8 +37,8 @@ pub enum PointRead {
 
 // A number and the byte that ends it.
 pub fn field_at(s: &[u8], at: usize, end: u8) -> NumberRead
-    ensures result_value { numberMeans s.now result ≡ field end (drop at s.now) }
-    ensures result_in_bounds { numberEnd result ≤ length s.now }
+    ensures result_value { number_means s.now result ≡ field end (drop at s.now) }
+    ensures result_in_bounds { number_end result ≤ length s.now }
 {
     match number_at(s, at) {
         NumberRead::Number { value, next } => {
@@ -57,15 +57,15 @@ pub fn field_at(s: &[u8], at: usize, end: u8) -> NumberRead
 
 // The radius line.
 pub fn radius_at(s: &[u8], at: usize) -> NumberRead
-    ensures { numberMeans s.now result ≡ field 10 (drop at s.now) }
+    ensures { number_means s.now result ≡ field 10 (drop at s.now) }
 {
     field_at(s, at, LINE_FEED)
 }
 
 // Three numbers, of which the last is ended by the byte last.
 pub fn triple_at(s: &[u8], at: usize, last: u8) -> TripleRead
-    ensures result_value { tripleMeans s.now result ≡ triple last (drop at s.now) }
-    ensures result_in_bounds { tripleEnd result ≤ length s.now }
+    ensures result_value { triple_means s.now result ≡ triple last (drop at s.now) }
+    ensures result_in_bounds { triple_end result ≤ length s.now }
 {
     let NumberRead::Number {
         value: x,
@@ -92,8 +92,8 @@ pub fn triple_at(s: &[u8], at: usize, last: u8) -> TripleRead
 
 // A point's line.
 pub fn point_at(s: &[u8], at: usize) -> PointRead
-    ensures result_value { pointMeans s.now result ≡ pointFields (drop at s.now) }
-    ensures result_in_bounds { pointEnd result ≤ length s.now }
+    ensures result_value { point_means s.now result ≡ point_fields (drop at s.now) }
+    ensures result_in_bounds { point_end result ≤ length s.now }
 {
     let TripleRead::Numbers {
         triple: position,

@@ -4,7 +4,7 @@
 // on. `store_lines` carries one reader through all lines; a caller with plain slices uses that.
 ghost use Rattle.std.specs.Prelude.{◌≡◌};
 ghost use Rattle.cloud_lines.specs.Reading.{Stepped};
-ghost use Rattle.cloud_lines.specs.Inner.Storing.{position_of, normalOf, placed, placed_of, StoredLines};
+ghost use Rattle.cloud_lines.specs.Inner.Storing.{position_of, normal_of, placed, placed_of, StoredLines};
 
 use crate::line::{Point, PointRead, Triple, point_at};
 
@@ -81,7 +81,7 @@ fn put_triple(d: &mut [f32], k: usize, t: Triple)
 // The point of the k-th line, into both slices.
 fn put_line(points: &mut [f32], normals: &mut [f32], k: usize, read: LineRead)
     ensures { (points.new ≡ placed_of position_of k read points.old)
-        × (normals.new ≡ placed_of normalOf k read normals.old) }
+        × (normals.new ≡ placed_of normal_of k read normals.old) }
 {
     match read {
         LineRead::Point { point } => {

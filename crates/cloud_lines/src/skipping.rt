@@ -1,9 +1,9 @@
 // The grammar of the cloud file with no value worked out: the place behind a number, a field or a point's line, and 0
 // where it is malformed.
 ghost use Rattle.std.specs.Prelude.{◌≡◌, Bool, cond, ℕ, ◌+◌, ◌<◌, drop};
-ghost use Rattle.numerals.specs.Format.{digits, few, fraction, unsignedNumber, number};
-ghost use Rattle.cloud_lines.specs.Format.{field, triple, pointFields};
-ghost use Rattle.cloud_lines.specs.Inner.Bare.{bare, skipMeans};
+ghost use Rattle.numerals.specs.Format.{digits, few, fraction, unsigned_number, number};
+ghost use Rattle.cloud_lines.specs.Format.{field, triple, point_fields};
+ghost use Rattle.cloud_lines.specs.Inner.Bare.{bare, skip_means};
 
 use crate::line::{COMMA, LINE_FEED};
 use numerals::{behind_minus, byte_is, digits_end, is_few};
@@ -21,7 +21,7 @@ fn skip_digits(s: &[u8], at: usize, most: usize) -> usize
 fn skip_fraction(s: &[u8], at: usize) -> usize
     requires { 0 < at }
     ensures { (negative : Bool) (units : ℕ)
-        → skipMeans s.now result ≡ bare (fraction negative units (drop at s.now)) }
+        → skip_means s.now result ≡ bare (fraction negative units (drop at s.now)) }
 {
     if byte_is(s, at, b'.') {
         skip_digits(s, at + 1, 6)
@@ -33,21 +33,21 @@ fn skip_fraction(s: &[u8], at: usize) -> usize
 // A number without its sign.
 fn skip_magnitude(s: &[u8], at: usize) -> usize
     ensures { (negative : Bool)
-        → skipMeans s.now result ≡ bare (unsignedNumber negative (drop at s.now)) }
+        → skip_means s.now result ≡ bare (unsigned_number negative (drop at s.now)) }
 {
     let end = skip_digits(s, at, 5);
     if end == 0 { 0 } else { skip_fraction(s, end) }
 }
 
 fn skip_number(s: &[u8], at: usize) -> usize
-    ensures { skipMeans s.now result ≡ bare (number (drop at s.now)) }
+    ensures { skip_means s.now result ≡ bare (number (drop at s.now)) }
 {
     skip_magnitude(s, behind_minus(s, at))
 }
 
 // A number and the byte that ends it.
 fn skip_field(s: &[u8], at: usize, end: u8) -> usize
-    ensures { skipMeans s.now result ≡ bare (field end (drop at s.now)) }
+    ensures { skip_means s.now result ≡ bare (field end (drop at s.now)) }
 {
     let next = skip_number(s, at);
     if next == 0 {
@@ -58,7 +58,7 @@ fn skip_field(s: &[u8], at: usize, end: u8) -> usize
 
 // Three fields.
 fn skip_triple(s: &[u8], at: usize, last: u8) -> usize
-    ensures { skipMeans s.now result ≡ bare (triple last (drop at s.now)) }
+    ensures { skip_means s.now result ≡ bare (triple last (drop at s.now)) }
 {
     let second = skip_field(s, at, COMMA);
     if second == 0 {
@@ -73,7 +73,7 @@ fn skip_triple(s: &[u8], at: usize, last: u8) -> usize
 
 // A point's line.
 pub fn skip_point(s: &[u8], at: usize) -> usize
-    ensures { skipMeans s.now result ≡ bare (pointFields (drop at s.now)) }
+    ensures { skip_means s.now result ≡ bare (point_fields (drop at s.now)) }
 {
     let middle = skip_triple(s, at, COMMA);
     if middle == 0 {

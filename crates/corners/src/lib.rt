@@ -2,14 +2,14 @@
 // same point, and whether a face has a point.
 ghost use Rattle.std.specs.Prelude.{◌≡◌, ℕ, ◌+◌, ◌*◌, ◌≤◌, ◌<◌, length, get_or};
 ghost use Rattle.patch.specs.Shape.{touches};
-ghost use Rattle.regions.specs.Inner.Ordering.{headsAt, headsEnd};
-ghost use Rattle.corners.specs.Corners.{faceIn, Links};
+ghost use Rattle.regions.specs.Inner.Ordering.{heads_at, heads_end};
+ghost use Rattle.corners.specs.Corners.{face_in, Links};
 
 // Links the corners of `count` faces over n points, whose heads are zeros.
 pub fn link_corners(n: usize, count: usize, words: &mut [u32])
-    requires { (n ≤ 4096) × (count ≤ n) × (headsEnd n ≤ length words.old)
+    requires { (n ≤ 4096) × (count ≤ n) × (heads_end n ≤ length words.old)
         × ((s : ℕ) → s < 3 * count → get_or words.old s 0 < n)
-        × ((x : ℕ) → x < n → get_or words.old (headsAt n + x) 0 ≡ 0) }
+        × ((x : ℕ) → x < n → get_or words.old (heads_at n + x) 0 ≡ 0) }
     ensures { Links n (3 * count) words.old words.new }
 {
     let mut s: usize = 0;
@@ -24,7 +24,7 @@ pub fn link_corners(n: usize, count: usize, words: &mut [u32])
 // Whether the face g has the point x.
 pub fn has_point(words: &[u32], g: usize, x: u32) -> bool
     requires { 3 * g + 3 ≤ length words.now }
-    ensures { result ≡ touches x (faceIn words.now g) }
+    ensures { result ≡ touches x (face_in words.now g) }
 {
     if x == words[3 * g] {
         return true;

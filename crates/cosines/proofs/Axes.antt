@@ -1,5 +1,5 @@
--- Three points on an axis: the computed differences and the exact ones (`on-axis`), and of two axes a component of the
--- computed cross product and the exact one (`component-of`). Assumes nothing.
+-- Three points on an axis: the computed differences and the exact ones (`on_axis_lem`), and of two axes a component of the
+-- computed cross product and the exact one (`component_of`). Assumes nothing.
 use mathlib.Core.Path.{◌≡◌, refl, ap, ◌∙◌}
 use Prim.Native.Nat.{ℕ, ◌+◌, ◌-◌, ◌*◌, ◌^◌, ◌≤◌}
 use native.Mathlib.Nat.{add-mul}
@@ -11,11 +11,11 @@ use lib.Ieee.{Float, binary32, unlike, fits}
 use lib.Ieee.Exact.{HasValue}
 use lib.Ieee.Scale.{finite}
 use Rattle.numbers.specs.Rounded.{◌⊖◌, ◌⊗◌}
-use Rattle.rounding_errors.proofs.Near.{Near, near-eq, near-self, near-trans, near_mul, near_add, near-square, near_times}
+use Rattle.rounding_errors.proofs.Near.{Near, near_eq, near_self, near_trans, near_mul, near_add, near_square, near_times}
 use Rattle.rounding_errors.proofs.Rounding.{Summed}
-use Rattle.rounding_errors.proofs.Signed.{Is, over, short, sub-finite, finite-signed, sub-whole, mul-whole}
-use Rattle.cosines.proofs.Exact.{apart, axis-square}
-use Rattle.cosines.proofs.Component.{component-off, component-over}
+use Rattle.rounding_errors.proofs.Signed.{Is, over, short, sub_finite, finite_signed, sub_whole, mul_whole}
+use Rattle.cosines.proofs.Exact.{apart, axis_square}
+use Rattle.cosines.proofs.Component.{component_off, component_over}
 
 -- ---- one axis
 
@@ -32,15 +32,15 @@ pub record On (p q t : Float) : Type 0 where
   pub u : Summed (q ⊖ t) o b
   pub square : b * b + 2 * over (unlike s r) (a * c) ≡ a * a + c * c + 2 * short (unlike s r) (a * c)
 
-pub on-axis : (p q t : Float) → T (fits binary32 p) → T (fits binary32 q) → T (fits binary32 t) → T (finite (q ⊖ p)) → T (finite (t ⊖ p)) → T (finite (q ⊖ t))
+pub on_axis_lem : (p q t : Float) → T (fits binary32 p) → T (fits binary32 q) → T (fits binary32 t) → T (finite (q ⊖ p)) → T (finite (t ⊖ p)) → T (finite (q ⊖ t))
     → On p q t
-on-axis p q t fp fq ft h k l =
-    let P = finite-signed p fp (sub-finite q p h).1 in
-    let Q = finite-signed q fq (sub-finite q p h).0 in
-    let R = finite-signed t ft (sub-finite t p k).0 in
-    let v = sub-whole q p Q.s P.s Q.n P.n Q.value P.value h in
-    let w = sub-whole t p R.s P.s R.n P.n R.value P.value k in
-    let u = sub-whole q t Q.s R.s Q.n R.n Q.value R.value l in
+on_axis_lem p q t fp fq ft h k l =
+    let P = finite_signed p fp (sub_finite q p h).1 in
+    let Q = finite_signed q fq (sub_finite q p h).0 in
+    let R = finite_signed t ft (sub_finite t p k).0 in
+    let v = sub_whole q p Q.s P.s Q.n P.n Q.value P.value h in
+    let w = sub_whole t p R.s P.s R.n P.n R.value P.value k in
+    let u = sub_whole q t Q.s R.s Q.n R.n Q.value R.value l in
     record {
       s = v.s;
       r = w.s;
@@ -52,26 +52,26 @@ on-axis p q t fp fq ft h k l =
       w = w.rounded;
       u = u.rounded;
       square =
-          axis-square v.s w.s u.s v.a w.a u.a (over Q.s Q.n) (short Q.s Q.n) (over P.s P.n) (short P.s P.n)
+          axis_square v.s w.s u.s v.a w.a u.a (over Q.s Q.n) (short Q.s Q.n) (over P.s P.n) (short P.s P.n)
           (over R.s R.n) (short R.s R.n)
           v.is w.is u.is;
     }
 
 -- ---- two axes
 
-apart-is : (z s t : Bool) (a k l : ℕ) → Is z a (over s k + short t l) (short s k + over t l) → a ≡ apart (unlike s t) k l
-apart-is true true true a k l h = omega arith
-apart-is true true false a k l h = omega arith
-apart-is true false true a k l h = omega arith
-apart-is true false false a k l h = omega arith
-apart-is false true true a k l h = omega arith
-apart-is false true false a k l h = omega arith
-apart-is false false true a k l h = omega arith
-apart-is false false false a k l h = omega arith
+apart_is : (z s t : Bool) (a k l : ℕ) → Is z a (over s k + short t l) (short s k + over t l) → a ≡ apart (unlike s t) k l
+apart_is true true true a k l h = omega arith
+apart_is true true false a k l h = omega arith
+apart_is true false true a k l h = omega arith
+apart_is true false false a k l h = omega arith
+apart_is false true true a k l h = omega arith
+apart_is false true false a k l h = omega arith
+apart_is false false true a k l h = omega arith
+apart_is false false false a k l h = omega arith
 
-apart-times : (u : Bool) (k l w : ℕ) → apart u k l * w ≡ apart u (k * w) (l * w)
-apart-times true k l w = add-mul k l w
-apart-times false k l w = go (dec_le k l)
+apart_times : (u : Bool) (k l w : ℕ) → apart u k l * w ≡ apart u (k * w) (l * w)
+apart_times true k l w = add-mul k l w
+apart_times false k l w = go (dec_le k l)
   where
     go : Dec (k ≤ l) → (k - l + (l - k)) * w ≡ k * w - l * w + (l * w - k * w)
     go (yes h) =
@@ -126,36 +126,36 @@ pub record Computed (x : Float) (u : Bool) (m n : ℕ) : Type 0 where
 
 -- m and n are the exact sizes, k and l the computed ones, j their rounded product
 module _ (w m n k l j : ℕ) where
-  rounded-above : Near 1 m k → Near 1 n l → Near 1 (k * l) (j * w + w) → Near 3 (m * n) (j * w + w)
-  rounded-above a b c = near-trans (near_mul a b) c
+  rounded_above : Near 1 m k → Near 1 n l → Near 1 (k * l) (j * w + w) → Near 3 (m * n) (j * w + w)
+  rounded_above a b c = near_trans (near_mul a b) c
 
-  rounded-below : Near 1 k m → Near 1 l n → Near 1 (j * w) (k * l + w) → Near 3 (j * w) (m * n + w)
-  rounded-below a b c = near-trans c (near_add (near_mul a b) (near-self 2 w))
+  rounded_below : Near 1 k m → Near 1 l n → Near 1 (j * w) (k * l + w) → Near 3 (j * w) (m * n + w)
+  rounded_below a b c = near_trans c (near_add (near_mul a b) (near_self 2 w))
 
 module _ (v w v' w' : Float) (s r s' r' : Bool) (a c a' c' : ℕ) (hv : Summed v s a) (hw : Summed w r c) (hv' : Summed v' s' a') (hw' : Summed w' r' c') where
-  pub component-of : T (finite (v ⊗ w' ⊖ v' ⊗ w)) → Computed (v ⊗ w' ⊖ v' ⊗ w) (unlike (unlike s r) (unlike s' r')) (a * c') (a' * c)
-  component-of f =
+  pub component_of : T (finite (v ⊗ w' ⊖ v' ⊗ w)) → Computed (v ⊗ w' ⊖ v' ⊗ w) (unlike (unlike s r) (unlike s' r')) (a * c') (a' * c)
+  component_of f =
       let W : ℕ = 2 ^ 149 in
-      let g = sub-finite (v ⊗ w') (v' ⊗ w) f in
-      let M = mul-whole v w' s r' hv.n hw'.n hv.value hw'.value g.0 in
-      let N = mul-whole v' w s' r hv'.n hw.n hv'.value hw.value g.1 in
-      let D = sub-whole (v ⊗ w') (v' ⊗ w) (unlike s r') (unlike s' r) M.n N.n M.value N.value f in
+      let g = sub_finite (v ⊗ w') (v' ⊗ w) f in
+      let M = mul_whole v w' s r' hv.n hw'.n hv.value hw'.value g.0 in
+      let N = mul_whole v' w s' r hv'.n hw.n hv'.value hw.value g.1 in
+      let D = sub_whole (v ⊗ w') (v' ⊗ w) (unlike s r') (unlike s' r) M.n N.n M.value N.value f in
       let u = unlike (unlike s r) (unlike s' r') in
-      let e : D.a ≡ apart u M.n N.n = apart-is D.s (unlike s r') (unlike s' r) D.a M.n N.n D.is ∙ ap (λ (b : Bool). apart b M.n N.n)
+      let e : D.a ≡ apart u M.n N.n = apart_is D.s (unlike s r') (unlike s' r) D.a M.n N.n D.is ∙ ap (λ (b : Bool). apart b M.n N.n)
       (signs s r s' r') in
-      let scaled = ap (λ (x : ℕ). x * W) e ∙ apart-times u M.n N.n W in
-      let z : Near 1 (apart u (M.n * W) (N.n * W)) (D.rounded.n * W) = near-eq scaled refl (near_times W D.rounded.above) in
-      let below : Near 1 (D.rounded.n * W) (apart u (M.n * W) (N.n * W)) = near-eq refl scaled (near_times W D.rounded.below) in
-      let first_above = rounded-above W a c' hv.n hw'.n M.n hv.above hw'.above M.above in
-      let second_above = rounded-above W a' c hv'.n hw.n N.n hv'.above hw.above N.above in
-      let first_below = rounded-below W a c' hv.n hw'.n M.n hv.below hw'.below M.below in
-      let second_below = rounded-below W a' c hv'.n hw.n N.n hv'.below hw.below N.below in
+      let scaled = ap (λ (x : ℕ). x * W) e ∙ apart_times u M.n N.n W in
+      let z : Near 1 (apart u (M.n * W) (N.n * W)) (D.rounded.n * W) = near_eq scaled refl (near_times W D.rounded.above) in
+      let below : Near 1 (D.rounded.n * W) (apart u (M.n * W) (N.n * W)) = near_eq refl scaled (near_times W D.rounded.below) in
+      let first_above = rounded_above W a c' hv.n hw'.n M.n hv.above hw'.above M.above in
+      let second_above = rounded_above W a' c hv'.n hw.n N.n hv'.above hw.above N.above in
+      let first_below = rounded_below W a c' hv.n hw'.n M.n hv.below hw'.below M.below in
+      let second_below = rounded_below W a' c hv'.n hw.n N.n hv'.below hw.below N.below in
       record {
         s = D.s;
         k = D.rounded.n;
         value = D.rounded.value;
-        off = component-off u (a * c') (a' * c) (M.n * W) (N.n * W) W (D.rounded.n * W) first_above second_above first_below second_below z;
+        off = component_off u (a * c') (a' * c) (M.n * W) (N.n * W) W (D.rounded.n * W) first_above second_above first_below second_below z;
         y = apart u (M.n * W) (N.n * W) * apart u (M.n * W) (N.n * W);
-        last = near-square below;
-        over = λ i. component-over u (a * c') (a' * c) (M.n * W) (N.n * W) W i first_above second_above first_below second_below;
+        last = near_square below;
+        over = λ i. component_over u (a * c') (a' * c) (M.n * W) (N.n * W) W i first_above second_above first_below second_below;
       }

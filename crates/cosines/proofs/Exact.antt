@@ -1,5 +1,5 @@
--- What is exact of three points, over whole numbers: the law of cosines on an axis (`axis-square`), a cross product's
--- component (`component-square`), and from these Lagrange's identity, by squares alone (`lagrange`, and `heron` whether
+-- What is exact of three points, over whole numbers: the law of cosines on an axis (`axis_square`), a cross product's
+-- component (`component_square`), and from these Lagrange's identity, by squares alone (`lagrange`, and `heron` whether
 -- the angle is acute or not). Assumes nothing.
 use mathlib.Core.Path.{◌≡◌, refl, sym, ap, ap₂, ◌∙◌, subst}
 use Prim.Native.Nat.{ℕ, ◌+◌, ◌-◌, ◌*◌, ◌≤◌}
@@ -26,31 +26,31 @@ across : (a c : ℕ) → (a + c) * (a + c) + 2 * 0 ≡ a * a + c * c + 2 * (a * 
 across a c = omega arith
 
 module _ (a c b : ℕ) where
-  like-first : a ≡ c + b → b * b + 2 * (a * c) ≡ a * a + c * c + 2 * 0
-  like-first e = subst (λ (a : ℕ). b * b + 2 * (a * c) ≡ a * a + c * c + 2 * 0) (sym e) (longer c b)
+  like_first : a ≡ c + b → b * b + 2 * (a * c) ≡ a * a + c * c + 2 * 0
+  like_first e = subst (λ (a : ℕ). b * b + 2 * (a * c) ≡ a * a + c * c + 2 * 0) (sym e) (longer c b)
 
-  like-second : c ≡ a + b → b * b + 2 * (a * c) ≡ a * a + c * c + 2 * 0
-  like-second e = subst (λ (c : ℕ). b * b + 2 * (a * c) ≡ a * a + c * c + 2 * 0) (sym e) (shorter a b)
+  like_second : c ≡ a + b → b * b + 2 * (a * c) ≡ a * a + c * c + 2 * 0
+  like_second e = subst (λ (c : ℕ). b * b + 2 * (a * c) ≡ a * a + c * c + 2 * 0) (sym e) (shorter a b)
 
-  unlike-sum : b ≡ a + c → b * b + 2 * 0 ≡ a * a + c * c + 2 * (a * c)
-  unlike-sum e = subst (λ (b : ℕ). b * b + 2 * 0 ≡ a * a + c * c + 2 * (a * c)) (sym e) (across a c)
+  unlike_sum : b ≡ a + c → b * b + 2 * 0 ≡ a * a + c * c + 2 * (a * c)
+  unlike_sum e = subst (λ (b : ℕ). b * b + 2 * 0 ≡ a * a + c * c + 2 * (a * c)) (sym e) (across a c)
 
 -- the coordinates of Q, P and T are q - r, p - o and t - u; a, c and b are their distances
-pub axis-square : (s t v : Bool) (a c b q r p o t' u : ℕ) → Is s a (q + o) (r + p) → Is t c (t' + o) (u + p) → Is v b (q + u) (r + t')
+pub axis_square : (s t v : Bool) (a c b q r p o t' u : ℕ) → Is s a (q + o) (r + p) → Is t c (t' + o) (u + p) → Is v b (q + u) (r + t')
     → b * b + 2 * over (unlike s t) (a * c) ≡ a * a + c * c + 2 * short (unlike s t) (a * c)
-axis-square true true true a c b q r p o t u h k l = like-first a c b (omega arith)
-axis-square true true false a c b q r p o t u h k l = like-second a c b (omega arith)
-axis-square false false false a c b q r p o t u h k l = like-first a c b (omega arith)
-axis-square false false true a c b q r p o t u h k l = like-second a c b (omega arith)
-axis-square true false true a c b q r p o t u h k l = unlike-sum a c b (omega arith)
-axis-square true false false a c b q r p o t u h k l = unlike-sum a c b (omega arith)
-axis-square false true true a c b q r p o t u h k l = unlike-sum a c b (omega arith)
-axis-square false true false a c b q r p o t u h k l = unlike-sum a c b (omega arith)
+axis_square true true true a c b q r p o t u h k l = like_first a c b (omega arith)
+axis_square true true false a c b q r p o t u h k l = like_second a c b (omega arith)
+axis_square false false false a c b q r p o t u h k l = like_first a c b (omega arith)
+axis_square false false true a c b q r p o t u h k l = like_second a c b (omega arith)
+axis_square true false true a c b q r p o t u h k l = unlike_sum a c b (omega arith)
+axis_square true false false a c b q r p o t u h k l = unlike_sum a c b (omega arith)
+axis_square false true true a c b q r p o t u h k l = unlike_sum a c b (omega arith)
+axis_square false true false a c b q r p o t u h k l = unlike_sum a c b (omega arith)
 
 -- ---- a component of the cross product
 
-pub gap-square : (m n : ℕ) → (m - n + (n - m)) * (m - n + (n - m)) + 2 * (m * n) ≡ m * m + n * n
-gap-square m n = go (dec_le m n)
+pub gap_square : (m n : ℕ) → (m - n + (n - m)) * (m - n + (n - m)) + 2 * (m * n) ≡ m * m + n * n
+gap_square m n = go (dec_le m n)
   where
     up : (m d : ℕ) → d * d + 2 * (m * (m + d)) ≡ m * m + (m + d) * (m + d)
     up m d = omega arith
@@ -72,19 +72,19 @@ gap-square m n = go (dec_le m n)
 
 -- v w' - v' w, where a and c are the sizes of v and w, a' and c' those of v' and w', and s and t tell whether v and w,
 -- v' and w' have unlike signs
-pub component-square : (s t : Bool) (a c a' c' : ℕ)
+pub component_square : (s t : Bool) (a c a' c' : ℕ)
     → apart (unlike s t) (a * c') (a' * c) * apart (unlike s t) (a * c') (a' * c)
     + 2 * (over s (a * c) * over t (a' * c') + short s (a * c) * short t (a' * c'))
     ≡ a * a * (c' * c') + a' * a' * (c * c) + 2 * (over s (a * c) * short t (a' * c') + over t (a' * c') * short s (a * c))
-component-square true true a c a' c' = let g = gap-square (a * c') (a' * c) in omega arith
-component-square false false a c a' c' = let g = gap-square (a * c') (a' * c) in omega arith
-component-square true false a c a' c' = omega arith
-component-square false true a c a' c' = omega arith
+component_square true true a c a' c' = let g = gap_square (a * c') (a' * c) in omega arith
+component_square false false a c a' c' = let g = gap_square (a * c') (a' * c) in omega arith
+component_square true false a c a' c' = omega arith
+component_square false true a c a' c' = omega arith
 
-pub product-square : (s : Bool) (a c : ℕ) → over s (a * c) * over s (a * c) + short s (a * c) * short s (a * c) ≡ a * a * (c * c)
+pub product_square : (s : Bool) (a c : ℕ) → over s (a * c) * over s (a * c) + short s (a * c) * short s (a * c) ≡ a * a * (c * c)
     + 2 * (over s (a * c) * short s (a * c))
-product-square true a c = omega arith
-product-square false a c = omega arith
+product_square true a c = omega arith
+product_square false a c = omega arith
 
 -- ---- all three
 
@@ -125,15 +125,15 @@ total : (EE Ac SS NN SN X Y Z ac ad ae bc bd be cc cd ce : ℕ) (pp qq rr pq qr 
 total EE Ac SS NN SN X Y Z ac ad ae bc bd be cc cd ce pp qq rr pq qr rp nn mm oo nm mo on pn pm po qn qm qo rn rm ro a b c d e f g h i j k = omega arith
 
 -- Heron's formula from Lagrange's identity
-acute-sum : (a b c E x : ℕ) → a + c ≡ b + E → 4 * (a * c) ≡ E * E + 4 * x → 4 * x + (a * a + b * b + c * c) ≡ 2 * (a * b + b * c + c * a)
-acute-sum a b c E x h k =
+acute_sum : (a b c E x : ℕ) → a + c ≡ b + E → 4 * (a * c) ≡ E * E + 4 * x → 4 * x + (a * a + b * b + c * c) ≡ 2 * (a * b + b * c + c * a)
+acute_sum a b c E x h k =
     let i = ap (λ (z : ℕ). z * (a + c)) h in
     let j = ap (λ (z : ℕ). (b + E) * z) h in
     let l = ap (λ (z : ℕ). z * b) h in
     omega arith
 
-obtuse-sum : (a b c E x : ℕ) → b ≡ a + c + E → 4 * (a * c) ≡ E * E + 4 * x → 4 * x + (a * a + b * b + c * c) ≡ 2 * (a * b + b * c + c * a)
-obtuse-sum a b c E x h k = subst (λ (b : ℕ). 4 * x + (a * a + b * b + c * c) ≡ 2 * (a * b + b * c + c * a)) (sym h) (expanded a c E x k)
+obtuse_sum : (a b c E x : ℕ) → b ≡ a + c + E → 4 * (a * c) ≡ E * E + 4 * x → 4 * x + (a * a + b * b + c * c) ≡ 2 * (a * b + b * c + c * a)
+obtuse_sum a b c E x h k = subst (λ (b : ℕ). 4 * x + (a * a + b * b + c * c) ≡ 2 * (a * b + b * c + c * a)) (sym h) (expanded a c E x k)
   where
     expanded : (a c E x : ℕ) → 4 * (a * c) ≡ E * E + 4 * x → 4 * x + (a * a + (a + c + E) * (a + c + E) + c * c)
         ≡ 2 * (a * (a + c + E) + (a + c + E) * c + c * a)
@@ -141,9 +141,9 @@ obtuse-sum a b c E x h k = subst (λ (b : ℕ). 4 * x + (a * a + b * b + c * c) 
 
 module _ {A C B p n A' C' B' p' n' A'' C'' B'' p'' n'' X Y Z : ℕ} (i : Axis A C B p n) (j : Axis A' C' B' p' n') (k : Axis A'' C'' B'' p'' n'')
     (x : Component A' C' p' n' A'' C'' p'' n'' X) (y : Component A'' C'' p'' n'' A C p n Y) (z : Component A C p n A' C' p' n' Z) where
-  from-dots : (E S N : ℕ) → S ≡ p + p' + p'' → N ≡ n + n' + n'' → E * E + 8 * (S * N) ≡ 4 * (S * S) + 4 * (N * N) → 4 * ((A + A' + A'') * (C + C' + C''))
+  from_dots : (E S N : ℕ) → S ≡ p + p' + p'' → N ≡ n + n' + n'' → E * E + 8 * (S * N) ≡ 4 * (S * S) + 4 * (N * N) → 4 * ((A + A' + A'') * (C + C' + C''))
       ≡ E * E + 4 * (X + Y + Z)
-  from-dots E S N s t g =
+  from_dots E S N s t g =
       total (E * E) ((A + A' + A'') * (C + C' + C'')) (S * S) (N * N) (S * N) X Y Z (A * C) (A * C') (A * C'') (A' * C) (A' * C') (A' * C'') (A'' * C)
       (A'' * C') (A'' * C'')
       (p * p) (p' * p') (p'' * p'') (p * p') (p' * p'') (p'' * p) (n * n) (n' * n') (n'' * n'') (n * n') (n' * n'') (n'' * n) (p * n) (p * n') (p * n'')
@@ -156,7 +156,7 @@ module _ {A C B p n A' C' B' p' n' A'' C'' B'' p'' n'' X Y Z : ℕ} (i : Axis A 
       let S = p + p' + p'' in
       let N = n + n' + n'' in
       let g : 2 * S ≡ E + 2 * N = omega (arith, h, i.square, j.square, k.square) in
-      from-dots E S N refl refl (halves E S N g)
+      from_dots E S N refl refl (halves E S N g)
 
   -- at an angle that is not acute
   obtuse : (E : ℕ) → E + (A + A' + A'' + (C + C' + C'')) ≡ B + B' + B'' → 4 * ((A + A' + A'') * (C + C' + C'')) ≡ E * E + 4 * (X + Y + Z)
@@ -164,18 +164,18 @@ module _ {A C B p n A' C' B' p' n' A'' C'' B'' p'' n'' X Y Z : ℕ} (i : Axis A 
       let S = p + p' + p'' in
       let N = n + n' + n'' in
       let g : 2 * N ≡ E + 2 * S = omega (arith, h, i.square, j.square, k.square) in
-      from-dots E S N refl refl (turned (E * E) (S * S) (N * N) S N (halves E N S g))
+      from_dots E S N refl refl (turned (E * E) (S * S) (N * N) S N (halves E N S g))
     where
       turned : (e s t S N : ℕ) → e + 8 * (N * S) ≡ 4 * t + 4 * s → e + 8 * (S * N) ≡ 4 * s + 4 * t
       turned e s t S N h = omega arith
 
-  pub heron-sums : (a b c : ℕ) → a ≡ A + A' + A'' → b ≡ B + B' + B'' → c ≡ C + C' + C'' → 4 * (X + Y + Z) + (a * a + b * b + c * c)
+  pub heron_sums : (a b c : ℕ) → a ≡ A + A' + A'' → b ≡ B + B' + B'' → c ≡ C + C' + C'' → 4 * (X + Y + Z) + (a * a + b * b + c * c)
       ≡ 2 * (a * b + b * c + c * a)
-  heron-sums a b c ea eb ec = go (dec_le b (a + c))
+  heron_sums a b c ea eb ec = go (dec_le b (a + c))
     where
       product : {v : ℕ} → 4 * ((A + A' + A'') * (C + C' + C'')) ≡ v → 4 * (a * c) ≡ v
       product h = ap (λ (z : ℕ). 4 * z) (ap₂ ◌*◌ ea ec) ∙ h
 
       go : Dec (b ≤ a + c) → 4 * (X + Y + Z) + (a * a + b * b + c * c) ≡ 2 * (a * b + b * c + c * a)
-      go (yes h) = acute-sum a b c (a + c - b) (X + Y + Z) (omega arith) (product (lagrange (a + c - b) (omega (arith, ea, eb, ec))))
-      go (no h) = obtuse-sum a b c (b - (a + c)) (X + Y + Z) (omega arith) (product (obtuse (b - (a + c)) (omega (arith, ea, eb, ec))))
+      go (yes h) = acute_sum a b c (a + c - b) (X + Y + Z) (omega arith) (product (lagrange (a + c - b) (omega (arith, ea, eb, ec))))
+      go (no h) = obtuse_sum a b c (b - (a + c)) (X + Y + Z) (omega arith) (product (obtuse (b - (a + c)) (omega (arith, ea, eb, ec))))

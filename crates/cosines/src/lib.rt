@@ -1,7 +1,7 @@
 // A test by squares that the cosine of a triangle's angle is at least a bound, before any root is taken: for all
 // triangles whose squares lie in intervals.
 ghost use Rattle.std.specs.Prelude.{◌≡◌, true};
-ghost use Rattle.cosines.specs.Inner.Cosine.{isPlainPair, arePlain, isComparable, limitAt, isShort, isSmall};
+ghost use Rattle.cosines.specs.Inner.Cosine.{is_plain_pair, are_plain, is_comparable, limit_at, is_short, is_small};
 ghost use Rattle.cosines.specs.Inner.Cosine.{NarrowLimit, NarrowAngle, interval};
 
 use bounds::Interval;
@@ -20,14 +20,14 @@ pub fn narrow_limit(cosine: f32) -> f32
 
 // Whether nothing over- or underflows with squares between these.
 fn is_plain(lo: f32, hi: f32) -> bool
-    ensures { result ≡ isPlainPair lo hi }
+    ensures { result ≡ is_plain_pair lo hi }
 {
     0.0000000000009094947 <= lo && hi <= 67108864.0
 }
 
 // Whether none of two squares is more than so many times the other.
 fn is_near(al: f32, ah: f32, cl: f32, ch: f32, times: f32) -> bool
-    ensures { result ≡ isComparable al ah cl ch times }
+    ensures { result ≡ is_comparable al ah cl ch times }
 {
     ah <= times * cl && ch <= times * al
 }
@@ -35,7 +35,7 @@ fn is_near(al: f32, ah: f32, cl: f32, ch: f32, times: f32) -> bool
 // The limit for edges whose ratio is at most 4, 16, 64 or 256: the more unlike they are, the larger is the cosine's
 // error by rounding.
 fn limit_at(al: f32, ah: f32, cl: f32, ch: f32, limit: f32) -> f32
-    ensures { result ≡ limitAt al ah cl ch limit }
+    ensures { result ≡ limit_at al ah cl ch limit }
 {
     if is_near(al, ah, cl, ch, 16.0) {
         return limit;
@@ -54,21 +54,21 @@ fn limit_at(al: f32, ah: f32, cl: f32, ch: f32, limit: f32) -> f32
 
 // Whether an edge is not the longest: its square is at most that of one of the others.
 fn is_short(al: f32, cl: f32, bh: f32) -> bool
-    ensures { result ≡ isShort al cl bh }
+    ensures { result ≡ is_short al cl bh }
 {
     bh <= al || bh <= cl
 }
 
 // Whether all three intervals are plain.
 pub fn are_plain(al: f32, ah: f32, cl: f32, ch: f32, bl: f32, bh: f32) -> bool
-    ensures { result ≡ arePlain al ah cl ch bl bh }
+    ensures { result ≡ are_plain al ah cl ch bl bh }
 {
     is_plain(al, ah) && (is_plain(cl, ch) && is_plain(bl, bh))
 }
 
 // Whether the cross product is small against the edges.
 fn is_small(al: f32, cl: f32, cross: f32, t: f32) -> bool
-    ensures { result ≡ isSmall al cl cross t }
+    ensures { result ≡ is_small al cl cross t }
 {
     0.00000095367432 <= t && cross <= t * (al * cl)
 }

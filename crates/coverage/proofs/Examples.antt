@@ -2,18 +2,18 @@
 use mathlib.Core.Path.{◌≡◌, refl}
 use mathlib.Core.List.{[], ◌∷◌}
 use lib.Dec.{eqb}
-use Rattle.coverage.specs.Coverage.{mark, marks, reachedMarks}
+use Rattle.coverage.specs.Coverage.{mark, marks, reached_marks}
 use Rattle.lists.specs.Lists.{count, any}
 
-two-of-four : reachedMarks (0 ∷ 2 ∷ 2 ∷ 4 ∷ []) 4 ≡ 1 ∷ 0 ∷ 1 ∷ 0 ∷ []
-unfolding mark marks reachedMarks any
-two-of-four = refl
+two_of_four : reached_marks (0 ∷ 2 ∷ 2 ∷ 4 ∷ []) 4 ≡ 1 ∷ 0 ∷ 1 ∷ 0 ∷ []
+unfolding mark marks reached_marks any
+two_of_four = refl
 
-counted-twice : count (eqb 1) (reachedMarks (0 ∷ 2 ∷ 2 ∷ 4 ∷ []) 4) ≡ 2
-unfolding mark marks reachedMarks any
-counted-twice = refl
+counted_twice : count (eqb 1) (reached_marks (0 ∷ 2 ∷ 2 ∷ 4 ∷ []) 4) ≡ 2
+unfolding mark marks reached_marks any
+counted_twice = refl
 
 -- no faces, and no points
-nothing : (reachedMarks [] 2 ≡ 0 ∷ 0 ∷ []) × (reachedMarks (0 ∷ []) 0 ≡ [])
-unfolding mark marks reachedMarks any
+nothing : (reached_marks [] 2 ≡ 0 ∷ 0 ∷ []) × (reached_marks (0 ∷ []) 0 ≡ [])
+unfolding mark marks reached_marks any
 nothing = (refl, refl)

@@ -9,70 +9,70 @@ use lib.Dec.{eqb, ltb}
 use lib.ListN.{length, set, get_or, take, replicate, length-set, length-replicate}
 use lib.Seq.{take-suc, take_all, set-get_or}
 use borrow.Author.Tests.{eq-eqb, ne_eqb}
-use Rattle.coverage.specs.Coverage.{mark, marks, reachedMarks}
+use Rattle.coverage.specs.Coverage.{mark, marks, reached_marks}
 use Rattle.lists.specs.Lists.{bit, count, any}
-use Rattle.lists.proofs.Counts.{count-append, true-any}
+use Rattle.lists.proofs.Counts.{count_append, true_any}
 
-mark-last : (xs : List ℕ) (p : ℕ) → mark (xs ++ (p ∷ [])) p ≡ 1
+mark_last : (xs : List ℕ) (p : ℕ) → mark (xs ++ (p ∷ [])) p ≡ 1
 unfolding mark
-mark-last xs p =
-    let e = count-append (eqb p) xs (p ∷ []) in
+mark_last xs p =
+    let e = count_append (eqb p) xs (p ∷ []) in
     let t : bit (eqb p p) ≡ 1 = ap bit (eq-eqb p p refl) in
-    ap bit (true-any (eqb p) (xs ++ (p ∷ [])) (omega arith))
+    ap bit (true_any (eqb p) (xs ++ (p ∷ [])) (omega arith))
 
-mark-other : (xs : List ℕ) (p q : ℕ) → (p ≡ q → ⊥) → mark (xs ++ (q ∷ [])) p ≡ mark xs p
+mark_other : (xs : List ℕ) (p q : ℕ) → (p ≡ q → ⊥) → mark (xs ++ (q ∷ [])) p ≡ mark xs p
 unfolding mark any
-mark-other xs p q h =
-    let e = count-append (eqb p) xs (q ∷ []) in
+mark_other xs p q h =
+    let e = count_append (eqb p) xs (q ∷ []) in
     let t : bit (eqb p q) ≡ 0 = ap bit (ne_eqb p q h) in
     let same : count (eqb p) (xs ++ (q ∷ [])) ≡ count (eqb p) xs = omega arith in
     ap (λ (k : ℕ). bit (ltb 0 k)) same
 
 -- a number below all points of the list marks none of them
-marks-before : (xs : List ℕ) (q p n : ℕ) → q < p → marks (xs ++ (q ∷ [])) p n ≡ marks xs p n
+marks_before : (xs : List ℕ) (q p n : ℕ) → q < p → marks (xs ++ (q ∷ [])) p n ≡ marks xs p n
 unfolding marks
-marks-before xs q p zero h = refl
-marks-before xs q p (suc n) h =
-    let rest = marks-before xs q (suc p) n (omega arith) in
-    let one = mark-other xs p q (λ (e : p ≡ q). omega arith) in
+marks_before xs q p zero h = refl
+marks_before xs q p (suc n) h =
+    let rest = marks_before xs q (suc p) n (omega arith) in
+    let one = mark_other xs p q (λ (e : p ≡ q). omega arith) in
     rw (one, rest)
 
-pub marks-set : (xs : List ℕ) (p n k : ℕ) → set (marks xs p n) k 1 ≡ marks (xs ++ ((p + k) ∷ [])) p n
+pub marks_set : (xs : List ℕ) (p n k : ℕ) → set (marks xs p n) k 1 ≡ marks (xs ++ ((p + k) ∷ [])) p n
 unfolding marks
-marks-set xs p zero k = refl
-marks-set xs p (suc n) zero =
+marks_set xs p zero k = refl
+marks_set xs p (suc n) zero =
     let e : p + 0 ≡ p = omega arith in
-    rw (e, mark-last xs p, marks-before xs p (suc p) n (omega arith))
-marks-set xs p (suc n) (suc k) =
+    rw (e, mark_last xs p, marks_before xs p (suc p) n (omega arith))
+marks_set xs p (suc n) (suc k) =
     let e : p + suc k ≡ suc p + k = omega arith in
-    let one = mark-other xs p (p + suc k) (λ (h : p ≡ p + suc k). omega arith) in
-    let rest = marks-set xs (suc p) n k in
+    let one = mark_other xs p (p + suc k) (λ (h : p ≡ p + suc k). omega arith) in
+    let rest = marks_set xs (suc p) n k in
     rw (one, rest, e)
 
-pub marks-none : (p n : ℕ) → replicate n 0 ≡ marks [] p n
+pub marks_none : (p n : ℕ) → replicate n 0 ≡ marks [] p n
 unfolding mark marks any
-marks-none p zero = refl
-marks-none p (suc n) = ap (λ (t : List ℕ). 0 ∷ t) (marks-none (suc p) n)
+marks_none p zero = refl
+marks_none p (suc n) = ap (λ (t : List ℕ). 0 ∷ t) (marks_none (suc p) n)
 
 pub count_none : (n : ℕ) → count (eqb 1) (replicate n 0) ≡ 0
 count_none zero = refl
 count_none (suc n) = let ih = count_none n in omega arith
 
 -- zeros are the marks where no number was seen yet
-pub reached-start : (n : ℕ) (w : List ℕ) → w ≡ replicate n 0 → (length w ≡ n) × (w ≡ reachedMarks [] (length w)) × (0 ≡ count (eqb 1) w)
-unfolding reachedMarks
-reached-start n w e =
+pub reached_start : (n : ℕ) (w : List ℕ) → w ≡ replicate n 0 → (length w ≡ n) × (w ≡ reached_marks [] (length w)) × (0 ≡ count (eqb 1) w)
+unfolding reached_marks
+reached_start n w e =
     let long = ap length e ∙ length-replicate n 0 in
-    (long, e ∙ marks-none 0 n ∙ ap (marks [] 0) (sym long), sym (ap (count (eqb 1)) e ∙ count_none n))
+    (long, e ∙ marks_none 0 n ∙ ap (marks [] 0) (sym long), sym (ap (count (eqb 1)) e ∙ count_none n))
 
 -- a store of 1 at the next number of the faces
-pub reached-step : (faces : List ℕ) (n i : ℕ) (w : List ℕ) → i < length faces → w ≡ reachedMarks (take i faces) n → set w (get_or faces i 0) 1
-    ≡ reachedMarks (take (i + 1) faces) n
-unfolding reachedMarks
-reached-step faces n i w l e =
+pub reached_step : (faces : List ℕ) (n i : ℕ) (w : List ℕ) → i < length faces → w ≡ reached_marks (take i faces) n → set w (get_or faces i 0) 1
+    ≡ reached_marks (take (i + 1) faces) n
+unfolding reached_marks
+reached_step faces n i w l e =
     let s : take (i + 1) faces ≡ take i faces ++ (get_or faces i 0 ∷ []) = ap (λ (k : ℕ). take k faces) (add-one i) ∙ take-suc faces i 0 l in
     let z : 0 + get_or faces i 0 ≡ get_or faces i 0 = omega arith in
-    ap (λ (t : List ℕ). set t (get_or faces i 0) 1) e ∙ marks-set (take i faces) 0 n (get_or faces i 0) ∙ ap
+    ap (λ (t : List ℕ). set t (get_or faces i 0) 1) e ∙ marks_set (take i faces) 0 n (get_or faces i 0) ∙ ap
     (λ (k : ℕ). marks (take i faces ++ (k ∷ [])) 0 n) z ∙ ap (λ (t : List ℕ). marks t 0 n) (sym s)
 
 -- a store at an entry that is not 1 makes one more; elsewhere it changes nothing
@@ -83,12 +83,12 @@ set_new (x ∷ w) zero l h =
     omega arith
 set_new (x ∷ w) (suc k) l h = let ih = set_new w k (le_of_suc-le-suc l) h in omega arith
 
-pub set-old : (w : List ℕ) (k : ℕ) → get_or w k 0 ≡ 1 → set w k 1 ≡ w
-set-old w k h = ap (λ (y : ℕ). set w k y) (sym h) ∙ set-get_or w k 0
+pub set_old : (w : List ℕ) (k : ℕ) → get_or w k 0 ≡ 1 → set w k 1 ≡ w
+set_old w k h = ap (λ (y : ℕ). set w k y) (sym h) ∙ set-get_or w k 0
 
-pub set-length : (w u : List ℕ) (k : ℕ) → u ≡ set w k 1 → length u ≡ length w
-set-length w u k e = ap length e ∙ length-set w k 1
+pub set_length : (w u : List ℕ) (k : ℕ) → u ≡ set w k 1 → length u ≡ length w
+set_length w u k e = ap length e ∙ length-set w k 1
 
 -- once all numbers were seen
-pub reached-end : (faces : List ℕ) (n m i : ℕ) (w : List ℕ) → length faces ≤ i → m ≡ n → w ≡ reachedMarks (take i faces) m → w ≡ reachedMarks faces n
-reached-end faces n m i w l e h = h ∙ ap (λ (f : List ℕ). reachedMarks f m) (take_all i faces l) ∙ ap (reachedMarks faces) e
+pub reached_end : (faces : List ℕ) (n m i : ℕ) (w : List ℕ) → length faces ≤ i → m ≡ n → w ≡ reached_marks (take i faces) m → w ≡ reached_marks faces n
+reached_end faces n m i w l e h = h ∙ ap (λ (f : List ℕ). reached_marks f m) (take_all i faces l) ∙ ap (reached_marks faces) e

@@ -13,11 +13,11 @@ marks faces p zero = []
 marks faces p (suc n) = mark faces p ∷ marks faces (suc p) n
 
 -- the marks of a cloud of n points
-unfoldable pub reachedMarks : List ℕ → ℕ → List ℕ
-reachedMarks faces n = marks faces 0 n
+unfoldable pub reached_marks : List ℕ → ℕ → List ℕ
+reached_marks faces n = marks faces 0 n
 
 -- what the call leaves and answers: a mark for each point that the slice has an entry for, and how many are 1; a number
 -- beyond the entries marks none
 pub record Marked (faces before : List ℕ) (answer : ℕ) (after : List ℕ) : Type 0 where
-  pub marked : after ≡ reachedMarks faces (length before)
-  pub counted : answer ≡ count (eqb 1) (reachedMarks faces (length before))
+  pub marked : after ≡ reached_marks faces (length before)
+  pub counted : answer ≡ count (eqb 1) (reached_marks faces (length before))

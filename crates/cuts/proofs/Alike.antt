@@ -4,59 +4,59 @@ use native.Mathlib.Omega.{arith}
 use lib.ListN.{length, get_or}
 use lib.Ieee.{Float, nan}
 use Rattle.numbers.specs.Rounded.{f32}
-use Rattle.ranges.specs.Range.{percentileInside}
-use Rattle.domain.proofs.Accepted.{accepted-estimate, accepted-reconstruct}
+use Rattle.ranges.specs.Range.{percentile_inside}
+use Rattle.domain.proofs.Accepted.{accepted_estimate, accepted_reconstruct}
 use Rattle.sorting.specs.Sorted.{sorted}
-use Rattle.radii.specs.Radii.{step_of, sampleCount}
+use Rattle.radii.specs.Radii.{step_of, sample_count}
 use Rattle.estimate.specs.Estimate as estimate
-use Rattle.ball_pivoting.specs.Reconstruct.{pointCount, spatialIndexOf, radiiOf}
-use Rattle.total_order.specs.TotalOrder.{densitiesOf, samplesOf}
+use Rattle.ball_pivoting.specs.Reconstruct.{point_count, spatial_index_of, radii_of}
+use Rattle.total_order.specs.TotalOrder.{densities_of, samples_of}
 use Rattle.cuts.specs.Cuts.{CutsSame, EstimateCutsSame}
-use Rattle.cuts.proofs.Cells.{within-range, cells_same, middles-same}
-use Rattle.cuts.proofs.Ranges.{ranges-same, sample-range-same}
-use Rattle.cuts.proofs.Places.{place_same, sorted-length, densities-most, samples-most, samples-few}
+use Rattle.cuts.proofs.Cells.{within_range_lem, cells_same, middles_same}
+use Rattle.cuts.proofs.Ranges.{ranges_same, sample_range_same}
+use Rattle.cuts.proofs.Places.{place_same, sorted_length, densities_most, samples_most, samples_few}
 
-pub cuts-alike : CutsSame
-unfolding spatialIndexOf radiiOf
-cuts-alike points normals c words floats e given f32s =
-    let a = accepted-reconstruct points normals c words floats e in
-    let n : ℕ = pointCount points in
-    let g = spatialIndexOf c points in
+pub cuts_alike : CutsSame
+unfolding spatial_index_of radii_of
+cuts_alike points normals c words floats e given f32s =
+    let a = accepted_reconstruct points normals c words floats e in
+    let n : ℕ = point_count points in
+    let g = spatial_index_of c points in
     record {
       cells = λ i l. cells_same c points n a.cloud a.settled i l;
-      middles = λ i j l m. middles-same c points n a.cloud a.settled f32s i j l m;
-      ranges = ranges-same c points n a.cloud a.settled given g;
-      sample-range = sample-range-same c points n a.cloud a.settled given g;
+      middles = λ i j l m. middles_same c points n a.cloud a.settled f32s i j l m;
+      ranges = ranges_same c points n a.cloud a.settled given g;
+      sample_range = sample_range_same c points n a.cloud a.settled given g;
       places = λ some k l.
           let p : Float = get_or c.adaptive_percentiles k nan in
-          let r = within-range (f32 0) (f32 0x3f800000) p (a.settled.percentiles.each k l) in
-          place_same (length (sorted (densitiesOf c points))) p
-          (omega (arith, sorted-length (densitiesOf c points)))
+          let r = within_range_lem (f32 0) (f32 0x3f800000) p (a.settled.percentiles.each k l) in
+          place_same (length (sorted (densities_of c points))) p
+          (omega (arith, sorted_length (densities_of c points)))
           (omega (
             arith,
-            sorted-length (densitiesOf c points),
-            densities-most c g points n (step_of n) 0
-                (sampleCount n),
-            samples-few n (step_of n) a.cloud.some,
+            sorted_length (densities_of c points),
+            densities_most c g points n (step_of n) 0
+                (sample_count n),
+            samples_few n (step_of n) a.cloud.some,
             a.cloud.few,
           ))
           r.0 r.1;
     }
 
-pub estimate-cuts-alike : EstimateCutsSame
-unfolding percentileInside
-estimate-cuts-alike points p words floats e some =
-    let a = accepted-estimate points p words floats e in
-    let n : ℕ = pointCount points in
-    let r = within-range (f32 0) (f32 0x3f800000) p a.percentile-inside in
-    place_same (length (sorted (samplesOf points))) p
-    (omega (arith, sorted-length (samplesOf points)))
+pub estimate_cuts_alike : EstimateCutsSame
+unfolding percentile_inside
+estimate_cuts_alike points p words floats e some =
+    let a = accepted_estimate points p words floats e in
+    let n : ℕ = point_count points in
+    let r = within_range_lem (f32 0) (f32 0x3f800000) p a.percentile_inside_lem in
+    place_same (length (sorted (samples_of points))) p
+    (omega (arith, sorted_length (samples_of points)))
     (omega (
       arith,
-      sorted-length (samplesOf points),
-      samples-most points n (estimate.estimateStep n) 0
-          (estimate.estimateSamples n),
-      samples-few n (estimate.estimateStep n) a.cloud.some,
+      sorted_length (samples_of points),
+      samples_most points n (estimate.estimate_step n) 0
+          (estimate.estimate_samples n),
+      samples_few n (estimate.estimate_step n) a.cloud.some,
       a.cloud.few,
     ))
     r.0 r.1

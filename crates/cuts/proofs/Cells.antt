@@ -16,23 +16,23 @@ use lib.Ieee.Positive.{positive, between, mul_mono}
 use Rattle.numbers.specs.Rounded.{f32, ◌⊕◌, ◌⊖◌, ◌⊗◌, ◌⊘◌}
 use Rattle.numbers.specs.Cut.{cut, ceil}
 use Rattle.numbers.specs.Inner.Bounds.{unsigned, Bounded}
-use Rattle.numbers.proofs.OrderLaws.{unsigned-le, le_trans, le-top, le_left}
-use Rattle.numbers.proofs.SumOrder.{sub-nonnegative}
-use Rattle.numbers.proofs.QuotientOrder.{div-monotone, div-unsigned, div-antitone}
-use Rattle.numbers.proofs.CutOrder.{cut-monotone}
-use Rattle.cutting.proofs.CutTypes.{signed_cut, ceil-unsigned, ceil-most}
-use Rattle.numbers.proofs.Bounded.{bounded-finite, sub-bounded}
+use Rattle.numbers.proofs.OrderLaws.{unsigned_le, le_trans, le_top, le_left}
+use Rattle.numbers.proofs.SumOrder.{sub_nonnegative}
+use Rattle.numbers.proofs.QuotientOrder.{div_monotone, div_unsigned, div_antitone}
+use Rattle.numbers.proofs.CutOrder.{cut_monotone}
+use Rattle.cutting.proofs.CutTypes.{signed_cut, ceil_unsigned, ceil_most}
+use Rattle.numbers.proofs.Bounded.{bounded_finite, sub_bounded}
 use Rattle.ranges.specs.Range.{inside, farthest}
 use Rattle.lists.proofs.Bools.{and_both}
 use Rattle.settings.specs.Inner.Settled.{Settled}
 use Rattle.settings.specs.declared.BallPivotingConfig.{BallPivotingConfig}
 use Rattle.domain.specs.Inner.Accepted.{Cloud}
-use Rattle.points.specs.Points.{pointAt}
-use Rattle.grid.specs.Grid.{leastFrom, boundsMin, gridOf, cellOn, range_of}
+use Rattle.points.specs.Points.{point_at}
+use Rattle.grid.specs.Grid.{least_from, bounds_min, grid_of, cell_on, range_of}
 use Rattle.decisions.specs.Decisions.{halfway, middle}
 use Rattle.cuts.specs.Cuts.{SameOn, SameCell, SameRange}
-use Rattle.cuts.proofs.Least.{least-keeps, least-below}
-use Rattle.cuts.proofs.Middle.{middle-bounded, middle-least}
+use Rattle.cuts.proofs.Least.{least_keeps, least_below}
+use Rattle.cuts.proofs.Middle.{middle_bounded, middle_least_lem}
 
 -- 0.001 × 0.5 and 1,000 × 16: the least and the greatest cell; 262,144
 abbrev narrowest : Float
@@ -41,51 +41,51 @@ narrowest = f32 0x3a83126f ⊗ f32 0x3f000000
 abbrev widest : Float
 widest = f32 0x447a0000 ⊗ f32 0x41800000
 
-abbrev pub farRadius : Float
-farRadius = f32 0x48800000
+abbrev pub far_radius : Float
+far_radius = f32 0x48800000
 
 abbrev across : Float
 across = farthest ⊕ farthest
 
 -- ---- what computes
-narrowest-positive : T (positive narrowest)
+narrowest_positive : T (positive narrowest)
 unfolding count_trailing_zeros span climb size odd units round mul of_fields of_bits
-narrowest-positive = tt
+narrowest_positive = tt
 
-widest-positive : T (positive widest)
+widest_positive : T (positive widest)
 unfolding count_trailing_zeros span climb size odd units round mul of_fields of_bits
-widest-positive = tt
+widest_positive = tt
 
-across-finite : T (finite across)
+across_finite : T (finite across)
 unfolding count_trailing_zeros span climb size odd units round sum add of_fields of_bits
-across-finite = tt
+across_finite = tt
 
-across-unsigned : T (unsigned across)
+across_unsigned : T (unsigned across)
 unfolding count_trailing_zeros span climb size odd units round sum add of_fields of_bits
-across-unsigned = tt
+across_unsigned = tt
 
-most-cells : cut (across ⊘ narrowest) ≤ 40000000
+most_cells : cut (across ⊘ narrowest) ≤ 40000000
 unfolding count_trailing_zeros span climb size odd units round sum add mul div of_fields of_bits to_unsigned
-most-cells = leb→le (cut (across ⊘ narrowest)) 40000000 tt
+most_cells = leb→le (cut (across ⊘ narrowest)) 40000000 tt
 
-most-range : cut (farRadius ⊘ narrowest) + 1 ≤ 600000000
+most_range : cut (far_radius ⊘ narrowest) + 1 ≤ 600000000
 unfolding count_trailing_zeros span climb size odd units round mul div of_fields of_bits to_unsigned
-most-range = leb→le (cut (farRadius ⊘ narrowest) + 1) 600000000 tt
+most_range = leb→le (cut (far_radius ⊘ narrowest) + 1) 600000000 tt
 
 -- ---- the size of a cell
-pub within-range : (lo hi x : Float) → inside lo hi x ≡ true → T (le lo x) × T (le x hi)
+pub within_range_lem : (lo hi x : Float) → inside lo hi x ≡ true → T (le lo x) × T (le x hi)
 unfolding inside
-within-range lo hi x e = let b = and_both {p = le lo x} {q = le x hi} e in (subst T (sym b.0) tt, subst T (sym b.1) tt)
+within_range_lem lo hi x e = let b = and_both {p = le lo x} {q = le x hi} e in (subst T (sym b.0) tt, subst T (sym b.1) tt)
 
 pub record Sound (size : Float) : Type 0 where
   pub above : T (positive size)
   pub wide : T (le narrowest size)
 
-pub size-sound : (c : BallPivotingConfig) → Settled c → Sound (c.radius ⊗ c.spatial_cell_factor)
+pub size_sound : (c : BallPivotingConfig) → Settled c → Sound (c.radius ⊗ c.spatial_cell_factor)
 unfolding of_bits
-size-sound c s =
-    let r = within-range (f32 0x3a83126f) (f32 0x447a0000) c.radius s.main in
-    let f = within-range (f32 0x3f000000) (f32 0x41800000) c.spatial_cell_factor s.cell in
+size_sound c s =
+    let r = within_range_lem (f32 0x3a83126f) (f32 0x447a0000) c.radius s.main in
+    let f = within_range_lem (f32 0x3f000000) (f32 0x41800000) c.spatial_cell_factor s.cell in
     let pr = between (f32 0x3a83126f) c.radius (f32 0x447a0000) tt tt r.0 r.1 in
     let pf = between (f32 0x3f000000) c.spatial_cell_factor (f32 0x41800000) tt tt f.0 f.1 in
     let low = mul_mono binary32 (f32 0x3a83126f) c.radius (f32 0x3f000000) c.spatial_cell_factor tt pr tt pf
@@ -94,124 +94,124 @@ size-sound c s =
     r.1 f.1 in
     record {
       above = between narrowest
-          (c.radius ⊗ c.spatial_cell_factor) widest narrowest-positive widest-positive low high;
+          (c.radius ⊗ c.spatial_cell_factor) widest narrowest_positive widest_positive low high;
       wide = low;
     }
 
 -- ---- one coordinate
-pub same-on : (size least v : Float) → Sound size → Bounded v farthest → Bounded least farthest → T (le least v)
+pub same_on : (size least v : Float) → Sound size → Bounded v farthest → Bounded least farthest → T (le least v)
     → SameOn size least v
-unfolding cellOn of_bits
-same-on size least v s bv bl h =
-    let fv = bounded-finite v farthest tt bv in
-    let fl = bounded-finite least farthest tt bl in
+unfolding cell_on of_bits
+same_on size least v s bv bl h =
+    let fv = bounded_finite v farthest tt bv in
+    let fl = bounded_finite least farthest tt bl in
     let x : Float = v ⊖ least in
     let q : Float = x ⊘ size in
     let low : T (le (f32 0) q) =
-    le_trans (f32 0) (f32 0 ⊘ size) q (unsigned-le (f32 0 ⊘ size) (div-unsigned (f32 0) size tt tt s.above))
-    (div-monotone (f32 0) x size s.above (sub-nonnegative v least fv fl h)) in
+    le_trans (f32 0) (f32 0 ⊘ size) q (unsigned_le (f32 0 ⊘ size) (div_unsigned (f32 0) size tt tt s.above))
+    (div_monotone (f32 0) x size s.above (sub_nonnegative v least fv fl h)) in
     let high : T (le q (across ⊘ narrowest)) =
     le_trans q (across ⊘ size) (across ⊘ narrowest)
-    (div-monotone x across size s.above (sub-bounded v least farthest farthest tt tt bv bl).upper)
-    (div-antitone across narrowest size across-finite across-unsigned narrowest-positive s.above s.wide) in
-    let most : cut q ≤ 40000000 = omega (arith, cut-monotone q (across ⊘ narrowest) high, most-cells) in
+    (div_monotone x across size s.above (sub_bounded v least farthest farthest tt tt bv bl).upper)
+    (div_antitone across narrowest size across_finite across_unsigned narrowest_positive s.above s.wide) in
+    let most : cut q ≤ 40000000 = omega (arith, cut_monotone q (across ⊘ narrowest) high, most_cells) in
     record { same = signed_cut q low (omega arith); most = most }
 
 -- ---- a radius
-pub same-range : (c : BallPivotingConfig) (points : List Float) (n : ℕ) (r : Float) → Settled c → T (unsigned r)
-    → T (le r farRadius) → SameRange (gridOf (c.radius ⊗ c.spatial_cell_factor) points n) r
+pub same_range : (c : BallPivotingConfig) (points : List Float) (n : ℕ) (r : Float) → Settled c → T (unsigned r)
+    → T (le r far_radius) → SameRange (grid_of (c.radius ⊗ c.spatial_cell_factor) points n) r
 unfolding range_of of_bits le neg
-same-range c points n r settled u h =
-    let s = size-sound c settled in
+same_range c points n r settled u h =
+    let s = size_sound c settled in
     let cell : Float = c.radius ⊗ c.spatial_cell_factor in
-    let fr = bounded-finite r farRadius tt
-    (record { upper = h; lower = le_trans (neg farRadius) (f32 0) r tt (unsigned-le r u) }) in
+    let fr = bounded_finite r far_radius tt
+    (record { upper = h; lower = le_trans (neg far_radius) (f32 0) r tt (unsigned_le r u) }) in
     let q : Float = r ⊘ cell in
-    let uq = div-unsigned r cell fr u s.above in
-    let high : T (le q (farRadius ⊘ narrowest)) =
-    le_trans q (farRadius ⊘ cell) (farRadius ⊘ narrowest) (div-monotone r farRadius cell s.above h)
-    (div-antitone farRadius narrowest cell tt tt narrowest-positive s.above s.wide) in
+    let uq = div_unsigned r cell fr u s.above in
+    let high : T (le q (far_radius ⊘ narrowest)) =
+    le_trans q (far_radius ⊘ cell) (far_radius ⊘ narrowest) (div_monotone r far_radius cell s.above h)
+    (div_antitone far_radius narrowest cell tt tt narrowest_positive s.above s.wide) in
     let most : cut (ceil q) ≤ 600000000 =
-    omega (arith, ceil-most q (div-fits binary32 r cell), cut-monotone q (farRadius ⊘ narrowest) high, most-range) in
-    record { same = signed_cut (ceil q) (unsigned-le (ceil q) (ceil-unsigned q uq)) (omega arith); most = most }
+    omega (arith, ceil_most q (div-fits binary32 r cell), cut_monotone q (far_radius ⊘ narrowest) high, most_range) in
+    record { same = signed_cut (ceil q) (unsigned_le (ceil q) (ceil_unsigned q uq)) (omega arith); most = most }
 
 -- ---- a cloud
 module _ (c : BallPivotingConfig) (points : List Float) (n : ℕ) (cloud : Cloud n points) (settled : Settled c) where
-  cell-size : Sound (c.radius ⊗ c.spatial_cell_factor)
-  cell-size = size-sound c settled
+  cell_size : Sound (c.radius ⊗ c.spatial_cell_factor)
+  cell_size = size_sound c settled
 
   module _ (at : ℕ) (axis : at < 3) where
     coordinate : (i : ℕ) → i < n → Bounded (get_or points (at + 3 * i) nan) farthest
     coordinate i l =
-        let b = within-range (neg farthest) farthest (get_or points (at + 3 * i) nan)
+        let b = within_range_lem (neg farthest) farthest (get_or points (at + 3 * i) nan)
         (cloud.near (at + 3 * i) (omega (arith, cloud.threes))) in
         record { upper = b.1; lower = b.0 }
 
-    a-number : (i : ℕ) → i < n → T (not (is_nan (get_or points (at + 3 * i) nan)))
-    a-number i l = le_left _ farthest (coordinate i l).upper
+    a_number : (i : ℕ) → i < n → T (not (is_nan (get_or points (at + 3 * i) nan)))
+    a_number i l = le_left _ farthest (coordinate i l).upper
 
-    below : (i : ℕ) → i < n → T (le (leastFrom points (inf false) at n) (get_or points (at + 3 * i) nan))
+    below : (i : ℕ) → i < n → T (le (least_from points (inf false) at n) (get_or points (at + 3 * i) nan))
     unfolding is_nan
-    below i l = least-below points n (inf false) at tt a-number i l
+    below i l = least_below points n (inf false) at tt a_number i l
 
-    least-bounded : Bounded (leastFrom points (inf false) at n) farthest
+    least_bounded : Bounded (least_from points (inf false) at n) farthest
     unfolding neg of_bits is_nan
-    least-bounded = record {
+    least_bounded = record {
       upper =
           le_trans _ (get_or points (at + 3 * 0) nan) farthest (below 0 cloud.some)
           (coordinate 0 cloud.some).upper;
       lower =
-          least-keeps points (λ (x : Float). T (le (neg farthest) x)) n (inf false) at (le-top (neg farthest) tt)
+          least_keeps points (λ (x : Float). T (le (neg farthest) x)) n (inf false) at (le_top (neg farthest) tt)
           (λ i l. (coordinate i l).lower);
     }
 
-    point-on : (i : ℕ) → i < n
-        → SameOn (c.radius ⊗ c.spatial_cell_factor) (leastFrom points (inf false) at n)
+    point_on : (i : ℕ) → i < n
+        → SameOn (c.radius ⊗ c.spatial_cell_factor) (least_from points (inf false) at n)
         (get_or points (at + 3 * i) nan)
-    point-on i l = same-on _ _ _ cell-size (coordinate i l) least-bounded (below i l)
+    point_on i l = same_on _ _ _ cell_size (coordinate i l) least_bounded (below i l)
 
     module _ (f32s : (k : ℕ) → k < length points → T (fits binary32 (get_or points k nan))) where
-      least_fits : T (fits binary32 (leastFrom points (inf false) at n))
+      least_fits : T (fits binary32 (least_from points (inf false) at n))
       least_fits =
-          least-keeps points (λ (x : Float). T (fits binary32 x)) n (inf false) at (inf-fits binary32 false)
+          least_keeps points (λ (x : Float). T (fits binary32 x)) n (inf false) at (inf-fits binary32 false)
           (λ i l. f32s (at + 3 * i) (omega (arith, cloud.threes)))
 
-      middle-on : (i j : ℕ) → i < n → j < n
-          → SameOn (c.radius ⊗ c.spatial_cell_factor) (leastFrom points (inf false) at n)
+      middle_on : (i j : ℕ) → i < n → j < n
+          → SameOn (c.radius ⊗ c.spatial_cell_factor) (least_from points (inf false) at n)
           (halfway (get_or points (at + 3 * i) nan) (get_or points (at + 3 * j) nan))
-      middle-on i j l m =
-          same-on _ _ _ cell-size (middle-bounded _ _ (coordinate i l) (coordinate j m)) least-bounded
-          (middle-least _ _ _ least_fits least-bounded (coordinate i l) (coordinate j m) (below i l) (below j m))
+      middle_on i j l m =
+          same_on _ _ _ cell_size (middle_bounded _ _ (coordinate i l) (coordinate j m)) least_bounded
+          (middle_least_lem _ _ _ least_fits least_bounded (coordinate i l) (coordinate j m) (below i l) (below j m))
 
   -- every point's cell
   pub cells_same : (i : ℕ) → i < n
-      → SameCell (gridOf (c.radius ⊗ c.spatial_cell_factor) points n) (pointAt points i)
-  unfolding boundsMin pointAt
+      → SameCell (grid_of (c.radius ⊗ c.spatial_cell_factor) points n) (point_at points i)
+  unfolding bounds_min point_at
   cells_same i l = record {
-    on-x = at 0 (3 * i) (omega arith) (point-on 0 (omega arith) i l);
-    on-y = at 1 (3 * i + 1) (omega arith) (point-on 1 (omega arith) i l);
-    on-z = at 2 (3 * i + 2) (omega arith) (point-on 2 (omega arith) i l);
+    on_x = at 0 (3 * i) (omega arith) (point_on 0 (omega arith) i l);
+    on_y = at 1 (3 * i + 1) (omega arith) (point_on 1 (omega arith) i l);
+    on_z = at 2 (3 * i + 2) (omega arith) (point_on 2 (omega arith) i l);
   }
     where
       at : (k a : ℕ) → k + 3 * i ≡ a
-          → SameOn (c.radius ⊗ c.spatial_cell_factor) (leastFrom points (inf false) k n)
+          → SameOn (c.radius ⊗ c.spatial_cell_factor) (least_from points (inf false) k n)
           (get_or points (k + 3 * i) nan)
-          → SameOn (c.radius ⊗ c.spatial_cell_factor) (leastFrom points (inf false) k n) (get_or points a nan)
+          → SameOn (c.radius ⊗ c.spatial_cell_factor) (least_from points (inf false) k n) (get_or points a nan)
       at k a e h = rw e at h
 
   -- and that of the middle of two points, where the coordinates are f32
-  pub middles-same : ((k : ℕ) → k < length points → T (fits binary32 (get_or points k nan))) → (i j : ℕ) → i < n → j < n
-      → SameCell (gridOf (c.radius ⊗ c.spatial_cell_factor) points n) (middle (pointAt points i) (pointAt points j))
-  unfolding boundsMin pointAt middle
-  middles-same f i j l m = record {
-    on-x = at 0 (3 * i) (3 * j) (omega arith) (omega arith) (middle-on 0 (omega arith) f i j l m);
-    on-y = at 1 (3 * i + 1) (3 * j + 1) (omega arith) (omega arith) (middle-on 1 (omega arith) f i j l m);
-    on-z = at 2 (3 * i + 2) (3 * j + 2) (omega arith) (omega arith) (middle-on 2 (omega arith) f i j l m);
+  pub middles_same : ((k : ℕ) → k < length points → T (fits binary32 (get_or points k nan))) → (i j : ℕ) → i < n → j < n
+      → SameCell (grid_of (c.radius ⊗ c.spatial_cell_factor) points n) (middle (point_at points i) (point_at points j))
+  unfolding bounds_min point_at middle
+  middles_same f i j l m = record {
+    on_x = at 0 (3 * i) (3 * j) (omega arith) (omega arith) (middle_on 0 (omega arith) f i j l m);
+    on_y = at 1 (3 * i + 1) (3 * j + 1) (omega arith) (omega arith) (middle_on 1 (omega arith) f i j l m);
+    on_z = at 2 (3 * i + 2) (3 * j + 2) (omega arith) (omega arith) (middle_on 2 (omega arith) f i j l m);
   }
     where
       at : (k a b : ℕ) → k + 3 * i ≡ a → k + 3 * j ≡ b
-          → SameOn (c.radius ⊗ c.spatial_cell_factor) (leastFrom points (inf false) k n)
+          → SameOn (c.radius ⊗ c.spatial_cell_factor) (least_from points (inf false) k n)
           (halfway (get_or points (k + 3 * i) nan) (get_or points (k + 3 * j) nan))
-          → SameOn (c.radius ⊗ c.spatial_cell_factor) (leastFrom points (inf false) k n)
+          → SameOn (c.radius ⊗ c.spatial_cell_factor) (least_from points (inf false) k n)
           (halfway (get_or points a nan) (get_or points b nan))
       at k a b e g h = rw (e, g) at h

@@ -17,12 +17,12 @@ use lib.Ieee.Scale.{finite, round_same}
 use Rattle.numbers.specs.Rounded.{f32, ◌⊕◌, ◌⊗◌}
 use Rattle.numbers.proofs.OrderLaws.{le→side}
 use Rattle.numbers.proofs.OrderLaws as order
-use Rattle.numbers.proofs.RoundedOrder.{above, under, rounds-le, rounds-own}
-use Rattle.numbers.proofs.SumOrder.{add-monotone}
-use Rattle.numbers.proofs.ProductOrder.{mul-monotone-finite}
+use Rattle.numbers.proofs.RoundedOrder.{above, under, rounds_le, rounds_own}
+use Rattle.numbers.proofs.SumOrder.{add_monotone}
+use Rattle.numbers.proofs.ProductOrder.{mul_monotone_finite}
 use Rattle.numbers.specs.Inner.Bounds.{Bounded}
-use Rattle.numbers.proofs.Bounded.{bounded-finite, add-bounded, mul-bounded}
-use Rattle.numbers.proofs.RootGrid.{f32-whole}
+use Rattle.numbers.proofs.Bounded.{bounded_finite, add_bounded, mul_bounded}
+use Rattle.numbers.proofs.RootGrid.{f32_whole}
 use Rattle.ranges.specs.Range.{farthest}
 use Rattle.decisions.specs.Decisions.{halfway}
 
@@ -37,39 +37,39 @@ halved s m e nan f v = absurd v
 halved s m e (inf t) f v = absurd v
 halved true m e (fin true n d) f v =
     let a : n * up d * (1 * 1) ≡ 0 + n * up d * (1 * 1) = omega arith in
-    rounds-le (down_pos e) (mul-pos (down_pos d) (pow_pos 1)) (rounds-own (fin true m e) f tt)
+    rounds_le (down_pos e) (mul-pos (down_pos d) (pow_pos 1)) (rounds_own (fin true m e) f tt)
     (under {p = 0} (n * up d * (1 * 1)) a refl) (omega (arith, v.1))
 halved false m e (fin false n d) f v =
     let a : n * up d * (1 * 1) ≡ 0 + n * up d * (1 * 1) = omega arith in
-    rounds-le (down_pos e) (mul-pos (down_pos d) (pow_pos 1)) (rounds-own (fin false m e) f tt)
+    rounds_le (down_pos e) (mul-pos (down_pos d) (pow_pos 1)) (rounds_own (fin false m e) f tt)
     (above {n = 0} (n * up d * (1 * 1)) a refl) (omega (arith, v.1))
 halved true m e (fin false n d) f v = absurd (true≢false (sym v.0))
 halved false m e (fin true n d) f v = absurd (true≢false v.0)
 
 -- ---- twice a number
-doubled-is : (s : Bool) (m : ℕ) (e : ℤ)
+doubled_is : (s : Bool) (m : ℕ) (e : ℤ)
     → fin s m e ⊕ fin s m e ≡ round binary32 s (m * up e * down e + m * up e * down e) (down e * down e)
 unfolding add sum
-doubled-is true m e = refl
-doubled-is false m e = refl
+doubled_is true m e = refl
+doubled_is false m e = refl
 
 twice : (x d : ℕ) → (x * d + x * d) * d ≡ 2 * x * (d * d)
 twice x d = omega arith
 
 -- at most 10,000 in size
-few-units : (s : Bool) (m : ℕ) (e : ℤ) → Bounded (fin s m e) farthest → m * up e ≤ 10000 * down e
+few_units : (s : Bool) (m : ℕ) (e : ℤ) → Bounded (fin s m e) farthest → m * up e ≤ 10000 * down e
 unfolding of_bits neg
-few-units true m e b = omega (arith, le→side (neg farthest) (fin true m e) tt tt b.lower)
-few-units false m e b = omega (arith, le→side (fin false m e) farthest tt tt b.upper)
+few_units true m e b = omega (arith, le→side (neg farthest) (fin true m e) tt tt b.lower)
+few_units false m e b = omega (arith, le→side (fin false m e) farthest tt tt b.upper)
 
 doubled : (s : Bool) (m : ℕ) (e : ℤ) → T (fits binary32 (fin s m e)) → Bounded (fin s m e) farthest
     → HasValue (fin s m e ⊕ fin s m e) s (2 * (m * up e)) (down e)
 doubled s m e f b =
-    let w = f32-whole s m e f in
+    let w = f32_whole s m e f in
     let g = w.2 in
     let d : ℕ = down e in
     let is : fin s m e ⊕ fin s m e ≡ round binary32 s (2 * (m * up e)) d =
-    doubled-is s m e
+    doubled_is s m e
     ∙ round_same binary32 s (m * up e * d + m * up e * d) (d * d) (2 * (m * up e)) d
     (mul-pos (down_pos e) (down_pos e)) (down_pos e) (twice (m * up e) d) in
     let next : 2 ^ suc g.j ≡ 2 ^ g.j * 2 = pow-suc 2 g.j in
@@ -78,7 +78,7 @@ doubled s m e f b =
     go (m * up e) d w.0 (2 ^ 149) w.1.1 ∙ ap (λ (k : ℕ). k * d) (sym whole) in
     let most : w.0 ≤ 10000 * 2 ^ 149 =
     le_of_mul-le-mul_right {k = d}
-    (few (m * up e) d w.0 (2 ^ 149) w.1.1 (mul-le-mul_right (2 ^ 149) (few-units s m e b))) (down_pos e) in
+    (few (m * up e) d w.0 (2 ^ 149) w.1.1 (mul-le-mul_right (2 ^ 149) (few_units s m e b))) (down_pos e) in
     let small : g.q * 2 ^ suc g.j < 2 ^ 277 =
     subst (λ (k : ℕ). k < 2 ^ 277) (sym whole)
     (bound w.0 (2 ^ 149) (2 ^ 277) most (ltb→lt (2 * (10000 * 2 ^ 149)) (2 ^ 277) tt)) in
@@ -96,33 +96,33 @@ doubled s m e f b =
 
 twice_half : (l : Float) → T (fits binary32 l) → Bounded l farthest → T (le l ((l ⊕ l) ⊗ half))
 unfolding of_bits
-twice_half nan f b = absurd (bounded-finite nan farthest tt b)
-twice_half (inf s) f b = absurd (bounded-finite (inf s) farthest tt b)
+twice_half nan f b = absurd (bounded_finite nan farthest tt b)
+twice_half (inf s) f b = absurd (bounded_finite (inf s) farthest tt b)
 twice_half (fin s m e) f b = halved s m e (fin s m e ⊕ fin s m e) f (doubled s m e f b)
 
 -- ---- the middle
-top-finite : T (finite (farthest ⊕ farthest))
+top_finite : T (finite (farthest ⊕ farthest))
 unfolding count_trailing_zeros span climb size odd units round sum add of_fields of_bits
-top-finite = tt
+top_finite = tt
 
 module _ (x y : Float) (bx : Bounded x farthest) (by : Bounded y farthest) where
-  sum-finite : T (finite (x ⊕ y))
+  sum_finite : T (finite (x ⊕ y))
   unfolding of_bits
-  sum-finite = bounded-finite (x ⊕ y) (farthest ⊕ farthest) top-finite (add-bounded x y farthest farthest tt tt bx by)
+  sum_finite = bounded_finite (x ⊕ y) (farthest ⊕ farthest) top_finite (add_bounded x y farthest farthest tt tt bx by)
 
-  pub middle-bounded : Bounded (halfway x y) farthest
+  pub middle_bounded : Bounded (halfway x y) farthest
   unfolding count_trailing_zeros span climb size odd units round neg sum add mul le of_fields of_bits
-  middle-bounded =
-      mul-bounded (x ⊕ y) half (farthest ⊕ farthest) half top-finite tt tt tt
-      (add-bounded x y farthest farthest tt tt bx by) (record { upper = tt; lower = tt })
+  middle_bounded =
+      mul_bounded (x ⊕ y) half (farthest ⊕ farthest) half top_finite tt tt tt
+      (add_bounded x y farthest farthest tt tt bx by) (record { upper = tt; lower = tt })
 
-pub middle-least : (l x y : Float) → T (fits binary32 l) → Bounded l farthest → Bounded x farthest → Bounded y farthest
+pub middle_least_lem : (l x y : Float) → T (fits binary32 l) → Bounded l farthest → Bounded x farthest → Bounded y farthest
     → T (le l x) → T (le l y) → T (le l (halfway x y))
 unfolding of_bits le
-middle-least l x y f bl bx by h k =
-    let fl = bounded-finite l farthest tt bl in
-    let fx = bounded-finite x farthest tt bx in
-    let fy = bounded-finite y farthest tt by in
+middle_least_lem l x y f bl bx by h k =
+    let fl = bounded_finite l farthest tt bl in
+    let fx = bounded_finite x farthest tt bx in
+    let fy = bounded_finite y farthest tt by in
     order.le_trans l ((l ⊕ l) ⊗ half) (halfway x y) (twice_half l f bl)
-    (mul-monotone-finite (l ⊕ l) (x ⊕ y) half (sum-finite l l bl bl) (sum-finite x y bx by) tt
-    (add-monotone l x l y fl fx fl fy h k) tt)
+    (mul_monotone_finite (l ⊕ l) (x ⊕ y) half (sum_finite l l bl bl) (sum_finite x y bx by) tt
+    (add_monotone l x l y fl fx fl fy h k) tt)

@@ -1,5 +1,5 @@
 -- Where a number that is not below 0 is cut to less than 2 ^ 31 it is the same cut to an i32 (`signed_cut`), and below
--- the end of u32 the same cut to a usize (`usize-cut`); `ceil` gives an unsigned number and moves the cut by one at
+-- the end of u32 the same cut to a usize (`usize_cut`); `ceil` gives an unsigned number and moves the cut by one at
 -- most. Assumes nothing.
 use Prim.Native.Nat.{ℕ, ◌+◌, ◌*◌, ◌/◌, ◌%◌, ◌^◌, ◌≤◌, ◌<◌}
 use native.Mathlib.Nat.{zero-div}
@@ -12,8 +12,8 @@ use lib.Ieee.{Float, nan, inf, fin, binary32, up, down, le, lt, fits, odd, of_in
 use lib.Ieee.Exact.{HasValue, odd_sign}
 use Rattle.numbers.specs.Rounded.{f32}
 use Rattle.numbers.specs.Cut.{cut, ceil}
-use Rattle.numbers.proofs.RoundedOrder.{nonnegative-minus}
-use Rattle.cutting.proofs.Cuts.{power, ceil-large, ceil-up, ceil-stay}
+use Rattle.numbers.proofs.RoundedOrder.{nonnegative_minus}
+use Rattle.cutting.proofs.Cuts.{power, ceil_large, ceil_up, ceil_stay}
 use Rattle.numbers.specs.Inner.Bounds.{unsigned}
 
 -- ---- to an i32
@@ -25,37 +25,37 @@ unfolding to_signed to_unsigned le of_bits
 signed_cut nan h l = absurd h
 signed_cut (inf true) h l = absurd h
 signed_cut (inf false) h l = absurd (omega arith)
-signed_cut (fin true m e) h l = rw (nothing m e (nonnegative-minus (fin true m e) tt h)) refl
+signed_cut (fin true m e) h l = rw (nothing m e (nonnegative_minus (fin true m e) tt h)) refl
 signed_cut (fin false m e) h l = ap pos (omega arith)
 
 -- ---- to a usize
-pub usize-cut : (x : Float) → cut x < 4294967295 → to_unsigned 64 x ≡ cut x
+pub usize_cut : (x : Float) → cut x < 4294967295 → to_unsigned 64 x ≡ cut x
 unfolding to_unsigned
-usize-cut nan l = refl
-usize-cut (inf true) l = refl
-usize-cut (inf false) l = absurd (omega arith)
-usize-cut (fin true m e) l = refl
-usize-cut (fin false m e) l = omega arith
+usize_cut nan l = refl
+usize_cut (inf true) l = refl
+usize_cut (inf false) l = absurd (omega arith)
+usize_cut (fin true m e) l = refl
+usize_cut (fin false m e) l = omega arith
 
 -- ---- `ceil`
-value-unsigned : (x : Float) (a c : ℕ) → HasValue x false a c → T (unsigned x)
-value-unsigned nan a c v = v
-value-unsigned (inf s) a c v = absurd v
-value-unsigned (fin s m e) a c v = rw v.0 tt
+value_unsigned : (x : Float) (a c : ℕ) → HasValue x false a c → T (unsigned x)
+value_unsigned nan a c v = v
+value_unsigned (inf s) a c v = absurd v
+value_unsigned (fin s m e) a c v = rw v.0 tt
 
-pub ceil-unsigned : (x : Float) → T (unsigned x) → T (unsigned (ceil x))
+pub ceil_unsigned : (x : Float) → T (unsigned x) → T (unsigned (ceil x))
 unfolding ceil
-ceil-unsigned nan u = u
-ceil-unsigned (inf s) u = u
-ceil-unsigned (fin true m e) u = absurd u
-ceil-unsigned (fin false m e) u =
+ceil_unsigned nan u = u
+ceil_unsigned (inf s) u = u
+ceil_unsigned (fin true m e) u = absurd u
+ceil_unsigned (fin false m e) u =
     let n : ℕ = cond (ltb 0 (m * up e % down e)) (m * up e / down e + 1) (m * up e / down e) in
-    value-unsigned (odd 128 false n 0 0) (n * 2 ^ 0) (2 ^ 0) (odd_sign 128 false n 0 0)
+    value_unsigned (odd 128 false n 0 0) (n * 2 ^ 0) (2 ^ 0) (odd_sign 128 false n 0 0)
 
-pub ceil-most : (x : Float) → T (fits binary32 x) → cut (ceil x) ≤ cut x + 1
-ceil-most x f = go (le (power 24) x) (lt (of_int binary32 (pos (cut x))) x) refl refl
+pub ceil_most : (x : Float) → T (fits binary32 x) → cut (ceil x) ≤ cut x + 1
+ceil_most x f = go (le (power 24) x) (lt (of_int binary32 (pos (cut x))) x) refl refl
   where
     go : (a b : Bool) → le (power 24) x ≡ a → lt (of_int binary32 (pos (cut x))) x ≡ b → cut (ceil x) ≤ cut x + 1
-    go true b e g = omega (arith, ceil-large x f e)
-    go false true e g = omega (arith, ceil-up x e g)
-    go false false e g = omega (arith, ceil-stay x e g)
+    go true b e g = omega (arith, ceil_large x f e)
+    go false true e g = omega (arith, ceil_up x e g)
+    go false false e g = omega (arith, ceil_stay x e g)

@@ -14,7 +14,7 @@ use lib.Ieee.Fits.{down_pos, and_l, and_r}
 use lib.Ieee.Exact.{HasValue, odd_sign}
 use lib.Ieee.Back.{round_whole}
 use Rattle.numbers.specs.Cut.{ceil}
-use Rattle.cutting.proofs.FieldCases.{cut-positive, cut-below-zero}
+use Rattle.cutting.proofs.FieldCases.{cut_positive, cut_below_zero}
 
 clash : {A : Type 0} → true ≡ false → A
 clash e = absurd (subst T e tt)
@@ -24,54 +24,54 @@ clash e = absurd (subst T e tt)
 abbrev pub power : ℕ → Float
 power k = fin false 1 (pos k)
 
-or-le : (a b : ℕ) → (ltb a b || (eqb a b && true)) ≡ true → a ≤ b
-or-le a b h = go (ltb a b) (eqb a b) refl refl h
+or_le : (a b : ℕ) → (ltb a b || (eqb a b && true)) ≡ true → a ≤ b
+or_le a b h = go (ltb a b) (eqb a b) refl refl h
   where
     go : (s t : Bool) → ltb a b ≡ s → eqb a b ≡ t → (s || (t && true)) ≡ true → a ≤ b
     go true t e f k = omega (arith, ltb-true a b e)
     go false true e f k = le_of_eq (eqb-true a b f)
     go false false e f k = clash (sym k)
 
-or-gt : (a b : ℕ) → (ltb a b || (eqb a b && true)) ≡ false → b < a
-or-gt a b h = go (ltb a b) (eqb a b) refl refl h
+or_gt : (a b : ℕ) → (ltb a b || (eqb a b && true)) ≡ false → b < a
+or_gt a b h = go (ltb a b) (eqb a b) refl refl h
   where
     go : (s t : Bool) → ltb a b ≡ s → eqb a b ≡ t → (s || (t && true)) ≡ false → b < a
     go true t e f k = clash k
     go false true e f k = clash k
     go false false e f k = omega (arith, ltb-false a b e, eqb-false a b f)
 
-from-power : (k m : ℕ) (e : ℤ) → le (power k) (fin false m e) ≡ true → 2 ^ k * down e ≤ m * up e
+from_power : (k m : ℕ) (e : ℤ) → le (power k) (fin false m e) ≡ true → 2 ^ k * down e ≤ m * up e
 unfolding le lt eq
-from-power k m e h = rw (one-mul, mul-one) at (or-le (1 * 2 ^ k * down e) (m * up e * 1) h)
+from_power k m e h = rw (one-mul, mul-one) at (or_le (1 * 2 ^ k * down e) (m * up e * 1) h)
 
-under-power : (k m : ℕ) (e : ℤ) → le (power k) (fin false m e) ≡ false → m * up e < 2 ^ k * down e
+under_power : (k m : ℕ) (e : ℤ) → le (power k) (fin false m e) ≡ false → m * up e < 2 ^ k * down e
 unfolding le lt eq
-under-power k m e h = rw (one-mul, mul-one) at (or-gt (1 * 2 ^ k * down e) (m * up e * 1) h)
+under_power k m e h = rw (one-mul, mul-one) at (or_gt (1 * 2 ^ k * down e) (m * up e * 1) h)
 
 -- ---- `ceil`, and then the cut
 
-cut-whole : (n : ℕ) → to_unsigned 32 (odd 128 false n 0 0) ≡ min n 4294967295
-cut-whole n =
-    cut-positive (odd 128 false n 0 0) (n * 2 ^ 0) (2 ^ 0) (pow_pos 0) (odd_sign 128 false n 0 0) ∙ ap (λ (a : ℕ). min a 4294967295)
+cut_whole : (n : ℕ) → to_unsigned 32 (odd 128 false n 0 0) ≡ min n 4294967295
+cut_whole n =
+    cut_positive (odd 128 false n 0 0) (n * 2 ^ 0) (2 ^ 0) (pow_pos 0) (odd_sign 128 false n 0 0) ∙ ap (λ (a : ℕ). min a 4294967295)
     (mul-div_cancel n (pow_pos 0))
 
-cut-negative : (n : ℕ) → 0 ≡ to_unsigned 32 (odd 128 true n 0 0)
-cut-negative n = sym (cut-below-zero (odd 128 true n 0 0) (n * 2 ^ 0) (2 ^ 0) (odd_sign 128 true n 0 0))
+cut_negative : (n : ℕ) → 0 ≡ to_unsigned 32 (odd 128 true n 0 0)
+cut_negative n = sym (cut_below_zero (odd 128 true n 0 0) (n * 2 ^ 0) (2 ^ 0) (odd_sign 128 true n 0 0))
 
 -- where nothing is dropped `ceil` changes nothing
-cut-exact : (m : ℕ) (e : ℤ) → m * up e % down e ≡ 0 → to_unsigned 32 (fin false m e) ≡ to_unsigned 32 (ceil (fin false m e))
+cut_exact : (m : ℕ) (e : ℤ) → m * up e % down e ≡ 0 → to_unsigned 32 (fin false m e) ≡ to_unsigned 32 (ceil (fin false m e))
 unfolding ceil to_unsigned
-cut-exact m e z = rw z (sym (cut-whole (m * up e / down e)))
+cut_exact m e z = rw z (sym (cut_whole (m * up e / down e)))
 
 -- where something is, it is one more
 one_more : (q : ℕ) → q < 16777216 → min q 4294967295 + 1 ≡ min (q + 1) 4294967295
 one_more q h = omega arith
 
-cut-above : (m : ℕ) (e : ℤ) → 0 < m * up e % down e → m * up e / down e < 16777216 → to_unsigned 32 (fin false m e) + 1 ≡ to_unsigned 32 (ceil (fin false m e))
+cut_above : (m : ℕ) (e : ℤ) → 0 < m * up e % down e → m * up e / down e < 16777216 → to_unsigned 32 (fin false m e) + 1 ≡ to_unsigned 32 (ceil (fin false m e))
 unfolding ceil to_unsigned
-cut-above m e p h =
+cut_above m e p h =
     let t : ltb 0 (m * up e % down e) ≡ true = lt-ltb 0 (m * up e % down e) p in
-    rw t (one_more (m * up e / down e) h ∙ sym (cut-whole (m * up e / down e + 1)))
+    rw t (one_more (m * up e / down e) h ∙ sym (cut_whole (m * up e / down e + 1)))
 
 second : (a b c d : Bool) → T (a && b && c && d) → T b
 second a b c d h = and_r a b (and_l (a && b) c (and_l (a && b && c) d h))
@@ -86,15 +86,15 @@ no_fraction (suc m) (negsuc k) h l =
     (ltb (suc m * 1) (2 ^ 128 * 2 ^ suc k)) h in
     absurd (omega (arith, ltb→lt (suc m) 16777216 b, down_pos (negsuc k)))
 
-pub ceil-large : (x : Float) → T (fits binary32 x) → le (power 24) x ≡ true → to_unsigned 32 x ≡ to_unsigned 32 (ceil x)
+pub ceil_large : (x : Float) → T (fits binary32 x) → le (power 24) x ≡ true → to_unsigned 32 x ≡ to_unsigned 32 (ceil x)
 unfolding to_unsigned ceil
-ceil-large nan f h = refl
-ceil-large (inf s) f h = refl
-ceil-large (fin true m e) f h = cut-negative (m * up e / down e)
-ceil-large (fin false m e) f h = cut-exact m e (no_fraction m e f (from-power 24 m e h))
+ceil_large nan f h = refl
+ceil_large (inf s) f h = refl
+ceil_large (fin true m e) f h = cut_negative (m * up e / down e)
+ceil_large (fin false m e) f h = cut_exact m e (no_fraction m e f (from_power 24 m e h))
 
-under-div : (m : ℕ) (e : ℤ) → le (power 24) (fin false m e) ≡ false → m * up e / down e < 16777216
-under-div m e h = (div-lt_iff_lt-mul (down_pos e)).1 (under-power 24 m e h)
+under_div : (m : ℕ) (e : ℤ) → le (power 24) (fin false m e) ≡ false → m * up e / down e < 16777216
+under_div m e h = (div-lt_iff_lt-mul (down_pos e)).1 (under_power 24 m e h)
 
 pub cut_small : (x : Float) → le (power 24) x ≡ false → to_unsigned 32 x < 16777216
 unfolding to_unsigned le lt eq
@@ -102,7 +102,7 @@ cut_small nan h = omega arith
 cut_small (inf true) h = omega arith
 cut_small (inf false) h = clash h
 cut_small (fin true m e) h = omega arith
-cut_small (fin false m e) h = omega (arith, under-div m e h)
+cut_small (fin false m e) h = omega (arith, under_div m e h)
 
 -- whether x is above the whole number n
 abbrev above : ℕ → Float → Bool
@@ -118,36 +118,36 @@ scaled a b d p = go (ltb a b) refl
     go true e = lt-ltb (a * d) (b * d) (mul-lt-mul_of_pos_right (ltb-true a b e) p)
     go false e = le-ltb (a * d) (b * d) (mul-le-mul_right d (ltb-false a b e))
 
-lt-whole : (y : Float) (n : ℕ) (x : Float) → HasValue y false n 1 → lt y x ≡ above n x
+lt_whole : (y : Float) (n : ℕ) (x : Float) → HasValue y false n 1 → lt y x ≡ above n x
 unfolding lt
-lt-whole nan n x v = absurd v
-lt-whole (inf s) n x v = absurd v
-lt-whole (fin true k d) n x v = clash v.0
-lt-whole (fin false k d) n nan v = refl
-lt-whole (fin false k d) n (inf s) v = refl
-lt-whole (fin false k d) n (fin true m e) v = refl
-lt-whole (fin false k d) n (fin false m e) v =
+lt_whole nan n x v = absurd v
+lt_whole (inf s) n x v = absurd v
+lt_whole (fin true k d) n x v = clash v.0
+lt_whole (fin false k d) n nan v = refl
+lt_whole (fin false k d) n (inf s) v = refl
+lt_whole (fin false k d) n (fin true m e) v = refl
+lt_whole (fin false k d) n (fin false m e) v =
     let q : k * up d * down e ≡ n * down e * down d = ap (λ (a : ℕ). a * down e) (sym (mul-one (k * up d)) ∙ v.1) ∙ mul_right_comm n (down d) (down e) in
     rw q (scaled (n * down e) (m * up e) (down d) (down_pos d))
 
-above-cut : (x : Float) (t : Bool) → le (power 24) x ≡ false → lt (of_int binary32 (pos (to_unsigned 32 x))) x ≡ t → above (to_unsigned 32 x) x ≡ t
+above_cut : (x : Float) (t : Bool) → le (power 24) x ≡ false → lt (of_int binary32 (pos (to_unsigned 32 x))) x ≡ t → above (to_unsigned 32 x) x ≡ t
 unfolding of_int
-above-cut x t h k =
-    sym (lt-whole (of_int binary32 (pos (to_unsigned 32 x))) (to_unsigned 32 x) x
+above_cut x t h k =
+    sym (lt_whole (of_int binary32 (pos (to_unsigned 32 x))) (to_unsigned 32 x) x
     (round_whole binary32 false (to_unsigned 32 x) (omega (arith, cut_small x h)))) ∙ k
 
 module _ (m : ℕ) (e : ℤ) (h : le (power 24) (fin false m e) ≡ false) where
   uncut : to_unsigned 32 (fin false m e) ≡ m * up e / down e
   unfolding to_unsigned
-  uncut = omega (arith, under-div m e h)
+  uncut = omega (arith, under_div m e h)
 
   parts : m * up e / down e * down e + m * up e % down e ≡ m * up e
   parts = div-add-mod' (m * up e) (down e)
 
 -- where the cut is below x, there was a fraction
-pub ceil-up : (x : Float) → le (power 24) x ≡ false → lt (of_int binary32 (pos (to_unsigned 32 x))) x ≡ true → to_unsigned 32 x + 1 ≡ to_unsigned 32 (ceil x)
+pub ceil_up : (x : Float) → le (power 24) x ≡ false → lt (of_int binary32 (pos (to_unsigned 32 x))) x ≡ true → to_unsigned 32 x + 1 ≡ to_unsigned 32 (ceil x)
 unfolding le lt eq
-ceil-up x h k = go x h (above-cut x true h k)
+ceil_up x h k = go x h (above_cut x true h k)
   where
     go : (x : Float) → le (power 24) x ≡ false → above (to_unsigned 32 x) x ≡ true → to_unsigned 32 x + 1 ≡ to_unsigned 32 (ceil x)
     go nan h k = clash (sym k)
@@ -156,17 +156,17 @@ ceil-up x h k = go x h (above-cut x true h k)
     go (fin true m e) h k = clash (sym k)
     go (fin false m e) h k =
         let l : m * up e / down e * down e < m * up e = ltb-true (m * up e / down e * down e) (m * up e) (rw (uncut m e h) at k) in
-        cut-above m e (omega (arith, parts m e h)) (under-div m e h)
+        cut_above m e (omega (arith, parts m e h)) (under_div m e h)
 
 -- where it is not, there was none
-pub ceil-stay : (x : Float) → le (power 24) x ≡ false → lt (of_int binary32 (pos (to_unsigned 32 x))) x ≡ false → to_unsigned 32 x ≡ to_unsigned 32 (ceil x)
+pub ceil_stay : (x : Float) → le (power 24) x ≡ false → lt (of_int binary32 (pos (to_unsigned 32 x))) x ≡ false → to_unsigned 32 x ≡ to_unsigned 32 (ceil x)
 unfolding le lt eq to_unsigned ceil
-ceil-stay x h k = go x h (above-cut x false h k)
+ceil_stay x h k = go x h (above_cut x false h k)
   where
     go : (x : Float) → le (power 24) x ≡ false → above (to_unsigned 32 x) x ≡ false → to_unsigned 32 x ≡ to_unsigned 32 (ceil x)
     go nan h k = refl
     go (inf s) h k = refl
-    go (fin true m e) h k = cut-negative (m * up e / down e)
+    go (fin true m e) h k = cut_negative (m * up e / down e)
     go (fin false m e) h k =
         let l : m * up e ≤ m * up e / down e * down e = ltb-false (m * up e / down e * down e) (m * up e) (rw (uncut m e h) at k) in
-        cut-exact m e (omega (arith, parts m e h))
+        cut_exact m e (omega (arith, parts m e h))

@@ -11,8 +11,8 @@ use Rattle.std.specs.Prelude.{ℕ, ◌+◌, ◌-◌, ◌*◌, ◌/◌, ◌%◌, 
 -- E < 255           2 ^ 32 or more: 2 ^ 32 - 1
 -- E = 255, T ≠ 0    a not-a-number: 0
 -- E = 255, T = 0    infinity: 2 ^ 32 - 1
-unfoldable pub cutFields : Bool → ℕ → ℕ → ℕ
-cutFields S E T =
+unfoldable pub cut_fields : Bool → ℕ → ℕ → ℕ
+cut_fields S E T =
     cond (eqb E 0) 0
     (cond (ltb E 127) 0
     (cond S 0
@@ -23,11 +23,11 @@ cutFields S E T =
     4294967295))))))
 
 -- the fields of a pattern of 32 bits
-abbrev pub negativeOf : ℕ → Bool
-negativeOf b = leb 0x80000000 b
+abbrev pub negative_of : ℕ → Bool
+negative_of b = leb 0x80000000 b
 
-abbrev pub exponentOf : ℕ → ℕ
-exponentOf b = b / 8388608 % 256
+abbrev pub exponent_of : ℕ → ℕ
+exponent_of b = b / 8388608 % 256
 
-abbrev pub fractionField : ℕ → ℕ
-fractionField b = b % 8388608
+abbrev pub fraction_field : ℕ → ℕ
+fraction_field b = b % 8388608

@@ -1,10 +1,10 @@
 // Cutting by the fields of an f32's bits: a branch for each line of the list in specs/CutFields.antt.
 ghost use Rattle.std.specs.Prelude.{◌≡◌, ◌<◌, ◌^◌};
-ghost use Rattle.cutting.specs.CutFields.{cutFields};
+ghost use Rattle.cutting.specs.CutFields.{cut_fields};
 
 pub fn cut_fields(negative: bool, exponent: u32, fraction: u32) -> u32
     requires { fraction < 2 ^ 23 }
-    ensures { result ≡ cutFields negative exponent fraction }
+    ensures { result ≡ cut_fields negative exponent fraction }
 {
     if exponent == 0 {
         return 0;

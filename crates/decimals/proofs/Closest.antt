@@ -10,7 +10,7 @@ use mathlib.Core.Bool.{not}
 use lib.Dec.{T, eqb, is_le, compare_is_eq, leb→le, nleb→lt, eqb→eq, eqb_refl}
 use lib.Ieee.{nearest}
 use lib.Ieee.Nearest.{closest}
-use Rattle.decimals.specs.Nearest.{wholeGap}
+use Rattle.decimals.specs.Nearest.{whole_gap}
 
 -- ---- by twice the remainder, against the divisor
 module _ (r d : ℕ) (P : Ordering → Type 0) (less : r < d → P Ordering.lt) (level : r ≡ d → P Ordering.eq) (more : d < r → P Ordering.gt) where
@@ -22,12 +22,12 @@ module _ (r d : ℕ) (P : Ordering → Type 0) (less : r < d → P Ordering.lt) 
       go Ordering.eq a b c e = level (c tt)
       go Ordering.gt a b c e = more (b tt)
 
-pub closest-down : (n d : ℕ) → n % d * 2 < d → n / d ≡ closest n d
-closest-down n d h =
+pub closest_down : (n d : ℕ) → n % d * 2 < d → n / d ≡ closest n d
+closest_down n d h =
     compared (n % d * 2) d (λ (o : Ordering). n / d ≡ nearest (n / d) o) (λ l. omega arith) (λ e. absurd (omega arith)) (λ l. absurd (omega arith))
 
-pub closest-up : (n d : ℕ) → d ≤ n % d * 2 → n % d * 2 ≢ d → n / d + 1 ≡ closest n d
-closest-up n d h ne =
+pub closest_up : (n d : ℕ) → d ≤ n % d * 2 → n % d * 2 ≢ d → n / d + 1 ≡ closest n d
+closest_up n d h ne =
     compared (n % d * 2) d (λ (o : Ordering). n / d + 1 ≡ nearest (n / d) o) (λ l. absurd (omega arith)) (λ e. absurd (ne e)) (λ l. omega arith)
 
 -- ---- twice the distance is at most the divisor
@@ -39,22 +39,22 @@ pub record Close (n d q : ℕ) : Type 0 where
   pub tie_down : n * 2 ≡ q * d * 2 + d → q % 2 ≡ 0
 
 -- w and r are quotient and remainder
-down-close : (w r d : ℕ) → 0 < d → r * 2 < d → Close (w * d + r) d w
-down-close w r d D h = record { upper = omega arith; lower = omega arith; tie_up = λ e. absurd (omega arith); tie_down = λ e. absurd (omega arith) }
+down_close : (w r d : ℕ) → 0 < d → r * 2 < d → Close (w * d + r) d w
+down_close w r d D h = record { upper = omega arith; lower = omega arith; tie_up = λ e. absurd (omega arith); tie_down = λ e. absurd (omega arith) }
 
-up-close : (w r d : ℕ) → r < d → d < r * 2 → Close (w * d + r) d (w + 1)
-up-close w r d l h = record { upper = omega arith; lower = omega arith; tie_up = λ e. absurd (omega arith); tie_down = λ e. absurd (omega arith) }
+up_close : (w r d : ℕ) → r < d → d < r * 2 → Close (w * d + r) d (w + 1)
+up_close w r d l h = record { upper = omega arith; lower = omega arith; tie_up = λ e. absurd (omega arith); tie_down = λ e. absurd (omega arith) }
 
-even-close : (w r d : ℕ) → r * 2 ≡ d → Close (w * d + r) d (w + w % 2)
-even-close w r d e =
+even_close : (w r d : ℕ) → r * 2 ≡ d → Close (w * d + r) d (w + w % 2)
+even_close w r d e =
     let b : w % 2 * d ≤ 1 * d = mul-le-mul_right d (omega arith) in
     record { upper = omega arith; lower = omega arith; tie_up = λ e. omega arith; tie_down = λ e. omega arith }
 
-pub closest-close : (n d : ℕ) → 0 < d → Close n d (closest n d)
-closest-close n d D =
+pub closest_close : (n d : ℕ) → 0 < d → Close n d (closest n d)
+closest_close n d D =
     subst (λ (m : ℕ). Close m d (closest n d)) (div-add-mod' n d)
-    (compared (r * 2) d (λ (o : Ordering). Close (w * d + r) d (nearest w o)) (down-close w r d D) (even-close w r d)
-    (λ l. subst (λ (q : ℕ). Close (w * d + r) d q) (omega arith) (up-close w r d (mod-lt n D) l)))
+    (compared (r * 2) d (λ (o : Ordering). Close (w * d + r) d (nearest w o)) (down_close w r d D) (even_close w r d)
+    (λ l. subst (λ (q : ℕ). Close (w * d + r) d q) (omega arith) (up_close w r d (mod-lt n D) l)))
   where
     w : ℕ
     w = n / d
@@ -70,16 +70,16 @@ module _ (n d q : ℕ) (D : 0 < d) (h : Close n d q) where
   more : (c : ℕ) → q < c → q * d + d ≤ c * d
   more c l = let a : (q + 1) * d ≤ c * d = mul-le-mul_right d (omega arith) in omega arith
 
-  pub nearer : (c : ℕ) → wholeGap (q * d) n ≤ wholeGap (c * d) n
+  pub nearer : (c : ℕ) → whole_gap (q * d) n ≤ whole_gap (c * d) n
   nearer c = go (dec_lt c q) (dec_lt q c)
     where
-      go : Dec (c < q) → Dec (q < c) → wholeGap (q * d) n ≤ wholeGap (c * d) n
+      go : Dec (c < q) → Dec (q < c) → whole_gap (q * d) n ≤ whole_gap (c * d) n
       go (yes l) k = let a = less c l in let u = h.upper in let v = h.lower in omega arith
       go (no l) (yes k) = let a = more c k in let u = h.upper in let v = h.lower in omega arith
       go (no l) (no k) = let e : q ≡ c = omega arith in let f : q * d ≡ c * d = ap (λ (z : ℕ). z * d) e in omega arith
 
   -- another that is as near is on the other side of a tie
-  pub tied : (c : ℕ) → c ≢ q → wholeGap (c * d) n ≡ wholeGap (q * d) n → (q * d * 2 ≡ n * 2 + d) ⊎ (n * 2 ≡ q * d * 2 + d)
+  pub tied : (c : ℕ) → c ≢ q → whole_gap (c * d) n ≡ whole_gap (q * d) n → (q * d * 2 ≡ n * 2 + d) ⊎ (n * 2 ≡ q * d * 2 + d)
   tied c ne e = go (dec_lt c q) (dec_lt q c)
     where
       go : Dec (c < q) → Dec (q < c) → (q * d * 2 ≡ n * 2 + d) ⊎ (n * 2 ≡ q * d * 2 + d)
@@ -87,12 +87,12 @@ module _ (n d q : ℕ) (D : 0 < d) (h : Close n d q) where
       go (no l) (yes k) = let a = more c k in let u = h.upper in let v = h.lower in inr (omega arith)
       go (no l) (no k) = let f : c ≡ q = omega arith in absurd (ne f)
 
-  pub as-near : (c : ℕ) → c ≢ q → wholeGap (c * d) n ≡ wholeGap (q * d) n → q % 2 ≡ 0
-  as-near c ne e = ⊎_elim h.tie_up h.tie_down (tied c ne e)
+  pub as_near : (c : ℕ) → c ≢ q → whole_gap (c * d) n ≡ whole_gap (q * d) n → q % 2 ≡ 0
+  as_near c ne e = ⊎_elim h.tie_up h.tie_down (tied c ne e)
 
 -- a whole number that is nearer than half of the divisor is the one
-pub closest-is : (n d q : ℕ) → 0 < d → q * d * 2 < n * 2 + d → n * 2 < q * d * 2 + d → closest n d ≡ q
-closest-is n d q D up down = go (closest n d) (closest-close n d D) (dec_lt (closest n d) q) (dec_lt q (closest n d))
+pub closest_is : (n d q : ℕ) → 0 < d → q * d * 2 < n * 2 + d → n * 2 < q * d * 2 + d → closest n d ≡ q
+closest_is n d q D up down = go (closest n d) (closest_close n d D) (dec_lt (closest n d) q) (dec_lt q (closest n d))
   where
     go : (c : ℕ) → Close n d c → Dec (c < q) → Dec (q < c) → c ≡ q
     go c h (yes l) k = let a = more n d c D h q l in let u = h.lower in absurd (omega arith)

@@ -11,40 +11,40 @@ use lib.Ieee.{binary32, of_int, neg, round, to_bits}
 use Rattle.decimals.specs.Decimal.{decimal}
 use Rattle.decimals.specs.Nearest.{Nearest, Alone, NotSubnormal}
 use Rattle.decimals.specs.Inner.Ready.{Decimal, Tenths}
-use Rattle.decimals.proofs.Nearest.{Rounded, tenths-rounded}
+use Rattle.decimals.proofs.Nearest.{Rounded, tenths_rounded}
 
 -- the sign is taken last, and a number without a fraction is its whole part
-pub decimal-negative : (units parts places : ℕ) → decimal true units parts places ≡ neg (decimal false units parts places)
+pub decimal_negative : (units parts places : ℕ) → decimal true units parts places ≡ neg (decimal false units parts places)
 unfolding decimal
-decimal-negative units parts places = refl
+decimal_negative units parts places = refl
 
-pub decimal-whole : (n : ℕ) → decimal false n 0 0 ≡ of_int binary32 (pos n)
+pub decimal_whole : (n : ℕ) → decimal false n 0 0 ≡ of_int binary32 (pos n)
 unfolding decimal of_int
-decimal-whole n = let e : n * 1 + 0 ≡ n = omega arith in ap (λ (m : ℕ). round binary32 false m 1) e
+decimal_whole n = let e : n * 1 + 0 ≡ n = omega arith in ap (λ (m : ℕ). round binary32 false m 1) e
 
 module _ (units parts places : ℕ) (D : Decimal units parts places) where
-  pub decimal-tenths : Tenths (units * 10 ^ places + parts) (10 ^ places)
-  decimal-tenths =
-      let few = D.places-few in
+  pub decimal_tenths : Tenths (units * 10 ^ places + parts) (10 ^ places)
+  decimal_tenths =
+      let few = D.places_few in
       let six : places + (6 - places) ≡ 6 = omega arith in
       record {
         power = 10 ^ (6 - places);
-        power-is = sym (pow-add 10 places (6 - places)) ∙ ap (λ (k : ℕ). 10 ^ k) six;
-        below = under (10 ^ places) D.parts-small;
+        power_is = sym (pow-add 10 places (6 - places)) ∙ ap (λ (k : ℕ). 10 ^ k) six;
+        below = under (10 ^ places) D.parts_small;
       }
     where
       under : (t : ℕ) → parts < t → units * t + parts < 100000 * t
       under t p = let u = D.units_small in let l : suc units * t ≤ 100000 * t = mul-le-mul_right t u in omega arith
 
-  decimal-rounded : Rounded (units * 10 ^ places + parts) (10 ^ places) (to_bits binary32 (decimal false units parts places))
+  decimal_rounded : Rounded (units * 10 ^ places + parts) (10 ^ places) (to_bits binary32 (decimal false units parts places))
   unfolding decimal
-  decimal-rounded = tenths-rounded (units * 10 ^ places + parts) (10 ^ places) decimal-tenths
+  decimal_rounded = tenths_rounded (units * 10 ^ places + parts) (10 ^ places) decimal_tenths
 
-  pub decimal-nearest : Nearest (units * 10 ^ places + parts) (10 ^ places) (to_bits binary32 (decimal false units parts places))
-  decimal-nearest = decimal-rounded.nearest
+  pub decimal_nearest : Nearest (units * 10 ^ places + parts) (10 ^ places) (to_bits binary32 (decimal false units parts places))
+  decimal_nearest = decimal_rounded.nearest
 
-  pub decimal-alone : Alone (units * 10 ^ places + parts) (10 ^ places) (to_bits binary32 (decimal false units parts places))
-  decimal-alone = decimal-rounded.alone
+  pub decimal_alone : Alone (units * 10 ^ places + parts) (10 ^ places) (to_bits binary32 (decimal false units parts places))
+  decimal_alone = decimal_rounded.alone
 
-  pub decimal-normal : NotSubnormal (to_bits binary32 (decimal false units parts places))
-  decimal-normal = decimal-rounded.normal
+  pub decimal_normal : NotSubnormal (to_bits binary32 (decimal false units parts places))
+  decimal_normal = decimal_rounded.normal

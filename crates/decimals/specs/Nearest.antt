@@ -1,17 +1,17 @@
 -- What IEEE 754 asks of a rounded number, over whole numbers: of a fraction m / d and the bit pattern b of an f32.
 -- Definitions only.
--- That `decimal` of Decimal.antt is such a number is the theorems `decimal-nearest`, `decimal-alone` and
--- `decimal-normal` of proofs/Decimal.antt.
+-- That `decimal` of Decimal.antt is such a number is the theorems `decimal_nearest`, `decimal_alone` and
+-- `decimal_normal` of proofs/Decimal.antt.
 use Rattle.std.specs.Prelude.{ℕ, ◌+◌, ◌-◌, ◌*◌, ◌%◌, ◌^◌, ◌≤◌, ◌<◌, ◌≡◌, ◌⊎◌, ◌≢◌}
-use Rattle.patterns.specs.Pattern.{unitsOf}
+use Rattle.patterns.specs.Pattern.{units_of}
 
 -- how far apart two whole numbers are
-abbrev pub wholeGap : ℕ → ℕ → ℕ
-wholeGap p q = p - q + (q - p)
+abbrev pub whole_gap : ℕ → ℕ → ℕ
+whole_gap p q = p - q + (q - p)
 
 -- how far the f32 with the pattern b, which is `unitsOf b` times 2 ^ -149, is from m / d: times d * 2 ^ 149
 abbrev pub error : ℕ → ℕ → ℕ → ℕ
-error m d b = wholeGap (unitsOf b * d) (m * 2 ^ 149)
+error m d b = whole_gap (units_of b * d) (m * 2 ^ 149)
 
 -- roundTiesToEven: of all finite f32 with a clear sign none is nearer to m / d than b, and where another is as near b's
 -- last digit is even.

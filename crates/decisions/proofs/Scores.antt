@@ -5,62 +5,62 @@ use mathlib.Core.Option.{Option, none, some}
 use lib.Dec.{T, not_T}
 use lib.Ieee.{Float, lt, le}
 use lib.Ieee.Bits.{is_true, is_false}
-use Rattle.numbers.proofs.OrderLaws.{le_left, le_refl, lt-le, lt-le-trans}
-use Rattle.quality.specs.Inner.Shape.{shape_of, qualityOf}
-use Rattle.score_bounds.specs.Inner.Bound.{scoreBound}
+use Rattle.numbers.proofs.OrderLaws.{le_left, le_refl, lt_le, lt_le_trans}
+use Rattle.quality.specs.Inner.Shape.{shape_of, quality_of}
+use Rattle.score_bounds.specs.Inner.Bound.{score_bound}
 use Rattle.quality.specs.declared.Shape.{Shape}
 use Rattle.quality.specs.declared.TriangleQuality.{TriangleQuality}
-use Rattle.score_bounds.proofs.Bounds.{score-bounded}
-use Rattle.lists.proofs.Bools.{true-not-false}
+use Rattle.score_bounds.proofs.Bounds.{score_bounded}
+use Rattle.lists.proofs.Bools.{true_not_false}
 use Rattle.decisions.specs.declared.Scene.{Scene}
 use Rattle.decisions.specs.Decisions.{accepts}
-use Rattle.decisions.specs.Found.{at_least, acceptedScore}
+use Rattle.decisions.specs.Found.{at_least, accepted_score}
 
 -- ---- of a triangle
 
 module _ (s : Scene) (r top : Float) (q : TriangleQuality) where
   abbrev kept : Option Float
-  kept = at_least top (acceptedScore s r q)
+  kept = at_least top (accepted_score s r q)
 
-  kept-is : kept ≡ cond (accepts s r q) (cond (le top q.quality_score) (some q.quality_score) none) none
-  unfolding at_least acceptedScore
-  kept-is = go (accepts s r q)
+  kept_is : kept ≡ cond (accepts s r q) (cond (le top q.quality_score) (some q.quality_score) none) none
+  unfolding at_least accepted_score
+  kept_is = go (accepts s r q)
     where
       go : (t : Bool) → at_least top (cond t (some q.quality_score) none)
           ≡ cond t (cond (le top q.quality_score) (some q.quality_score) none) none
       go true = refl
       go false = refl
 
-  pub score-low : le top q.quality_score ≡ false → none ≡ kept
-  score-low h = sym (kept-is ∙ go (accepts s r q))
+  pub score_low : le top q.quality_score ≡ false → none ≡ kept
+  score_low h = sym (kept_is ∙ go (accepts s r q))
     where
       go : (t : Bool) → cond t (cond (le top q.quality_score) (some q.quality_score) none) none ≡ none
       go true = rw h
       go false = refl
 
-  pub score-refused : accepts s r q ≡ false → none ≡ kept
-  score-refused h = sym (kept-is ∙ rw h)
+  pub score_refused : accepts s r q ≡ false → none ≡ kept
+  score_refused h = sym (kept_is ∙ rw h)
 
-  pub score-kept : le top q.quality_score ≡ true → accepts s r q ≡ true → some q.quality_score ≡ kept
-  score-kept h g = sym (kept-is ∙ rw (g, h))
+  pub score_kept : le top q.quality_score ≡ true → accepts s r q ≡ true → some q.quality_score ≡ kept
+  score_kept h g = sym (kept_is ∙ rw (g, h))
 
 -- ---- of three lengths and an area
 
 -- what is below `top` bounds no score that is not
-under : (top a b c area : Float) → T (lt (scoreBound (shape_of a b c area)) top) → le top (qualityOf a b c area).quality_score ≡ false
+under : (top a b c area : Float) → T (lt (score_bound (shape_of a b c area)) top) → le top (quality_of a b c area).quality_score ≡ false
 under top a b c area h =
     is_false (le top x) (not_T (le top x)
-    (λ k. true-not-false (is_true (lt bound x) (lt-le-trans bound top x h k))
-    (score-bounded bound a b c area (le_refl bound (le_left bound top (lt-le bound top h))))))
+    (λ k. true_not_false (is_true (lt bound x) (lt_le_trans bound top x h k))
+    (score_bounded bound a b c area (le_refl bound (le_left bound top (lt_le bound top h))))))
   where
     bound : Float
-    bound = scoreBound (shape_of a b c area)
+    bound = score_bound (shape_of a b c area)
 
     x : Float
-    x = (qualityOf a b c area).quality_score
+    x = (quality_of a b c area).quality_score
 
-pub score-bound : (s : Scene) (r top a b c area : Float) {v : Shape} {x : Float} → v ≡ shape_of a b c area → x ≡ scoreBound v → lt x top ≡ true → none
-    ≡ at_least top (acceptedScore s r (qualityOf a b c area))
-score-bound s r top a b c area h e g =
-    let t : T (lt (scoreBound (shape_of a b c area)) top) = rw (← h, ← e, g) tt in
-    score-low s r top (qualityOf a b c area) (under top a b c area t)
+pub score_bound_lem : (s : Scene) (r top a b c area : Float) {v : Shape} {x : Float} → v ≡ shape_of a b c area → x ≡ score_bound v → lt x top ≡ true → none
+    ≡ at_least top (accepted_score s r (quality_of a b c area))
+score_bound_lem s r top a b c area h e g =
+    let t : T (lt (score_bound (shape_of a b c area)) top) = rw (← h, ← e, g) tt in
+    score_low s r top (quality_of a b c area) (under top a b c area t)

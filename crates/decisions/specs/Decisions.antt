@@ -7,7 +7,7 @@ use Rattle.vector.specs.Vector.{distance}
 use Rattle.triangle.specs.Quality.{quality, acceptable}
 use Rattle.vector.specs.declared.Point3f.{Point3f}
 use Rattle.quality.specs.declared.TriangleQuality.{TriangleQuality}
-use Rattle.points.specs.Points.{pointAt}
+use Rattle.points.specs.Points.{point_at}
 use Rattle.grid.specs.Grid.{neighbors}
 use Rattle.patch.specs.Lay.{Edge}
 use Rattle.patch.specs.Search.{Floats}
@@ -19,14 +19,14 @@ reach r = r ⊗ f32 0x40000000
 
 -- how far two points are from each other
 unfoldable pub apart : List Float → ℕ → ℕ → Float
-apart pts i j = distance (pointAt pts i) (pointAt pts j)
+apart pts i j = distance (point_at pts i) (point_at pts j)
 
-unfoldable pub qualityAt : List Float → ℕ → ℕ → ℕ → TriangleQuality
-qualityAt pts i j k = quality (pointAt pts i) (pointAt pts j) (pointAt pts k)
+unfoldable pub quality_at : List Float → ℕ → ℕ → ℕ → TriangleQuality
+quality_at pts i j k = quality (point_at pts i) (point_at pts j) (point_at pts k)
 
 -- two points are not farther apart than twice the radius
-unfoldable pub isClose : List Float → Float → ℕ → ℕ → Bool
-isClose pts r i j = not (lt (reach r) (apart pts i j))
+unfoldable pub is_close : List Float → Float → ℕ → ℕ → Bool
+is_close pts r i j = not (lt (reach r) (apart pts i j))
 
 -- the settings accept a triangle at a radius
 unfoldable pub accepts : Scene → Float → TriangleQuality → Bool
@@ -48,18 +48,18 @@ unfoldable pub pivotable : List Float → Float → Edge → Bool
 pivotable pts r e = let d = apart pts e.v2 e.v1 in not (lt (reach r) d) && not (lt d (f32 0x2edbe6ff))
 
 -- the score of an edge and a point that is within the radius of both ends, if the triangle is acceptable
-unfoldable pub scoreAt : Scene → List Float → Float → Edge → ℕ → Option Float
-scoreAt s pts r e k =
-    let q = qualityAt pts e.v1 e.v2 k in
+unfoldable pub score_at : Scene → List Float → Float → Edge → ℕ → Option Float
+score_at s pts r e k =
+    let q = quality_at pts e.v1 e.v2 k in
     cond (le (apart pts k e.v1) r && (le (apart pts k e.v2) r && accepts s r q)) (some q.quality_score) none
 
 -- what the searches go by
-unfoldable pub floatsOf : Scene → List Float → Floats Float
-floatsOf s pts = record {
-  near = λ r i. around s pts (pointAt pts i) (reach r);
-  close = λ r i j. isClose pts r i j;
-  fits = λ r i j k. accepts s r (qualityAt pts i j k);
+unfoldable pub floats_of : Scene → List Float → Floats Float
+floats_of s pts = record {
+  near = λ r i. around s pts (point_at pts i) (reach r);
+  close = λ r i j. is_close pts r i j;
+  fits = λ r i j k. accepts s r (quality_at pts i j k);
   pivotable = λ r e. pivotable pts r e;
-  around = λ r e. around s pts (middle (pointAt pts e.v1) (pointAt pts e.v2)) r;
-  score = λ r e k. scoreAt s pts r e k;
+  around = λ r e. around s pts (middle (point_at pts e.v1) (point_at pts e.v2)) r;
+  score = λ r e k. score_at s pts r e k;
 }

@@ -1,12 +1,12 @@
 // What the floats decide of points by their numbers: which are near enough to each other, which triangles are
 // acceptable, and how good they are.
 ghost use Rattle.std.specs.Prelude.{◌≡◌, true, ◌*◌, ◌<◌, ◌+◌, length};
-ghost use Rattle.quality.specs.Inner.Shape.{qualityOf};
+ghost use Rattle.quality.specs.Inner.Shape.{quality_of};
 ghost use Rattle.patch.specs.Lay.{edge};
-ghost use Rattle.decisions.specs.Decisions.{apart, isClose, qualityAt, accepts, halfway, middle};
+ghost use Rattle.decisions.specs.Decisions.{apart, is_close, quality_at, accepts, halfway, middle};
 ghost use Rattle.decisions.specs.Inner.Completes.{completes};
 ghost use Rattle.decisions.specs.Decisions.{pivotable};
-ghost use Rattle.decisions.specs.Found.{scoreFound, at_least, areaAt, acceptedScore, ShapeRefused};
+ghost use Rattle.decisions.specs.Found.{score_found, at_least, area_at, accepted_score, ShapeRefused};
 
 use grid::SpatialGrid;
 use quality::{Shape, TriangleQuality};
@@ -41,7 +41,7 @@ pub fn apart_at(points: &[f32], i: usize, j: usize) -> f32
 // Whether points i and j are not farther apart than twice the radius.
 pub fn is_close(points: &[f32], radius: f32, i: usize, j: usize) -> bool
     requires { (3 * i + 2 < length points.now) × (3 * j + 2 < length points.now) }
-    ensures { result ≡ isClose points.now radius i j }
+    ensures { result ≡ is_close points.now radius i j }
 {
     !(apart_at(points, i, j) > radius * 2.0)
 }
@@ -50,7 +50,7 @@ pub fn is_close(points: &[f32], radius: f32, i: usize, j: usize) -> bool
 fn area_at(points: &[f32], i: usize, j: usize, k: usize) -> f32
     requires { (3 * i + 2 < length points.now) × (3 * j + 2 < length points.now)
         × (3 * k + 2 < length points.now) }
-    ensures { result ≡ areaAt points.now i j k }
+    ensures { result ≡ area_at points.now i j k }
 {
     triangle::area_of(
         points::point_at(points, i),
@@ -104,7 +104,7 @@ pub fn is_pivotable(points: &[f32], radius: f32, a: usize, b: usize) -> bool
 // The score of a triangle with edges of lengths a, b and c, if the settings accept it and the score is not below `top`.
 // The bound is asked first, since it needs no angle.
 pub fn score_from(s: Scene, radius: f32, a: f32, b: f32, c: f32, area: f32, top: f32) -> Score
-    ensures { result ≡ scoreFound (at_least top (acceptedScore s radius (qualityOf a b c area))) }
+    ensures { result ≡ score_found (at_least top (accepted_score s radius (quality_of a b c area))) }
 {
     let shape = quality::shape_of(a, b, c, area);
     if score_bounds::score_bound(shape) < top {
@@ -144,7 +144,7 @@ fn is_accepted_at(
 ) -> bool
     requires { (3 * i + 2 < length points.now) × (3 * j + 2 < length points.now)
         × (3 * k + 2 < length points.now) × (to_i ≡ apart points.now i k) × (to_j ≡ apart points.now j k) }
-    ensures { result ≡ accepts s radius (qualityAt points.now i j k) }
+    ensures { result ≡ accepts s radius (quality_at points.now i j k) }
 {
     let area = area_at(points, i, j, k);
     let side = apart_at(points, j, i);

@@ -2,8 +2,8 @@
 mod lengths;
 
 ghost use Rattle.std.specs.Prelude.{◌≡◌, ◌≤◌};
-ghost use Rattle.domain.specs.Refusals.{refusal, firstRefusal, pointsChecks, inputChecks, workChecks};
-ghost use Rattle.domain.specs.Refusals.{estimateRefusal, reconstructRefusal};
+ghost use Rattle.domain.specs.Refusals.{refusal, first_refusal, points_checks, input_checks, work_checks};
+ghost use Rattle.domain.specs.Refusals.{estimate_refusal, reconstruct_refusal};
 
 use settings::BallPivotingConfig;
 
@@ -27,7 +27,7 @@ fn plainly(answer: u32) -> Refusal
 
 // 1 to 4, of a cloud without normals.
 pub fn refusal_of_points(points: &[f32]) -> Refusal
-    ensures { result ≡ firstRefusal (pointsChecks points.now) }
+    ensures { result ≡ first_refusal (points_checks points.now) }
 {
     let size = lengths::size_answer(points.len(), points.len());
     if size != 0 {
@@ -45,7 +45,7 @@ pub fn refusal_of_points(points: &[f32]) -> Refusal
 
 // 1 to 5, of a cloud with its normals and the settings.
 pub fn refusal_of_input(points: &[f32], normals: &[f32], settings: BallPivotingConfig) -> Refusal
-    ensures { result ≡ firstRefusal (inputChecks points.now normals.now settings) }
+    ensures { result ≡ first_refusal (input_checks points.now normals.now settings) }
 {
     let size = lengths::size_answer(points.len(), normals.len());
     if size != 0 {
@@ -71,14 +71,14 @@ pub fn refusal_of_input(points: &[f32], normals: &[f32], settings: BallPivotingC
 // 7, of work slices for n points.
 pub fn refusal_of_work(n: usize, words: usize, floats: usize) -> Refusal
     requires { n ≤ 4096 }
-    ensures { result ≡ firstRefusal (workChecks n words floats) }
+    ensures { result ≡ first_refusal (work_checks n words floats) }
 {
     plainly(lengths::work_answer(n, words, floats))
 }
 
 // What the estimate's checks answer, for work slices of the given lengths.
 pub fn refusal_of_estimate(points: &[f32], percentile: f32, words: usize, floats: usize) -> Refusal
-    ensures { result ≡ estimateRefusal points.now percentile words floats }
+    ensures { result ≡ estimate_refusal points.now percentile words floats }
 {
     let refusal = refusal_of_points(points);
     if refusal.answer != 0 {
@@ -98,7 +98,7 @@ pub fn refusal_of_reconstruct(
     words: usize,
     floats: usize,
 ) -> Refusal
-    ensures { result ≡ reconstructRefusal points.now normals.now settings words floats }
+    ensures { result ≡ reconstruct_refusal points.now normals.now settings words floats }
 {
     let refusal = refusal_of_input(points, normals, settings);
     if refusal.answer != 0 {

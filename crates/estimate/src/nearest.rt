@@ -6,9 +6,9 @@ ghost use Rattle.std.specs.Prelude.{◌≡◌, false, ◌+◌, ◌*◌, ◌≤�
 ghost use Rattle.std.specs.Float.{inf};
 ghost use Rattle.lists.specs.Members.{Below};
 ghost use Rattle.spatial_hash.specs.Inner.Near.{HashedAll};
-ghost use Rattle.regions.specs.Inner.Regions.{neighborsAt, usedAt};
-ghost use Rattle.estimate.specs.Estimate.{leastDistance};
-ghost use Rattle.estimate.specs.Inner.Squares.{lesserSquare, leastSquare, LookedWithin};
+ghost use Rattle.regions.specs.Inner.Regions.{neighbors_at, used_at};
+ghost use Rattle.estimate.specs.Estimate.{least_distance};
+ghost use Rattle.estimate.specs.Inner.Squares.{lesser_square, least_square, LookedWithin};
 
 use spatial_hash::Hash;
 
@@ -21,7 +21,7 @@ pub fn infinity() -> f32
 // The lesser of s and the squared distance of point j from point i, if they are two.
 fn lesser(points: &[f32], i: usize, j: usize, s: f32) -> f32
     requires { (3 * i + 2 < length points.now) × (3 * j + 2 < length points.now) }
-    ensures { result ≡ lesserSquare points.now i j s }
+    ensures { result ≡ lesser_square points.now i j s }
 {
     if i == j {
         return s;
@@ -32,10 +32,10 @@ fn lesser(points: &[f32], i: usize, j: usize, s: f32) -> f32
 
 // The least squared distance from point i to another of the `found` points that are listed; infinity if there is none.
 fn least_square(points: &[f32], n: usize, i: usize, w: &[u32], found: usize) -> f32
-    requires { (i < n) × (n ≤ 4096) × (found ≤ n) × (3 * n ≤ length points.now) × (usedAt n ≤ length w.now)
-        × Below n (take found (drop (neighborsAt n) w.now)) }
+    requires { (i < n) × (n ≤ 4096) × (found ≤ n) × (3 * n ≤ length points.now) × (used_at n ≤ length w.now)
+        × Below n (take found (drop (neighbors_at n) w.now)) }
     ensures { result
-        ≡ leastSquare points.now i (inf false) (take found (drop (neighborsAt n) w.now)) }
+        ≡ least_square points.now i (inf false) (take found (drop (neighbors_at n) w.now)) }
 {
     let mut s = infinity();
     let mut k: usize = 0;
@@ -72,7 +72,7 @@ pub fn least_distance(
     w: &mut [u32],
 ) -> f32
     requires { (i < n) × HashedAll hash points.now n w.old }
-    ensures { (result ≡ leastDistance points.now n i)
+    ensures { (result ≡ least_distance points.now n i)
         × HashedAll hash points.now n w.new }
 {
     let everywhere = infinity();

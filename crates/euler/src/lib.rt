@@ -1,13 +1,13 @@
 // That no triangle's score reaches a threshold of 1.00001: by Euler's inequality an inradius is at most half of the
 // circumradius, and rounding adds next to nothing.
 ghost use Rattle.std.specs.Prelude.{◌≡◌, true};
-ghost use Rattle.euler.specs.Inner.OutOfReach.{isOutOfReach, OutOfReach};
+ghost use Rattle.euler.specs.Inner.OutOfReach.{is_out_of_reach, OutOfReach};
 
 use bounds::Interval;
 
 // Whether no score of a plain triangle reaches a threshold.
 pub fn is_out_of_reach(threshold: f32) -> bool
-    ensures { result ≡ isOutOfReach threshold }
+    ensures { result ≡ is_out_of_reach threshold }
 {
     threshold >= 1.00001
 }

@@ -16,10 +16,10 @@ ghost use Rattle.stl_file.specs.Answers.{Wrote, Got};
 ghost use Rattle.patch_order.specs.Ordering.{OrdersPatch};
 ghost use Rattle.face_order.specs.Faces.{OrdersFaces};
 ghost use Rattle.release.specs.Release.{version, layout};
-ghost use Rattle.tally.specs.Tallies.{addedTo};
-ghost use Rattle.figures.specs.Working.{figuresOf};
+ghost use Rattle.tally.specs.Tallies.{added_to};
+ghost use Rattle.figures.specs.Working.{figures_of};
 ghost use Rattle.verdict.specs.Judged.{judged};
-ghost use Rattle.verdict.specs.Numbered.{verdictNumbers};
+ghost use Rattle.verdict.specs.Numbered.{verdict_numbers};
 ghost use Rattle.point_index.specs.Index.{Builds, Tells};
 ghost use Rattle.nearest_points.specs.Found.{Nears, Searches};
 ghost use Rattle.nearest_distances.specs.Measured.{Measures};
@@ -270,7 +270,7 @@ pub extern "C" fn yb_judge_triangle(
     j: usize,
     k: usize,
 ) -> Verdict
-    ensures { result ≡ verdictNumbers (judged points.now normals.now settings i j k) }
+    ensures { result ≡ verdict_numbers (judged points.now normals.now settings i j k) }
 {
     verdict::numbered::numbered(verdict::judge_triangle(points, normals, settings, i, j, k))
 }
@@ -307,8 +307,8 @@ pub extern "C" fn yb_order_faces(
 // Adds a patch to a lent tally, where it is.
 #[unsafe(no_mangle)]
 pub extern "C" fn yb_tally_add(tally: &mut Tally, patch: SeasonPatch) -> u32
-    ensures { (result ≡ (addedTo tally.old patch).answer)
-        × (tally.new ≡ (addedTo tally.old patch).tally) }
+    ensures { (result ≡ (added_to tally.old patch).answer)
+        × (tally.new ≡ (added_to tally.old patch).tally) }
 {
     let next = tally::added(*tally, patch);
     *tally = next.tally;
@@ -317,7 +317,7 @@ pub extern "C" fn yb_tally_add(tally: &mut Tally, patch: SeasonPatch) -> u32
 
 #[unsafe(no_mangle)]
 pub extern "C" fn yb_tally_figures(tally: &Tally) -> Figures
-    ensures { result ≡ figuresOf tally.now }
+    ensures { result ≡ figures_of tally.now }
 {
     figures::figures_of(*tally)
 }

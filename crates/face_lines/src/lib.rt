@@ -1,14 +1,14 @@
 // Reads faces from lines of a file: a,b,c of point numbers from 0. One pass looks at every line, and one stores the
 // faces in front of a lent slice.
 //
-// What the bytes mean is the definition `faceFile` of specs/Format.antt, and what the first pass tells of them
-// `scanOfLines` of specs/Inner/Answers.antt.
+// What the bytes mean is the definition `face_file` of specs/Format.antt, and what the first pass tells of them
+// `scan_of_lines` of specs/Inner/Answers.antt.
 mod line;
 
 ghost use Rattle.std.specs.Prelude.{◌≡◌, ◌||◌};
 ghost use Rattle.patch.specs.Lay.{face};
-ghost use Rattle.face_lines.specs.Format.{faceFile, outside, twice};
-ghost use Rattle.face_lines.specs.Inner.Answers.{scanOfLines, Readable, Stored};
+ghost use Rattle.face_lines.specs.Format.{face_file, outside, twice};
+ghost use Rattle.face_lines.specs.Inner.Answers.{scan_of_lines, Readable, Stored};
 
 use crate::line::line_at;
 pub use line::{FaceLineRead, PointNumberRead};
@@ -57,7 +57,7 @@ pub fn is_twice(before: bool, a: u32, b: u32, c: u32) -> bool
 
 // One pass over all lines, for n points.
 pub fn scan_faces(s: &[u8], n: usize) -> FacesScanned
-    ensures { result ≡ scanOfLines n (faceFile s.now) }
+    ensures { result ≡ scan_of_lines n (face_file s.now) }
 {
     let mut count: usize = 0;
     let mut outside = false;

@@ -1,7 +1,7 @@
 // One line of the file: three point numbers of 1 to 5 digits, parted by commas and ended by a line feed.
 ghost use Rattle.std.specs.Prelude.{◌≡◌, drop};
-ghost use Rattle.face_lines.specs.Format.{pointNumber, line};
-ghost use Rattle.face_lines.specs.Inner.Answers.{pointNumberMeans, lineMeans};
+ghost use Rattle.face_lines.specs.Format.{point_number, line};
+ghost use Rattle.face_lines.specs.Inner.Answers.{point_number_means, line_means};
 
 use numerals::{byte_is, digits_end, is_few, whole_of};
 
@@ -25,7 +25,7 @@ pub enum FaceLineRead {
 
 // A number and the byte that ends it.
 fn number_at(s: &[u8], at: usize, end: u8) -> PointNumberRead
-    ensures { pointNumberMeans s.now result ≡ pointNumber end (drop at s.now) }
+    ensures { point_number_means s.now result ≡ point_number end (drop at s.now) }
 {
     let stop = digits_end(s, at);
     let count = stop - at;
@@ -46,7 +46,7 @@ fn number_at(s: &[u8], at: usize, end: u8) -> PointNumberRead
 
 // A face's line.
 pub fn line_at(s: &[u8], at: usize) -> FaceLineRead
-    ensures { lineMeans s.now result ≡ line (drop at s.now) }
+    ensures { line_means s.now result ≡ line (drop at s.now) }
 {
     let PointNumberRead::Number {
         value: a,

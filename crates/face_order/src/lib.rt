@@ -2,7 +2,7 @@
 //
 // The checks behind the first, and the order, are those of crate `patch_order`, which reads the faces from lines.
 ghost use Rattle.std.specs.Prelude.{◌≡◌, ℕ, ◌≤◌, ◌<◌, length, get_or};
-ghost use Rattle.face_order.specs.Faces.{facesOf, seenOf, Ready, Judged, OrdersFaces};
+ghost use Rattle.face_order.specs.Faces.{faces_of, seen_of, Ready, Judged, OrdersFaces};
 
 use patch_order::Ordered;
 
@@ -15,7 +15,7 @@ pub struct FacesSeen {
 
 // One pass over all faces, for n points.
 fn look_at(faces: &[u32], n: usize) -> FacesSeen
-    ensures { result ≡ seenOf n (facesOf faces.now) }
+    ensures { result ≡ seen_of n (faces_of faces.now) }
 {
     let count = faces.len() / 3;
     let mut outside = false;
@@ -51,7 +51,7 @@ fn copy_numbers(faces: &[u32], words: &mut [u32])
 // Faces that have passed the checks so far: 13, 23 or their order. More than n - 2 faces have none, and are not copied.
 fn order_checked(faces: &[u32], n: usize, order: &mut [u32], words: &mut [u32]) -> Ordered
     requires { Ready faces.now n (length words.old) }
-    ensures { Judged (facesOf faces.now) order.old result order.new }
+    ensures { Judged (faces_of faces.now) order.old result order.new }
 {
     let count = faces.len() / 3;
     if order.len() < count {

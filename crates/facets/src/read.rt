@@ -3,7 +3,7 @@ ghost use Rattle.std.specs.Prelude.{◌≡◌, ◌+◌, ◌*◌, ◌≤◌, leng
 ghost use Rattle.std.proofs.lemmas.List.Edits.{sets};
 ghost use Rattle.numbers.specs.Rounded.{f32};
 ghost use Rattle.words.specs.Chunks.{chunks};
-ghost use Rattle.facets.specs.Format.{vertexAt, cornersOf};
+ghost use Rattle.facets.specs.Format.{vertex_at, corners_of};
 
 use words::word_at;
 
@@ -20,7 +20,7 @@ fn float_of(b: u32) -> f32
 // Three coordinates from a place of the file, to a place of the slice.
 fn read_vertex(bytes: &[u8], at: usize, corners: &mut [f32], to: usize)
     requires { (at + 12 ≤ length bytes.now) × (to + 3 ≤ length corners.old) }
-    ensures { corners.new ≡ sets corners.old to (vertexAt bytes.now at) }
+    ensures { corners.new ≡ sets corners.old to (vertex_at bytes.now at) }
 {
     corners[to] = float_of(word_at(bytes, at));
     corners[to + 1] = float_of(word_at(bytes, at + 4));
@@ -30,7 +30,7 @@ fn read_vertex(bytes: &[u8], at: usize, corners: &mut [f32], to: usize)
 pub fn read_facets(bytes: &[u8], corners: &mut [f32], n: usize)
     requires { (84 + 50 * n ≤ length bytes.now) × (9 * n ≤ length corners.old) }
     ensures { corners.new
-        ≡ sets corners.old 0 (chunks (cornersOf bytes.now) 0 n) }
+        ≡ sets corners.old 0 (chunks (corners_of bytes.now) 0 n) }
 {
     let mut i: usize = 0;
     while i < n {

@@ -4,7 +4,7 @@ ghost use Rattle.std.proofs.lemmas.List.Edits.{sets};
 ghost use Rattle.std.specs.Float.{binary32};
 ghost use Rattle.std.specs.Float.Ieee.{to_bits};
 ghost use Rattle.words.specs.Chunks.{chunks};
-ghost use Rattle.facets.specs.Format.{normal, vertex, facet, facetOf, cornerAt, stl};
+ghost use Rattle.facets.specs.Format.{normal, vertex, facet, facet_of, corner_at, stl};
 ghost use Rattle.facets.specs.Known.{all_below, NamesPoints};
 
 use points::point_at;
@@ -60,7 +60,7 @@ fn put_facets(out: &mut [u8], points: &[f32], faces: &[u32], n: usize)
     requires { (84 + 50 * n ≤ length out.old) × (3 * n ≤ length faces.now)
         × NamesPoints points.now faces.now }
     ensures { out.new
-        ≡ sets out.old 84 (chunks (facetOf (cornerAt points.now faces.now)) 0 n) }
+        ≡ sets out.old 84 (chunks (facet_of (corner_at points.now faces.now)) 0 n) }
 {
     let mut i: usize = 0;
     while i < n {

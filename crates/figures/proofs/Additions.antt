@@ -8,43 +8,43 @@ use native.Mathlib.Nat.{le_of_mul-le-mul_left}
 use native.Mathlib.Omega.{arith}
 use borrow.Author.Tests.{ltb-true, lt-ltb, leb-true, leb-false, eqb-true, eqb-false}
 use lib.Dec.{ltb, leb, eqb}
-use Rattle.tally.specs.Checks.{maxPatches, maxFaces, enterable, soundTally, Enterable, TallyWithin, TallySound}
-use Rattle.tally.specs.Tallies.{better, betterPatch, worstOf, summed, withPatch, answering, addedTo}
+use Rattle.tally.specs.Checks.{max_patches, max_faces, enterable, sound_tally, Enterable, TallyWithin, TallySound}
+use Rattle.tally.specs.Tallies.{better, better_patch, worst_of, summed, with_patch, answering, added_to}
 use Rattle.tally.specs.declared.SeasonPatch.{SeasonPatch}
 use Rattle.tally.specs.declared.Tally.{Tally}
 use Rattle.tally.specs.declared.Outcome.{Outcome}
-use Rattle.tally.proofs.Told.{product, enterable-told, sound-told, sound-tells}
+use Rattle.tally.proofs.Told.{product, enterable_told, sound_told, sound_tells}
 
 pub record Accepted (t : Tally) (p : SeasonPatch) : Type 0 where
-  pub taken : soundTally t ≡ true
+  pub taken : sound_tally t ≡ true
   pub fine : enterable p ≡ true
-  pub room : t.patches < maxPatches
-  pub now : addedTo t p ≡ answering 0 (withPatch t p)
+  pub room : t.patches < max_patches
+  pub now : added_to t p ≡ answering 0 (with_patch t p)
 
 pub record Refused (t : Tally) (p : SeasonPatch) : Type 0 where
-  pub kept : (addedTo t p).tally ≡ t
-  pub why : (addedTo t p).answer ≡ 0 → ⊥
+  pub kept : (added_to t p).tally ≡ t
+  pub why : (added_to t p).answer ≡ 0 → ⊥
 
 module _ (t : Tally) (p : SeasonPatch) where
-  refusal : (n : ℕ) → 0 < n → addedTo t p ≡ answering n t → Refused t p
+  refusal : (n : ℕ) → 0 < n → added_to t p ≡ answering n t → Refused t p
   refusal n l e = record {
     kept = ap (λ (o : Outcome). o.tally) e;
-    why = λ z. let y : (addedTo t p).answer ≡ n = ap (λ (o : Outcome). o.answer) e in omega arith;
+    why = λ z. let y : (added_to t p).answer ≡ n = ap (λ (o : Outcome). o.answer) e in omega arith;
   }
 
-  by_tests : (a b d : Bool) → soundTally t ≡ a → enterable p ≡ b → ltb t.patches maxPatches ≡ d → Accepted t p ⊎ Refused t p
-  unfolding addedTo
+  by_tests : (a b d : Bool) → sound_tally t ≡ a → enterable p ≡ b → ltb t.patches max_patches ≡ d → Accepted t p ⊎ Refused t p
+  unfolding added_to
   by_tests true true true x y z = inl (record { taken = x; fine = y; room = ltb-true _ _ z; now = rw (x, y, z) })
   by_tests true true false x y z = inr (refusal 19 (omega arith) (rw (x, y, z)))
   by_tests true false d x y z = inr (refusal 20 (omega arith) (rw (x, y)))
   by_tests false b d x y z = inr (refusal 24 (omega arith) (rw x))
 
-  pub accepted-or-refused : Accepted t p ⊎ Refused t p
-  accepted-or-refused = by_tests (soundTally t) (enterable p) (ltb t.patches maxPatches) refl refl refl
+  pub accepted_or_refused : Accepted t p ⊎ Refused t p
+  accepted_or_refused = by_tests (sound_tally t) (enterable p) (ltb t.patches max_patches) refl refl refl
 
   -- whatever passes the three tests is accepted
-  pub accepts : soundTally t ≡ true → enterable p ≡ true → t.patches < maxPatches → Accepted t p
-  unfolding addedTo
+  pub accepts : sound_tally t ≡ true → enterable p ≡ true → t.patches < max_patches → Accepted t p
+  unfolding added_to
   accepts x y l = record { taken = x; fine = y; room = l; now = rw (x, y, lt-ltb _ _ l) }
 
 -- twice a product is at most the sum of the squares
@@ -66,8 +66,8 @@ twice a b = either (leb a b) refl where
 
 -- the variance of counts with one more is not negative, if it was not before: m patches, the sum s of their counts, the
 -- sum q of the squares
-spread-more : (m s q f : ℕ) → s ≤ m * maxFaces → s * s ≤ m * q → (s + f) * (s + f) ≤ (m + 1) * (q + f * f)
-spread-more m s q f some h = either (eqb m 0) refl where
+spread_more : (m s q f : ℕ) → s ≤ m * max_faces → s * s ≤ m * q → (s + f) * (s + f) ≤ (m + 1) * (q + f * f)
+spread_more m s q f some h = either (eqb m 0) refl where
   either : (b : Bool) → eqb m 0 ≡ b → (s + f) * (s + f) ≤ (m + 1) * (q + f * f)
   either true b =
       let z : m ≡ 0 = eqb-true m 0 b in
@@ -84,10 +84,10 @@ ends_of : (b : Bool) (p q : SeasonPatch) → Enterable p → Enterable q → Ent
 ends_of true p q x y = x
 ends_of false p q x y = y
 
-module _ (t : Tally) (p : SeasonPatch) (s : TallySound t) (e : Enterable p) (l : t.patches < maxPatches) where
-  more-sums : (best worst : SeasonPatch) → TallyWithin (summed t p best worst)
+module _ (t : Tally) (p : SeasonPatch) (s : TallySound t) (e : Enterable p) (l : t.patches < max_patches) where
+  more_sums : (best worst : SeasonPatch) → TallyWithin (summed t p best worst)
   unfolding summed
-  more-sums best worst =
+  more_sums best worst =
       let w = s.sums in
       record {
         patches = omega arith;
@@ -99,42 +99,42 @@ module _ (t : Tally) (p : SeasonPatch) (s : TallySound t) (e : Enterable p) (l :
         part = omega (arith, w.part, e.part);
       }
 
-  more : (best worst : SeasonPatch) → Enterable best → Enterable worst → soundTally (summed t p best worst) ≡ true
+  more : (best worst : SeasonPatch) → Enterable best → Enterable worst → sound_tally (summed t p best worst) ≡ true
   unfolding summed
   more best worst x y =
-      sound-tells (summed t p best worst)
+      sound_tells (summed t p best worst)
       (record {
-        sums = more-sums best worst;
-        spread = spread-more t.patches t.faces t.face_squares p.faces s.sums.faces s.spread;
+        sums = more_sums best worst;
+        spread = spread_more t.patches t.faces t.face_squares p.faces s.sums.faces s.spread;
         ends = λ h. (x, y);
       })
       (omega arith)
 
-  kept_by : (b : Bool) → eqb t.patches 0 ≡ b → soundTally (cond b (summed t p p p) (summed t p (betterPatch t.best p) (worstOf t.worst p))) ≡ true
-  unfolding betterPatch worstOf
+  kept_by : (b : Bool) → eqb t.patches 0 ≡ b → sound_tally (cond b (summed t p p p) (summed t p (better_patch t.best p) (worst_of t.worst p))) ≡ true
+  unfolding better_patch worst_of
   kept_by true z = more p p e e
   kept_by false z =
       let n = eqb-false t.patches 0 z in
       let h = s.ends (omega arith) in
-      more (betterPatch t.best p) (worstOf t.worst p) (ends_of (better p t.best) p t.best e h.0)
+      more (better_patch t.best p) (worst_of t.worst p) (ends_of (better p t.best) p t.best e h.0)
       (ends_of (better t.worst p) p t.worst e h.1)
 
-  with-sound : soundTally (withPatch t p) ≡ true
-  unfolding withPatch
-  with-sound = kept_by (eqb t.patches 0) refl
+  with_sound : sound_tally (with_patch t p) ≡ true
+  unfolding with_patch
+  with_sound = kept_by (eqb t.patches 0) refl
 
 -- an accepted addition never makes a tally that 24 refuses
-pub stays-sound : (t : Tally) (p : SeasonPatch) → Accepted t p → soundTally (addedTo t p).tally ≡ true
-stays-sound t p a =
-    subst (λ (o : Outcome). soundTally o.tally ≡ true) (sym a.now)
-    (with-sound t p (sound-told t a.taken) (enterable-told p a.fine) a.room)
+pub stays_sound : (t : Tally) (p : SeasonPatch) → Accepted t p → sound_tally (added_to t p).tally ≡ true
+stays_sound t p a =
+    subst (λ (o : Outcome). sound_tally o.tally ≡ true) (sym a.now)
+    (with_sound t p (sound_told t a.taken) (enterable_told p a.fine) a.room)
 
 counted : (b : Bool) (t u : Tally) (n : ℕ) → t.patches ≡ n → u.patches ≡ n → (cond b t u).patches ≡ n
 counted true t u n x y = x
 counted false t u n x y = y
 
-pub one-more-patch : (t : Tally) (p : SeasonPatch) → Accepted t p → (addedTo t p).tally.patches ≡ t.patches + 1
-unfolding withPatch summed
-one-more-patch t p a =
+pub one_more_patch : (t : Tally) (p : SeasonPatch) → Accepted t p → (added_to t p).tally.patches ≡ t.patches + 1
+unfolding with_patch summed
+one_more_patch t p a =
     ap (λ (o : Outcome). o.tally.patches) a.now
-    ∙ counted (eqb t.patches 0) (summed t p p p) (summed t p (betterPatch t.best p) (worstOf t.worst p)) (t.patches + 1) refl refl
+    ∙ counted (eqb t.patches 0) (summed t p p p) (summed t p (better_patch t.best p) (worst_of t.worst p)) (t.patches + 1) refl refl

@@ -24,11 +24,11 @@ module _ {P : SeasonPatch → Type 0} where
   each_at [] x qs (one h hs) = h
   each_at (p ∷ ps) x qs (one h hs) = each_at ps x qs hs
 
-  pub each-reordered : {ps qs : List SeasonPatch} → PatchesReordered ps qs → EachPatch P ps → EachPatch P qs
-  each-reordered same h = h
-  each-reordered (next r) (one h hs) = one h (each-reordered r hs)
-  each-reordered swap (one h (one k ks)) = one k (one h ks)
-  each-reordered (then r s) h = each-reordered s (each-reordered r h)
+  pub each_reordered : {ps qs : List SeasonPatch} → PatchesReordered ps qs → EachPatch P ps → EachPatch P qs
+  each_reordered same h = h
+  each_reordered (next r) (one h hs) = one h (each_reordered r hs)
+  each_reordered swap (one h (one k ks)) = one k (one h ks)
+  each_reordered (then r s) h = each_reordered s (each_reordered r h)
 
 pub each_both : {P Q R : SeasonPatch → Type 0} → ((p : SeasonPatch) → P p → Q p → R p) → (ps : List SeasonPatch) → EachPatch P ps → EachPatch Q ps
     → EachPatch R ps
@@ -50,9 +50,9 @@ pub record Beating (beats : SeasonPatch → SeasonPatch → Bool) : Type 0 where
 
 module _ (x y z : SeasonPatch) (sx : Some x) (sy : Some y) (sz : Some z) where
   -- x beats y and z doesn't: x beats z
-  pub better-over : better x y ≡ true → better z y ≡ false → better x z ≡ true
+  pub better_over : better x y ≡ true → better z y ≡ false → better x z ≡ true
   unfolding better
-  better-over h k =
+  better_over h k =
       let a : y.covered * x.scanned < x.covered * y.scanned = ltb-true _ _ h in
       let b : z.covered * y.scanned ≤ y.covered * z.scanned = ltb-false _ _ k in
       let l : y.covered * x.scanned * z.scanned < x.covered * y.scanned * z.scanned = mul-lt-mul_of_pos_right a sz in
@@ -61,9 +61,9 @@ module _ (x y z : SeasonPatch) (sx : Some x) (sy : Some y) (sz : Some z) where
       lt-ltb _ _ (lt_of_mul-lt-mul_left y.scanned n)
 
   -- y beats x and does not beat z: z beats x
-  pub worse-over : better y x ≡ true → better y z ≡ false → better z x ≡ true
+  pub worse_over : better y x ≡ true → better y z ≡ false → better z x ≡ true
   unfolding better
-  worse-over h k =
+  worse_over h k =
       let a : x.covered * y.scanned < y.covered * x.scanned = ltb-true _ _ h in
       let b : y.covered * z.scanned ≤ z.covered * y.scanned = ltb-false _ _ k in
       let l : x.covered * y.scanned * z.scanned < y.covered * x.scanned * z.scanned = mul-lt-mul_of_pos_right a sz in
@@ -71,33 +71,33 @@ module _ (x y z : SeasonPatch) (sx : Some x) (sy : Some y) (sz : Some z) where
       let n : y.scanned * (x.covered * z.scanned) < y.scanned * (z.covered * x.scanned) = omega arith in
       lt-ltb _ _ (lt_of_mul-lt-mul_left y.scanned n)
 
-better-asym : (x y : SeasonPatch) → better x y ≡ true → better y x ≡ false
+better_asym : (x y : SeasonPatch) → better x y ≡ true → better y x ≡ false
 unfolding better
-better-asym x y h =
+better_asym x y h =
     let a = ltb-true (y.covered * x.scanned) (x.covered * y.scanned) h in le-ltb (x.covered * y.scanned) (y.covered * x.scanned) (omega arith)
 
-better-self : (x : SeasonPatch) → better x x ≡ false
+better_self : (x : SeasonPatch) → better x x ≡ false
 unfolding better
-better-self x = le-ltb (x.covered * x.scanned) (x.covered * x.scanned) (omega arith)
+better_self x = le-ltb (x.covered * x.scanned) (x.covered * x.scanned) (omega arith)
 
-pub better-beats : Beating better
-better-beats = record { asym = better-asym; self = better-self; over = better-over }
+pub better_beats : Beating better
+better_beats = record { asym = better_asym; self = better_self; over = better_over }
 
-pub worse-beats : Beating worse
-worse-beats = record { asym = λ x y. better-asym y x; self = better-self; over = worse-over }
+pub worse_beats : Beating worse
+worse_beats = record { asym = λ x y. better_asym y x; self = better_self; over = worse_over }
 
 module _ (beats : SeasonPatch → SeasonPatch → Bool) (law : Beating beats) where
   -- none of the list beats the earliest
-  pub unbeaten-all : (ps : List SeasonPatch) (x : SeasonPatch) → Earliest beats ps x → EachPatch (λ p. beats p x ≡ false) ps
-  unbeaten-all ps x e =
+  pub unbeaten_all : (ps : List SeasonPatch) (x : SeasonPatch) → Earliest beats ps x → EachPatch (λ p. beats p x ≡ false) ps
+  unbeaten_all ps x e =
       subst (λ (l : List SeasonPatch). EachPatch (λ p. beats p x ≡ false) l) (sym e.place)
       (each_append e.before (x ∷ e.after)
       (each_both {P = λ p. beats x p ≡ true} {Q = λ p. beats x p ≡ true} {R = λ p. beats p x ≡ false} (λ p h k. law.asym x p h) e.before e.ahead
       e.ahead)
       (one (law.self x) e.unbeaten))
 
-  pub at-earliest : {P : SeasonPatch → Type 0} (ps : List SeasonPatch) (x : SeasonPatch) → Earliest beats ps x → EachPatch P ps → P x
-  at-earliest {P} ps x e h = each_at e.before x e.after (subst (λ (l : List SeasonPatch). EachPatch P l) e.place h)
+  pub at_earliest : {P : SeasonPatch → Type 0} (ps : List SeasonPatch) (x : SeasonPatch) → Earliest beats ps x → EachPatch P ps → P x
+  at_earliest {P} ps x e h = each_at e.before x e.after (subst (λ (l : List SeasonPatch). EachPatch P l) e.place h)
 
   pub first : (p : SeasonPatch) → Earliest beats (p ∷ []) p
   first p = record { before = []; after = []; place = refl; ahead = none; unbeaten = none }
@@ -110,7 +110,7 @@ module _ (beats : SeasonPatch → SeasonPatch → Bool) (law : Beating beats) wh
     after = [];
     place = refl;
     ahead = each_both {P = Some} {Q = λ q. beats q held ≡ false} {R = λ q. beats p q ≡ true}
-        (λ q sq k. law.over p held q s (at-earliest ps held e some) sq h k) ps some (unbeaten-all ps held e);
+        (λ q sq k. law.over p held q s (at_earliest ps held e some) sq h k) ps some (unbeaten_all ps held e);
     unbeaten = none;
   }
   one_more ps held p some s e false h = record {
@@ -123,13 +123,13 @@ module _ (beats : SeasonPatch → SeasonPatch → Bool) (law : Beating beats) wh
 
   -- in another order another may be the earliest, but neither beats the other
   pub neither : (ps qs : List SeasonPatch) (x y : SeasonPatch) → PatchesReordered ps qs → Earliest beats ps x → Earliest beats qs y → beats y x ≡ false
-  neither ps qs x y r e f = at-earliest {P = λ q. beats q x ≡ false} qs y f (each-reordered r (unbeaten-all ps x e))
+  neither ps qs x y r e f = at_earliest {P = λ q. beats q x ≡ false} qs y f (each_reordered r (unbeaten_all ps x e))
 
-head-same : {p q : SeasonPatch} {ps qs : List SeasonPatch} → ◌≡◌ {A = List SeasonPatch} (p ∷ ps) (q ∷ qs) → p ≡ q
-head-same e = cc
+head_same : {p q : SeasonPatch} {ps qs : List SeasonPatch} → ◌≡◌ {A = List SeasonPatch} (p ∷ ps) (q ∷ qs) → p ≡ q
+head_same e = cc
 
-tail-same : {p q : SeasonPatch} {ps qs : List SeasonPatch} → ◌≡◌ {A = List SeasonPatch} (p ∷ ps) (q ∷ qs) → ps ≡ qs
-tail-same e = cc
+tail_same : {p q : SeasonPatch} {ps qs : List SeasonPatch} → ◌≡◌ {A = List SeasonPatch} (p ∷ ps) (q ∷ qs) → ps ≡ qs
+tail_same e = cc
 
 never : (b : Bool) → b ≡ true → b ≡ false → ⊥
 never b h k = let z : ◌≡◌ {A = ℕ} 0 1 = cc in omega arith
@@ -145,13 +145,13 @@ module _ (beats : SeasonPatch → SeasonPatch → Bool) where
   one_place : (a b : List SeasonPatch) (x y : SeasonPatch) (c d : List SeasonPatch) → a ++ (x ∷ c) ≡ b ++ (y ∷ d)
       → EachPatch (λ p. beats x p ≡ true) a → EachPatch (λ p. beats p x ≡ false) c → EachPatch (λ p. beats y p ≡ true) b → EachPatch (λ p. beats p y ≡ false) d
       → x ≡ y
-  one_place [] [] x y c d e ax ux ay uy = head-same e
-  one_place [] (q ∷ b) x y c d e ax ux (one h hs) uy = absurd (apart x y q c b d (sym (head-same e)) (tail-same e) h ux)
-  one_place (p ∷ a) [] x y c d e (one h hs) ux ay uy = absurd (apart y x p d a c (head-same e) (sym (tail-same e)) h uy)
-  one_place (p ∷ a) (q ∷ b) x y c d e (one h hs) ux (one k ks) uy = one_place a b x y c d (tail-same e) hs ux ks uy
+  one_place [] [] x y c d e ax ux ay uy = head_same e
+  one_place [] (q ∷ b) x y c d e ax ux (one h hs) uy = absurd (apart x y q c b d (sym (head_same e)) (tail_same e) h ux)
+  one_place (p ∷ a) [] x y c d e (one h hs) ux ay uy = absurd (apart y x p d a c (head_same e) (sym (tail_same e)) h uy)
+  one_place (p ∷ a) (q ∷ b) x y c d e (one h hs) ux (one k ks) uy = one_place a b x y c d (tail_same e) hs ux ks uy
 
-  pub earliest-only : (ps : List SeasonPatch) (x y : SeasonPatch) → Earliest beats ps x → Earliest beats ps y → x ≡ y
-  earliest-only ps x y e f =
+  pub earliest_only : (ps : List SeasonPatch) (x y : SeasonPatch) → Earliest beats ps x → Earliest beats ps y → x ≡ y
+  earliest_only ps x y e f =
       one_place e.before f.before x y e.after f.after (sym e.place ∙ f.place) e.ahead e.unbeaten f.ahead f.unbeaten
 
 -- neither is better covered: the cross products are equal

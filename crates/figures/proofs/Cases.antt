@@ -4,12 +4,12 @@ use mathlib.Core.Path.{◌≡◌, refl}
 use mathlib.Core.List.{List, [], ◌∷◌}
 use Prim.Native.Nat.{ℕ}
 use Rattle.fractions.specs.declared.Fraction.{Fraction}
-use Rattle.fractions.specs.Terms.{euclid, greatestDivisor, lowest}
+use Rattle.fractions.specs.Terms.{euclid, greatest_divisor, lowest}
 use Rattle.tally.specs.declared.SeasonPatch.{SeasonPatch}
 use Rattle.tally.specs.declared.Tally.{Tally}
-use Rattle.tally.specs.Checks.{enterable, tallyWithin, soundTally}
-use Rattle.tally.specs.Tallies.{better, betterPatch, worstOf, summed, withPatch, addedTo}
-use Rattle.figures.specs.Working.{coverageOf, varianceOf, noFigures, soundFigures, figuresOf}
+use Rattle.tally.specs.Checks.{enterable, tally_within, sound_tally}
+use Rattle.tally.specs.Tallies.{better, better_patch, worst_of, summed, with_patch, added_to}
+use Rattle.figures.specs.Working.{coverage_of, variance_of, no_figures, sound_figures, figures_of}
 use Rattle.figures.specs.Season.{EmptyTally, after}
 
 -- number, scanned, covered, faces
@@ -48,82 +48,82 @@ abbrev none : Tally
 none = tally 0 0 0 0 0 (patch 0 0 0 0) (patch 0 0 0 0)
 
 abbrev answer : Tally → SeasonPatch → ℕ
-answer t p = (addedTo t p).answer
+answer t p = (added_to t p).answer
 
 abbrev figures : Tally → ℕ
-figures t = (figuresOf t).answer
+figures t = (figures_of t).answer
 
 pub record PatchCases : Type 0 where
   pub least : answer none a ≡ 0
   pub most : answer none b ≡ 0
-  pub no-points : answer none (patch 1 0 0 0) ≡ 20
-  pub too-many-points : answer none (patch 1 4097 0 0) ≡ 20
-  pub more-covered : answer none (patch 1 5 6 0) ≡ 20
-  pub too-many-faces : answer none (patch 1 1 0 10001) ≡ 20
+  pub no_points_lem : answer none (patch 1 0 0 0) ≡ 20
+  pub too_many_points_lem : answer none (patch 1 4097 0 0) ≡ 20
+  pub more_covered : answer none (patch 1 5 6 0) ≡ 20
+  pub too_many_faces : answer none (patch 1 1 0 10001) ≡ 20
 
-pub patch-cases : PatchCases
-unfolding addedTo soundTally tallyWithin enterable withPatch summed betterPatch worstOf better
-patch-cases = record { least = refl; most = refl; no-points = refl; too-many-points = refl; more-covered = refl; too-many-faces = refl }
+pub patch_cases : PatchCases
+unfolding added_to sound_tally tally_within enterable with_patch summed better_patch worst_of better
+patch_cases = record { least = refl; most = refl; no_points_lem = refl; too_many_points_lem = refl; more_covered = refl; too_many_faces = refl }
 
 -- 24's list on both sides of each bound
 pub record TallyCases : Type 0 where
   pub full : figures (held 100000) ≡ 0
-  pub too_many : figures (held 100001) ≡ 24
+  pub too_many_lem : figures (held 100001) ≡ 24
   pub squares : figures (tally 2 20000 200000000 2 0 a a) ≡ 0
-  pub squares-above : figures (tally 2 20000 200000001 2 0 a a) ≡ 24
-  pub faces-above : figures (tally 2 20001 200000000 2 0 a a) ≡ 24
+  pub squares_above : figures (tally 2 20000 200000001 2 0 a a) ≡ 24
+  pub faces_above : figures (tally 2 20001 200000000 2 0 a a) ≡ 24
   pub scanned : figures (tally 2 0 0 8192 0 a a) ≡ 0
-  pub scanned-above : figures (tally 2 0 0 8193 0 a a) ≡ 24
-  pub scanned-below : figures (tally 2 0 0 1 0 a a) ≡ 24
+  pub scanned_above : figures (tally 2 0 0 8193 0 a a) ≡ 24
+  pub scanned_below : figures (tally 2 0 0 1 0 a a) ≡ 24
   pub covered : figures (tally 2 0 0 8192 8192 a a) ≡ 0
-  pub covered-above : figures (tally 2 0 0 8191 8192 a a) ≡ 24
-  pub variance-none : figures (tally 2 4 8 2 0 a a) ≡ 0
-  pub variance-negative : figures (tally 2 3 4 2 0 a a) ≡ 24
-  pub best-bad : figures (tally 1 0 0 1 0 bad a) ≡ 24
-  pub worst-bad : figures (tally 1 0 0 1 0 a bad) ≡ 24
+  pub covered_above : figures (tally 2 0 0 8191 8192 a a) ≡ 24
+  pub variance_none : figures (tally 2 4 8 2 0 a a) ≡ 0
+  pub variance_negative : figures (tally 2 3 4 2 0 a a) ≡ 24
+  pub best_bad : figures (tally 1 0 0 1 0 bad a) ≡ 24
+  pub worst_bad : figures (tally 1 0 0 1 0 a bad) ≡ 24
   pub empty : figures none ≡ 21
-  pub empty-any-ends : figures (tally 0 0 0 0 0 bad bad) ≡ 21
-  pub empty-faces : figures (tally 0 1 0 0 0 a a) ≡ 24
-  pub empty-squares : figures (tally 0 0 1 0 0 a a) ≡ 24
-  pub empty-scanned : figures (tally 0 0 0 1 0 a a) ≡ 24
-  pub empty-covered : figures (tally 0 0 0 0 1 a a) ≡ 24
+  pub empty_any_ends : figures (tally 0 0 0 0 0 bad bad) ≡ 21
+  pub empty_faces : figures (tally 0 1 0 0 0 a a) ≡ 24
+  pub empty_squares : figures (tally 0 0 1 0 0 a a) ≡ 24
+  pub empty_scanned : figures (tally 0 0 0 1 0 a a) ≡ 24
+  pub empty_covered : figures (tally 0 0 0 0 1 a a) ≡ 24
 
-pub tally-cases : TallyCases
-unfolding figuresOf soundFigures noFigures soundTally tallyWithin enterable varianceOf coverageOf lowest greatestDivisor euclid
-tally-cases = record {
+pub tally_cases : TallyCases
+unfolding figures_of sound_figures no_figures sound_tally tally_within enterable variance_of coverage_of lowest greatest_divisor euclid
+tally_cases = record {
   full = refl;
-  too_many = refl;
+  too_many_lem = refl;
   squares = refl;
-  squares-above = refl;
-  faces-above = refl;
+  squares_above = refl;
+  faces_above = refl;
   scanned = refl;
-  scanned-above = refl;
-  scanned-below = refl;
+  scanned_above = refl;
+  scanned_below = refl;
   covered = refl;
-  covered-above = refl;
-  variance-none = refl;
-  variance-negative = refl;
-  best-bad = refl;
-  worst-bad = refl;
+  covered_above = refl;
+  variance_none = refl;
+  variance_negative = refl;
+  best_bad = refl;
+  worst_bad = refl;
   empty = refl;
-  empty-any-ends = refl;
-  empty-faces = refl;
-  empty-squares = refl;
-  empty-scanned = refl;
-  empty-covered = refl;
+  empty_any_ends = refl;
+  empty_faces = refl;
+  empty_squares = refl;
+  empty_scanned = refl;
+  empty_covered = refl;
 }
 
 -- 24 before 20 before 19; and where a tally is full
 pub record OrderCases : Type 0 where
   pub not_full : answer (held 99999) a ≡ 0
   pub full : answer (held 100000) a ≡ 19
-  pub bad-when-full : answer (held 100000) bad ≡ 20
-  pub bad-both : answer (held 100001) bad ≡ 24
-  pub too_many : answer (held 100001) a ≡ 24
+  pub bad_when_full : answer (held 100000) bad ≡ 20
+  pub bad_both : answer (held 100001) bad ≡ 24
+  pub too_many_lem : answer (held 100001) a ≡ 24
 
-pub order-cases : OrderCases
-unfolding addedTo soundTally tallyWithin enterable withPatch summed betterPatch worstOf better
-order-cases = record { not_full = refl; full = refl; bad-when-full = refl; bad-both = refl; too_many = refl }
+pub order_cases : OrderCases
+unfolding added_to sound_tally tally_within enterable with_patch summed better_patch worst_of better
+order_cases = record { not_full = refl; full = refl; bad_when_full = refl; bad_both = refl; too_many_lem = refl }
 
 -- three patches, the first two equally covered by unlike fractions
 abbrev three : List SeasonPatch
@@ -132,10 +132,10 @@ three = patch 7 4 2 3 ∷ patch 8 2 1 5 ∷ patch 9 4 3 4 ∷ []
 pub record SeasonCases : Type 0 where
   -- a season begins with zeros, or with anything as best and worst
   pub begins : EmptyTally none
-  pub begins-with-ends : EmptyTally (tally 0 0 0 0 0 b bad)
+  pub begins_with_ends : EmptyTally (tally 0 0 0 0 0 b bad)
   -- whatever stood in an empty tally, the first patch is both; of 1/2 and 2/4 the earlier one stays
   pub equal : after (tally 0 0 0 0 0 b bad) (patch 8 2 1 5 ∷ patch 7 4 2 3 ∷ []) ≡ tally 2 8 34 6 3 (patch 8 2 1 5) (patch 8 2 1 5)
-  pub worked : figuresOf (after none three) ≡ record {
+  pub worked : figures_of (after none three) ≡ record {
     answer = 0;
     patches = 3;
     mean = over 4 1;
@@ -147,7 +147,7 @@ pub record SeasonCases : Type 0 where
     worst_coverage = over 1 2;
   }
   -- nothing covered, no faces: zeros are 0 over 1
-  pub zeros : figuresOf (after none (patch 5 6 0 0 ∷ [])) ≡ record {
+  pub zeros : figures_of (after none (patch 5 6 0 0 ∷ [])) ≡ record {
     answer = 0;
     patches = 1;
     mean = over 0 1;
@@ -159,12 +159,12 @@ pub record SeasonCases : Type 0 where
     worst_coverage = over 0 1;
   }
 
-pub season-cases : SeasonCases
-unfolding after addedTo soundTally tallyWithin enterable withPatch summed betterPatch worstOf better figuresOf soundFigures noFigures varianceOf coverageOf
-    lowest greatestDivisor euclid
-season-cases = record {
+pub season_cases : SeasonCases
+unfolding after added_to sound_tally tally_within enterable with_patch summed better_patch worst_of better figures_of sound_figures no_figures variance_of coverage_of
+    lowest greatest_divisor euclid
+season_cases = record {
   begins = record { patches = refl; taken = refl };
-  begins-with-ends = record { patches = refl; taken = refl };
+  begins_with_ends = record { patches = refl; taken = refl };
   equal = refl;
   worked = refl;
   zeros = refl;

@@ -4,26 +4,26 @@ use Rattle.fractions.specs.Terms.{lowest}
 use Rattle.tally.specs.declared.SeasonPatch.{SeasonPatch}
 use Rattle.tally.specs.declared.Tally.{Tally}
 use Rattle.figures.specs.declared.Figures.{Figures}
-use Rattle.tally.specs.Checks.{soundTally}
-use Rattle.tally.specs.Tallies.{better, addedTo}
-use Rattle.figures.specs.Working.{coverageOf, varianceOf}
+use Rattle.tally.specs.Checks.{sound_tally}
+use Rattle.tally.specs.Tallies.{better, added_to}
+use Rattle.figures.specs.Working.{coverage_of, variance_of}
 
 -- the sum of something over a list of patches
-abbrev pub totalOver : (SeasonPatch → ℕ) → List SeasonPatch → ℕ
-totalOver f [] = 0
-totalOver f (p ∷ ps) = f p + totalOver f ps
+abbrev pub total_over : (SeasonPatch → ℕ) → List SeasonPatch → ℕ
+total_over f [] = 0
+total_over f (p ∷ ps) = f p + total_over f ps
 
-abbrev pub scannedOf : SeasonPatch → ℕ
-scannedOf p = p.scanned
+abbrev pub scanned_of : SeasonPatch → ℕ
+scanned_of p = p.scanned
 
-abbrev pub coveredOf : SeasonPatch → ℕ
-coveredOf p = p.covered
+abbrev pub covered_of : SeasonPatch → ℕ
+covered_of p = p.covered
 
-abbrev pub faceCount : SeasonPatch → ℕ
-faceCount p = p.faces
+abbrev pub face_count : SeasonPatch → ℕ
+face_count p = p.faces
 
-abbrev pub squareOf : SeasonPatch → ℕ
-squareOf p = p.faces * p.faces
+abbrev pub square_of : SeasonPatch → ℕ
+square_of p = p.faces * p.faces
 
 -- whether a patch is worse covered than another
 abbrev pub worse : SeasonPatch → SeasonPatch → Bool
@@ -46,30 +46,30 @@ pub record Earliest (beats : SeasonPatch → SeasonPatch → Bool) (ps : List Se
 pub record Figured (ps : List SeasonPatch) (f : Figures) : Type 0 where
   pub answer : f.answer ≡ 0
   pub patches : f.patches ≡ length ps
-  pub mean : f.mean ≡ lowest (totalOver faceCount ps) (length ps)
-  pub variance : f.variance ≡ varianceOf (length ps) (totalOver faceCount ps) (totalOver squareOf ps)
-  pub coverage : f.coverage ≡ lowest (totalOver coveredOf ps) (totalOver scannedOf ps)
+  pub mean : f.mean ≡ lowest (total_over face_count ps) (length ps)
+  pub variance : f.variance ≡ variance_of (length ps) (total_over face_count ps) (total_over square_of ps)
+  pub coverage : f.coverage ≡ lowest (total_over covered_of ps) (total_over scanned_of ps)
   pub best : Earliest better ps f.best
   pub worst : Earliest worse ps f.worst
-  pub best-coverage : f.best_coverage ≡ coverageOf f.best
-  pub worst-coverage : f.worst_coverage ≡ coverageOf f.worst
+  pub best_coverage : f.best_coverage ≡ coverage_of f.best
+  pub worst_coverage : f.worst_coverage ≡ coverage_of f.worst
 
 -- a tally without patches: its best and worst may be anything
 pub record EmptyTally (t : Tally) : Type 0 where
   pub patches : t.patches ≡ 0
-  pub taken : soundTally t ≡ true
+  pub taken : sound_tally t ≡ true
 
 -- the tally after additions in turn, refused ones among them
 unfoldable pub after : Tally → List SeasonPatch → Tally
 after t [] = t
-after t (p ∷ ps) = after (addedTo t p).tally ps
+after t (p ∷ ps) = after (added_to t p).tally ps
 
 -- those that were accepted
 unfoldable pub entered : Tally → List SeasonPatch → List SeasonPatch
 entered t [] = []
 entered t (p ∷ ps) =
-    let rest = entered (addedTo t p).tally ps in
-    cond (eqb (addedTo t p).answer 0) (p ∷ rest) rest
+    let rest = entered (added_to t p).tally ps in
+    cond (eqb (added_to t p).answer 0) (p ∷ rest) rest
 
 -- the same patches in another order
 pub data PatchesReordered : List SeasonPatch → List SeasonPatch → Type 0 where
@@ -87,5 +87,5 @@ pub record Alike (f g : Figures) : Type 0 where
   pub coverage : f.coverage ≡ g.coverage
   pub best : f.best.covered * g.best.scanned ≡ g.best.covered * f.best.scanned
   pub worst : f.worst.covered * g.worst.scanned ≡ g.worst.covered * f.worst.scanned
-  pub best-coverage : f.best_coverage ≡ g.best_coverage
-  pub worst-coverage : f.worst_coverage ≡ g.worst_coverage
+  pub best_coverage : f.best_coverage ≡ g.best_coverage
+  pub worst_coverage : f.worst_coverage ≡ g.worst_coverage

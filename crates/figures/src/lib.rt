@@ -1,7 +1,7 @@
 // Exact figures over a season: what is worked out from its tally.
 ghost use Rattle.std.specs.Prelude.{◌≡◌, ◌<◌};
 ghost use Rattle.tally.specs.Checks.{TallySound};
-ghost use Rattle.figures.specs.Working.{coverageOf, noFigures, soundFigures, figuresOf};
+ghost use Rattle.figures.specs.Working.{coverage_of, no_figures, sound_figures, figures_of};
 
 use fractions::Fraction;
 use tally::checks::{is_sound, wide};
@@ -25,14 +25,14 @@ pub struct Figures {
 // The part of a patch's points that is covered.
 fn coverage_of(patch: SeasonPatch) -> Fraction
     requires { 0 < patch.scanned }
-    ensures { result ≡ coverageOf patch }
+    ensures { result ≡ coverage_of patch }
 {
     fractions::lowest(wide(patch.covered), wide(patch.scanned))
 }
 
 // Zeros with a refusal's number.
 fn no_figures(answer: u32) -> Figures
-    ensures { result ≡ noFigures answer }
+    ensures { result ≡ no_figures answer }
 {
     let none = Fraction {
         numerator: 0,
@@ -60,7 +60,7 @@ fn no_figures(answer: u32) -> Figures
 // The figures of a tally that holds a patch.
 fn sound_figures(tally: Tally) -> Figures
     requires { TallySound tally × (0 < tally.patches) }
-    ensures { result ≡ soundFigures tally }
+    ensures { result ≡ sound_figures tally }
 {
     let best = tally.best;
     let worst = tally.worst;
@@ -84,7 +84,7 @@ fn sound_figures(tally: Tally) -> Figures
 
 // The figures of a tally, or the refusal.
 pub fn figures_of(tally: Tally) -> Figures
-    ensures { result ≡ figuresOf tally }
+    ensures { result ≡ figures_of tally }
 {
     if !is_sound(tally) {
         return no_figures(answers::TALLY);

@@ -12,13 +12,13 @@ use lib.ListN.{drop_of_length-le}
 use lib.Seq.{length-take-le, take_all, take_at, drop_at, set_split, drop-drop, take-suc, drop-cons, get_or-take}
 use Rattle.lists.specs.Lists.{up_from, bit, count}
 use Rattle.axis_sort.specs.Inner.Small.{Small}
-use Rattle.axis_sort.proofs.Floats.{map-append}
+use Rattle.axis_sort.proofs.Floats.{map_append}
 use Rattle.kd_tree.specs.Tree.{same_numbers}
 use Rattle.filling.specs.Inner.Put.{PutList}
 
 -- ---- one list after the other
-pub put-size : {b c : List ℕ} {at : ℕ} {xs : List ℕ} → PutList b c at xs → at + length xs ≤ length b → length c ≡ length b
-put-size {b} {c} {at} {xs} p h =
+pub put_size : {b c : List ℕ} {at : ℕ} {xs : List ℕ} → PutList b c at xs → at + length xs ≤ length b → length c ≡ length b
+put_size {b} {c} {at} {xs} p h =
     ap length p.is ∙ length-append (take at b) _ ∙ rw
     (length-take-le at b (omega arith), length-append xs (drop (at + length xs) b), length-drop (at + length xs) b) (omega arith)
 
@@ -44,31 +44,31 @@ put_both {b} {c} {d} {at} {xs} {ys} p q h = record {
       let n : length ys + (at + length xs) ≡ at + length (xs ++ ys) = sym (ap (λ (k : ℕ). at + k) (length-append xs ys) ∙ omega arith) in
       let e : drop (at + length xs + length ys) c ≡ drop (at + length (xs ++ ys)) b =
       sym (drop-drop (length ys) (at + length xs) c) ∙ ap (drop (length ys)) f.1 ∙ drop-drop (length ys) (at + length xs) b ∙ ap (λ (k : ℕ). drop k b)
-      (omega-sum at (length xs) (length ys) ∙ n) in
+      (omega_sum at (length xs) (length ys) ∙ n) in
       q.is ∙ ap (λ (z : List ℕ). z ++ (ys ++ drop (at + length xs + length ys) c)) f.0 ∙ ap (λ (z : List ℕ). (take at b ++ xs) ++ (ys ++ z)) e
       ∙ append_assoc (take at b) xs (ys ++ drop (at + length (xs ++ ys)) b) ∙ ap (λ (z : List ℕ). take at b ++ z)
       (sym (append_assoc xs ys (drop (at + length (xs ++ ys)) b)));
 }
   where
-    omega-sum : (a x y : ℕ) → a + x + y ≡ y + (a + x)
-    omega-sum a x y = omega arith
+    omega_sum : (a x y : ℕ) → a + x + y ≡ y + (a + x)
+    omega_sum a x y = omega arith
 
-pub put-none : (b : List ℕ) (at : ℕ) → PutList b b at []
-put-none b at = record { is = let e : at + 0 ≡ at = omega arith in sym (ap (λ (n : ℕ). take at b ++ drop n b) e ∙ take-append-drop at b) }
+pub put_none : (b : List ℕ) (at : ℕ) → PutList b b at []
+put_none b at = record { is = let e : at + 0 ≡ at = omega arith in sym (ap (λ (n : ℕ). take at b ++ drop n b) e ∙ take-append-drop at b) }
 
 -- one number more
 pub put_next : {b c : List ℕ} {at : ℕ} {xs : List ℕ} (k v : ℕ) → PutList b c at xs → k ≡ at + length xs → k < length b
     → PutList b (set c k v) at (xs ++ (v ∷ []))
 put_next {b} {c} {at} {xs} k v p e h =
-    let l : length c ≡ length b = put-size p (omega arith) in
+    let l : length c ≡ length b = put_size p (omega arith) in
     let q : PutList c (set c k v) (at + length xs) (v ∷ []) = subst (λ (n : ℕ). PutList c (set c k v) n (v ∷ [])) e (put_one c k v (omega arith)) in
     put_both p q (omega arith)
 
 -- ---- numbers from 0 on
-pub up-length : (i m : ℕ) → length (up_from i m) ≡ m
+pub up_length : (i m : ℕ) → length (up_from i m) ≡ m
 unfolding up_from
-up-length i zero = refl
-up-length i (suc m) = ap suc (up-length (i + 1) m)
+up_length i zero = refl
+up_length i (suc m) = ap suc (up_length (i + 1) m)
 
 up_more : (i m : ℕ) → up_from i m ++ ((i + m) ∷ []) ≡ up_from i (suc m)
 unfolding up_from
@@ -87,10 +87,10 @@ up_above v i zero h = refl
 up_above v i (suc m) h = let e : eqb v i ≡ false = ne_eqb v i (λ q. omega arith) in rw e (omega (arith, up_above v (i + 1) m (omega arith)))
 
 -- each of them once
-pub up-once : (v i m : ℕ) → count (eqb v) (up_from i m) ≤ 1
+pub up_once : (v i m : ℕ) → count (eqb v) (up_from i m) ≤ 1
 unfolding up_from
-up-once v i zero = omega arith
-up-once v i (suc m) = go (eqb v i) refl (up-once v (i + 1) m)
+up_once v i zero = omega arith
+up_once v i (suc m) = go (eqb v i) refl (up_once v (i + 1) m)
   where
     go : (b : Bool) → eqb v i ≡ b → count (eqb v) (up_from (i + 1) m) ≤ 1 → bit (eqb v i) + count (eqb v) (up_from (i + 1) m) ≤ 1
     go true e h = let s : v ≡ i = eqb-true v i e in let z = up_above v (i + 1) m (omega arith) in rw e (omega arith)
@@ -100,58 +100,58 @@ pub record Numbered (o₀ o : List ℕ) (i : ℕ) : Type 0 where
   pub most : i ≤ length o₀
   pub put : PutList o₀ o 0 (up_from 0 i)
 
-pub numbered-start : (o : List ℕ) → Numbered o o 0
+pub numbered_start : (o : List ℕ) → Numbered o o 0
 unfolding up_from
-numbered-start o = record { most = omega arith; put = put-none o 0 }
+numbered_start o = record { most = omega arith; put = put_none o 0 }
 
-pub numbered-size : {o₀ o : List ℕ} {i : ℕ} → Numbered o₀ o i → length o ≡ length o₀
-numbered-size {o₀} {o} {i} n = put-size n.put (omega (arith, up-length 0 i, n.most))
+pub numbered_size : {o₀ o : List ℕ} {i : ℕ} → Numbered o₀ o i → length o ≡ length o₀
+numbered_size {o₀} {o} {i} n = put_size n.put (omega (arith, up_length 0 i, n.most))
 
 pub numbered_step : {o₀ o : List ℕ} {i : ℕ} → Numbered o₀ o i → i < length o → Numbered o₀ (set o i i) (i + 1)
 numbered_step {o₀} {o} {i} n h =
-    let l = numbered-size n in
+    let l = numbered_size n in
     let e : suc i ≡ i + 1 = omega arith in
     let z : i ≡ 0 + i = omega arith in
     record {
       most = omega arith;
       put = subst (λ (z : List ℕ). PutList o₀ (set o i i) 0 z)
-          (ap (λ (k : ℕ). up_from 0 i ++ (k ∷ [])) z ∙ up_more 0 i ∙ ap (up_from 0) e) (put_next i i n.put (omega (arith, up-length 0 i)) (omega arith));
+          (ap (λ (k : ℕ). up_from 0 i ++ (k ∷ [])) z ∙ up_more 0 i ∙ ap (up_from 0) e) (put_next i i n.put (omega (arith, up_length 0 i)) (omega arith));
     }
 
-pub numbered-end : {o₀ o : List ℕ} {i : ℕ} → Numbered o₀ o i → length o ≤ i → o ≡ up_from 0 (length o₀)
-numbered-end {o₀} {o} {i} n h =
-    let l = numbered-size n in
+pub numbered_end : {o₀ o : List ℕ} {i : ℕ} → Numbered o₀ o i → length o ≤ i → o ≡ up_from 0 (length o₀)
+numbered_end {o₀} {o} {i} n h =
+    let l = numbered_size n in
     let e : i ≡ length o₀ = omega (arith, n.most) in
     let z : 0 + length (up_from 0 i) ≡ length (up_from 0 i) = omega arith in
     n.put.is ∙ ap (λ (k : ℕ). up_from 0 i ++ drop k o₀) z ∙ ap (λ (z : List ℕ). up_from 0 i ++ z)
-    (drop_of_length-le o₀ {i = length (up_from 0 i)} (omega (arith, up-length 0 i))) ∙ append-nil (up_from 0 i) ∙ ap (up_from 0) e
+    (drop_of_length-le o₀ {i = length (up_from 0 i)} (omega (arith, up_length 0 i))) ∙ append-nil (up_from 0 i) ∙ ap (up_from 0) e
 
 -- ---- bits of floats
 pub record Bitten (fs : List Float) (w₀ w : List ℕ) (at i : ℕ) : Type 0 where
   pub most : i ≤ length fs
   pub put : PutList w₀ w at (map (to_bits binary32) (take i fs))
 
-bits-length : (fs : List Float) (i : ℕ) → i ≤ length fs → length (map (to_bits binary32) (take i fs)) ≡ i
-bits-length fs i h = length-map (take i fs) (to_bits binary32) ∙ length-take-le i fs h
+bits_length : (fs : List Float) (i : ℕ) → i ≤ length fs → length (map (to_bits binary32) (take i fs)) ≡ i
+bits_length fs i h = length-map (take i fs) (to_bits binary32) ∙ length-take-le i fs h
 
-pub bits-start : (fs : List Float) (w : List ℕ) (at : ℕ) → Bitten fs w w at 0
-bits-start fs w at = record { most = omega arith; put = put-none w at }
+pub bits_start : (fs : List Float) (w : List ℕ) (at : ℕ) → Bitten fs w w at 0
+bits_start fs w at = record { most = omega arith; put = put_none w at }
 
-pub bits-size : {fs : List Float} {w₀ w : List ℕ} {at i : ℕ} → Bitten fs w₀ w at i → at + length fs ≤ length w₀ → length w ≡ length w₀
-bits-size {fs} {w₀} {w} {at} {i} b h = put-size b.put (omega (arith, bits-length fs i b.most, b.most))
+pub bits_size : {fs : List Float} {w₀ w : List ℕ} {at i : ℕ} → Bitten fs w₀ w at i → at + length fs ≤ length w₀ → length w ≡ length w₀
+bits_size {fs} {w₀} {w} {at} {i} b h = put_size b.put (omega (arith, bits_length fs i b.most, b.most))
 
-pub bits-step : {fs : List Float} {w₀ w : List ℕ} {at i v : ℕ} → Bitten fs w₀ w at i → at + length fs ≤ length w₀ → i < length fs → v
+pub bits_step : {fs : List Float} {w₀ w : List ℕ} {at i v : ℕ} → Bitten fs w₀ w at i → at + length fs ≤ length w₀ → i < length fs → v
     ≡ to_bits binary32 (get_or fs i nan) → Bitten fs w₀ (set w (at + i) v) at (i + 1)
-bits-step {fs} {w₀} {w} {at} {i} {v} b h l ev =
+bits_step {fs} {w₀} {w} {at} {i} {v} b h l ev =
     let e : suc i ≡ i + 1 = omega arith in
-    let n = bits-length fs i b.most in
+    let n = bits_length fs i b.most in
     let s : map (to_bits binary32) (take i fs) ++ (v ∷ []) ≡ map (to_bits binary32) (take (i + 1) fs) =
-    ap (λ (k : ℕ). map (to_bits binary32) (take i fs) ++ (k ∷ [])) ev ∙ sym (map-append (to_bits binary32) (take i fs) (get_or fs i nan ∷ []))
+    ap (λ (k : ℕ). map (to_bits binary32) (take i fs) ++ (k ∷ [])) ev ∙ sym (map_append (to_bits binary32) (take i fs) (get_or fs i nan ∷ []))
     ∙ ap (map (to_bits binary32)) (sym (take-suc fs i nan l)) ∙ ap (λ (k : ℕ). map (to_bits binary32) (take k fs)) e in
     record { most = omega arith; put = subst (λ (z : List ℕ). PutList w₀ (set w (at + i) v) at z) s (put_next (at + i) v b.put (omega arith) (omega arith)) }
 
-pub bits-end : {fs : List Float} {w₀ w : List ℕ} {at i : ℕ} → Bitten fs w₀ w at i → length fs ≤ i → PutList w₀ w at (map (to_bits binary32) fs)
-bits-end {fs} {w₀} {w} {at} {i} b h = subst (λ (z : List Float). PutList w₀ w at (map (to_bits binary32) z)) (take_all i fs h) b.put
+pub bits_end : {fs : List Float} {w₀ w : List ℕ} {at i : ℕ} → Bitten fs w₀ w at i → length fs ≤ i → PutList w₀ w at (map (to_bits binary32) fs)
+bits_end {fs} {w₀} {w} {at} {i} b h = subst (λ (z : List Float). PutList w₀ w at (map (to_bits binary32) z)) (take_all i fs h) b.put
 
 -- ---- zeros
 pub record Zeroed (w₀ w : List ℕ) (at end i : ℕ) : Type 0 where
@@ -159,15 +159,15 @@ pub record Zeroed (w₀ w : List ℕ) (at end i : ℕ) : Type 0 where
   pub most : i ≤ end
   pub put : PutList w₀ w at (replicate (i - at) 0)
 
-pub zeros-start : (w : List ℕ) (at end : ℕ) → at ≤ end → Zeroed w w at end at
-zeros-start w at end h =
-    record { least = omega arith; most = h; put = let e : 0 ≡ at - at = omega arith in subst (λ (n : ℕ). PutList w w at (replicate n 0)) e (put-none w at) }
+pub zeros_start : (w : List ℕ) (at end : ℕ) → at ≤ end → Zeroed w w at end at
+zeros_start w at end h =
+    record { least = omega arith; most = h; put = let e : 0 ≡ at - at = omega arith in subst (λ (n : ℕ). PutList w w at (replicate n 0)) e (put_none w at) }
 
-pub zeros-size : {w₀ w : List ℕ} {at end i : ℕ} → Zeroed w₀ w at end i → end ≤ length w₀ → length w ≡ length w₀
-zeros-size {w₀} {w} {at} {end} {i} z h = put-size z.put (omega (arith, length-replicate {A = ℕ} (i - at) 0, z.least, z.most))
+pub zeros_size : {w₀ w : List ℕ} {at end i : ℕ} → Zeroed w₀ w at end i → end ≤ length w₀ → length w ≡ length w₀
+zeros_size {w₀} {w} {at} {end} {i} z h = put_size z.put (omega (arith, length-replicate {A = ℕ} (i - at) 0, z.least, z.most))
 
-pub zeros-step : {w₀ w : List ℕ} {at end i : ℕ} → Zeroed w₀ w at end i → end ≤ length w₀ → i < end → Zeroed w₀ (set w i 0) at end (i + 1)
-zeros-step {w₀} {w} {at} {end} {i} z h l =
+pub zeros_step : {w₀ w : List ℕ} {at end i : ℕ} → Zeroed w₀ w at end i → end ≤ length w₀ → i < end → Zeroed w₀ (set w i 0) at end (i + 1)
+zeros_step {w₀} {w} {at} {end} {i} z h l =
     let n : length {A = ℕ} (replicate (i - at) 0) ≡ i - at = length-replicate {A = ℕ} (i - at) 0 in
     let e : i - at + 1 ≡ i + 1 - at = omega (arith, z.least) in
     record {
@@ -177,16 +177,16 @@ zeros-step {w₀} {w} {at} {end} {i} z h l =
           (put_next i 0 z.put (omega (arith, z.least)) (omega arith));
     }
 
-pub zeros-end : {w₀ w : List ℕ} {at end i : ℕ} → Zeroed w₀ w at end i → end ≤ i → PutList w₀ w at (replicate (end - at) 0)
-zeros-end {w₀} {w} {at} {end} {i} z h = let e : i ≡ end = omega (arith, z.most) in subst (λ (k : ℕ). PutList w₀ w at (replicate (k - at) 0)) e z.put
+pub zeros_end : {w₀ w : List ℕ} {at end i : ℕ} → Zeroed w₀ w at end i → end ≤ i → PutList w₀ w at (replicate (end - at) 0)
+zeros_end {w₀} {w} {at} {end} {i} z h = let e : i ≡ end = omega (arith, z.most) in subst (λ (k : ℕ). PutList w₀ w at (replicate (k - at) 0)) e z.put
 
 -- ---- two fronts: those that are left tell of the whole
 pub record Alike (a b : List ℕ) (size i : ℕ) : Type 0 where
   pub most : i ≤ size
   pub left : same_numbers (drop i (take size a)) (drop i (take size b)) ≡ same_numbers (take size a) (take size b)
 
-pub alike-start : (a b : List ℕ) (size : ℕ) → Alike a b size 0
-alike-start a b size = record { most = omega arith; left = refl }
+pub alike_start : (a b : List ℕ) (size : ℕ) → Alike a b size 0
+alike_start a b size = record { most = omega arith; left = refl }
 
 module _ (a b : List ℕ) (size i : ℕ) (la : size ≤ length a) (lb : size ≤ length b) (l : i < size) where
   head_of : (w : List ℕ) → size ≤ length w → drop i (take size w) ≡ get_or w i 0 ∷ drop (suc i) (take size w)
@@ -200,15 +200,15 @@ module _ (a b : List ℕ) (size i : ℕ) (la : size ≤ length a) (lb : size ≤
   one_more = ap (λ (z : List ℕ). same_numbers z (drop i (take size b))) (head_of a la) ∙ ap
       (λ (z : List ℕ). same_numbers (get_or a i 0 ∷ drop (suc i) (take size a)) z) (head_of b lb)
 
-  pub alike-step : Alike a b size i → get_or a i 0 ≡ get_or b i 0 → Alike a b size (i + 1)
-  alike-step k e =
+  pub alike_step : Alike a b size i → get_or a i 0 ≡ get_or b i 0 → Alike a b size (i + 1)
+  alike_step k e =
       let s : suc i ≡ i + 1 = omega arith in
       let t : same_numbers (drop i (take size a)) (drop i (take size b)) ≡ same_numbers (drop (suc i) (take size a)) (drop (suc i) (take size b)) =
       one_more ∙ ap (λ (x : Bool). x && same_numbers (drop (suc i) (take size a)) (drop (suc i) (take size b))) (eq-eqb (get_or a i 0) (get_or b i 0) e) in
       record { most = omega arith; left = ap (λ (n : ℕ). same_numbers (drop n (take size a)) (drop n (take size b))) (sym s) ∙ sym t ∙ k.left }
 
-  pub alike-not : Alike a b size i → (get_or a i 0 ≡ get_or b i 0 → ⊥) → false ≡ same_numbers (take size a) (take size b)
-  alike-not k e = sym (ap (λ (x : Bool). x && same_numbers (drop (suc i) (take size a)) (drop (suc i) (take size b)))
+  pub alike_not : Alike a b size i → (get_or a i 0 ≡ get_or b i 0 → ⊥) → false ≡ same_numbers (take size a) (take size b)
+  alike_not k e = sym (ap (λ (x : Bool). x && same_numbers (drop (suc i) (take size a)) (drop (suc i) (take size b)))
       (ne_eqb (get_or a i 0) (get_or b i 0) e)) ∙ sym one_more ∙ k.left
 
 pub alike_end : (a b : List ℕ) (size i : ℕ) → size ≤ length a → size ≤ length b → Alike a b size i → size ≤ i → true ≡ same_numbers (take size a) (take size b)

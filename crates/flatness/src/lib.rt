@@ -1,8 +1,8 @@
 // Whether a cloud's points lie in a box so flat that no three of them make a triangle that is large enough.
 ghost use Rattle.std.specs.Prelude.{◌≡◌, true, ℕ, ◌*◌, ◌<◌, ◌≤◌, length};
-ghost use Rattle.points.specs.Points.{pointAt};
+ghost use Rattle.points.specs.Points.{point_at_lem};
 ghost use Rattle.vector.specs.Inner.Numbers.{Finite};
-ghost use Rattle.flatness.specs.Inner.Flat.{tooSmall, Flat, AxisFinite, Extent};
+ghost use Rattle.flatness.specs.Inner.Flat.{too_small, Flat, AxisFinite, Extent};
 
 use decisions::Scene;
 use vector::Point3f;
@@ -27,7 +27,7 @@ fn extent_on(points: &[f32], axis: usize, n: usize) -> f32
 // Whether two edges that v bounds make no triangle that is large enough: one next to no area never is, where edges are
 // limited.
 fn is_too_small(s: Scene, v: Point3f) -> bool
-    ensures { result ≡ tooSmall s v }
+    ensures { result ≡ too_small s v }
 {
     let most = area_bounds::area_bound(v, v);
     most < s.min_triangle_area || most < 1e-10
@@ -36,7 +36,7 @@ fn is_too_small(s: Scene, v: Point3f) -> bool
 // Whether no triangle in the box around the points is large enough.
 pub fn is_flat(s: Scene, points: &[f32]) -> bool
     requires { (0 < s.n) × (s.n ≤ 4096) × (length points.now ≡ 3 * s.n)
-        × ((k : ℕ) → k < s.n → Finite (pointAt points.now k)) }
+        × ((k : ℕ) → k < s.n → Finite (point_at points.now k)) }
     ensures { result ≡ true → Flat s points.now }
 {
     let x = extent_on(points, 0, s.n);

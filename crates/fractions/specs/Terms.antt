@@ -9,12 +9,12 @@ euclid zero a b = a
 euclid (suc steps) a b = elim (eqb b 0) [ true ↦ a | false ↦ euclid steps b (a % b) ]
 
 -- the greatest common divisor; the second number falls at each step
-unfoldable pub greatestDivisor : ℕ → ℕ → ℕ
-greatestDivisor a b = euclid (suc b) a b
+unfoldable pub greatest_divisor : ℕ → ℕ → ℕ
+greatest_divisor a b = euclid (suc b) a b
 
 -- a / b in lowest terms
 unfoldable pub lowest : ℕ → ℕ → Fraction
-lowest a b = record { numerator = a / greatestDivisor a b; denominator = b / greatestDivisor a b }
+lowest a b = record { numerator = a / greatest_divisor a b; denominator = b / greatest_divisor a b }
 
 -- what a greatest common divisor is: g divides both, and whatever divides both divides g
 pub record Greatest (a b g : ℕ) : Type 0 where

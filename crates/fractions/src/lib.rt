@@ -1,6 +1,6 @@
 // Fractions of whole numbers in lowest terms.
 ghost use Rattle.std.specs.Prelude.{◌<◌, ◌≡◌};
-ghost use Rattle.fractions.specs.Terms.{greatestDivisor, lowest};
+ghost use Rattle.fractions.specs.Terms.{greatest_divisor, lowest};
 
 #[repr(C)]
 #[derive(Drop)]
@@ -11,7 +11,7 @@ pub struct Fraction {
 
 // The greatest common divisor, by Euclid.
 fn greatest_divisor(a: u64, b: u64) -> u64
-    ensures { result ≡ greatestDivisor a b }
+    ensures { result ≡ greatest_divisor a b }
 {
     let mut x = a;
     let mut y = b;

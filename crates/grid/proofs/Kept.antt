@@ -9,39 +9,39 @@ use lib.Seq.{get_or-set_same, get_or-set_other, drop-set-lt, get_or-take}
 use lib.Ieee.{Float, nan}
 use Rattle.numbers.specs.Order.{minimum}
 use Rattle.grid.specs.declared.Cell.{Cell}
-use Rattle.grid.specs.Grid.{leastFrom}
-use Rattle.grid.specs.Inner.Index.{cellIn}
+use Rattle.grid.specs.Grid.{least_from}
+use Rattle.grid.specs.Inner.Index.{cell_in}
 
 -- ---- the least coordinate
-pub least_start : (xs : List Float) (a : Float) (at n : ℕ) → leastFrom xs a at n ≡ leastFrom xs a at (n - 0)
-least_start xs a at n = let e : n ≡ n - 0 = omega arith in ap (λ (m : ℕ). leastFrom xs a at m) e
+pub least_start : (xs : List Float) (a : Float) (at n : ℕ) → least_from xs a at n ≡ least_from xs a at (n - 0)
+least_start xs a at n = let e : n ≡ n - 0 = omega arith in ap (λ (m : ℕ). least_from xs a at m) e
 
-pub least_step : (xs : List Float) (a v : Float) (at i n : ℕ) → i < n → v ≡ minimum a (get_or xs at nan) → leastFrom xs a at (n - i)
-    ≡ leastFrom xs v (at + 3) (n - (i + 1))
-unfolding leastFrom
+pub least_step : (xs : List Float) (a v : Float) (at i n : ℕ) → i < n → v ≡ minimum a (get_or xs at nan) → least_from xs a at (n - i)
+    ≡ least_from xs v (at + 3) (n - (i + 1))
+unfolding least_from
 least_step xs a v at i n h e =
     let c : n - i ≡ suc (n - (i + 1)) = omega arith in
-    ap (λ (m : ℕ). leastFrom xs a at m) c ∙ ap (λ (u : Float). leastFrom xs u (at + 3) (n - (i + 1))) (sym e)
+    ap (λ (m : ℕ). least_from xs a at m) c ∙ ap (λ (u : Float). least_from xs u (at + 3) (n - (i + 1))) (sym e)
 
-pub least-end : (xs : List Float) (a : Float) (at i n : ℕ) → n ≤ i → leastFrom xs a at (n - i) ≡ a
-unfolding leastFrom
-least-end xs a at i n h = let e : n - i ≡ 0 = omega arith in ap (λ (m : ℕ). leastFrom xs a at m) e
+pub least_end : (xs : List Float) (a : Float) (at i n : ℕ) → n ≤ i → least_from xs a at (n - i) ≡ a
+unfolding least_from
+least_end xs a at i n h = let e : n - i ≡ 0 = omega arith in ap (λ (m : ℕ). least_from xs a at m) e
 
 -- ---- a cell is kept
 module _ (w : List ℕ) (at x y z : ℕ) where
   -- what three stores leave elsewhere
-  three-other : (k : ℕ) → (k ≡ at + 2 → ⊥) → (k ≡ at + 1 → ⊥) → (k ≡ at → ⊥) → get_or (set (set (set w at x) (at + 1) y) (at + 2) z) k 0 ≡ get_or w k 0
-  three-other k h2 h1 h0 =
+  three_other : (k : ℕ) → (k ≡ at + 2 → ⊥) → (k ≡ at + 1 → ⊥) → (k ≡ at → ⊥) → get_or (set (set (set w at x) (at + 1) y) (at + 2) z) k 0 ≡ get_or w k 0
+  three_other k h2 h1 h0 =
       get_or-set_other (set (set w at x) (at + 1) y) (at + 2) k z 0 h2 ∙ get_or-set_other (set w at x) (at + 1) k y 0 h1 ∙ get_or-set_other w at k x 0 h0
 
-  three-first : at + 2 < length w → get_or (set (set (set w at x) (at + 1) y) (at + 2) z) at 0 ≡ x
-  three-first h =
+  three_first : at + 2 < length w → get_or (set (set (set w at x) (at + 1) y) (at + 2) z) at 0 ≡ x
+  three_first h =
       get_or-set_other (set (set w at x) (at + 1) y) (at + 2) at z 0 (λ (q : at ≡ at + 2). omega arith)
       ∙ get_or-set_other (set w at x) (at + 1) at y 0 (λ (q : at ≡ at + 1). omega arith)
       ∙ get_or-set_same w at x 0 (omega arith)
 
-  three-second : at + 2 < length w → get_or (set (set (set w at x) (at + 1) y) (at + 2) z) (at + 1) 0 ≡ y
-  three-second h =
+  three_second : at + 2 < length w → get_or (set (set (set w at x) (at + 1) y) (at + 2) z) (at + 1) 0 ≡ y
+  three_second h =
       get_or-set_other (set (set w at x) (at + 1) y) (at + 2) (at + 1) z 0 (λ (q : at + 1 ≡ at + 2). omega arith)
       ∙ get_or-set_same (set w at x) (at + 1) y 0 (simp length-set (omega arith))
 
@@ -49,40 +49,40 @@ module _ (w : List ℕ) (at x y z : ℕ) where
   three_third h = get_or-set_same (set (set w at x) (at + 1) y) (at + 2) z 0 (simp length-set (omega arith))
 
 module _ (w : List ℕ) (n i x y z : ℕ) (inside : i < n) (long : 4 * n ≤ length w) where
-  pub cell-put : cellIn (set (set (set w (n + 3 * i) x) (n + 3 * i + 1) y) (n + 3 * i + 2) z) n i ≡ record { x = x; y = y; z = z }
-  unfolding cellIn
-  cell-put =
+  pub cell_put : cell_in (set (set (set w (n + 3 * i) x) (n + 3 * i + 1) y) (n + 3 * i + 2) z) n i ≡ record { x = x; y = y; z = z }
+  unfolding cell_in
+  cell_put =
       let h : n + 3 * i + 2 < length w = omega arith in
-      rw (three-first w (n + 3 * i) x y z h, three-second w (n + 3 * i) x y z h, three_third w (n + 3 * i) x y z h)
+      rw (three_first w (n + 3 * i) x y z h, three_second w (n + 3 * i) x y z h, three_third w (n + 3 * i) x y z h)
 
-  pub cell_other : (j : ℕ) → (j ≡ i → ⊥) → cellIn (set (set (set w (n + 3 * i) x) (n + 3 * i + 1) y) (n + 3 * i + 2) z) n j ≡ cellIn w n j
-  unfolding cellIn
+  pub cell_other : (j : ℕ) → (j ≡ i → ⊥) → cell_in (set (set (set w (n + 3 * i) x) (n + 3 * i + 1) y) (n + 3 * i + 2) z) n j ≡ cell_in w n j
+  unfolding cell_in
   cell_other j h =
       rw (
-        three-other w (n + 3 * i) x y z (n + 3 * j) (λ (q : n + 3 * j ≡ n + 3 * i + 2). omega arith) (λ (q : n + 3 * j ≡ n + 3 * i + 1). omega arith)
+        three_other w (n + 3 * i) x y z (n + 3 * j) (λ (q : n + 3 * j ≡ n + 3 * i + 2). omega arith) (λ (q : n + 3 * j ≡ n + 3 * i + 1). omega arith)
             (λ (q : n + 3 * j ≡ n + 3 * i). h (omega arith)),
-        three-other w (n + 3 * i) x y z (n + 3 * j + 1) (λ (q : n + 3 * j + 1 ≡ n + 3 * i + 2). omega arith)
+        three_other w (n + 3 * i) x y z (n + 3 * j + 1) (λ (q : n + 3 * j + 1 ≡ n + 3 * i + 2). omega arith)
             (λ (q : n + 3 * j + 1 ≡ n + 3 * i + 1). h (omega arith)) (λ (q : n + 3 * j + 1 ≡ n + 3 * i). omega arith),
-        three-other w (n + 3 * i) x y z (n + 3 * j + 2) (λ (q : n + 3 * j + 2 ≡ n + 3 * i + 2). h (omega arith))
+        three_other w (n + 3 * i) x y z (n + 3 * j + 2) (λ (q : n + 3 * j + 2 ≡ n + 3 * i + 2). h (omega arith))
             (λ (q : n + 3 * j + 2 ≡ n + 3 * i + 1). omega arith) (λ (q : n + 3 * j + 2 ≡ n + 3 * i). omega arith),
       )
 
-  pub cell-after : drop (4 * n) (set (set (set w (n + 3 * i) x) (n + 3 * i + 1) y) (n + 3 * i + 2) z) ≡ drop (4 * n) w
-  cell-after =
+  pub cell_after : drop (4 * n) (set (set (set w (n + 3 * i) x) (n + 3 * i + 1) y) (n + 3 * i + 2) z) ≡ drop (4 * n) w
+  cell_after =
       drop-set-lt (4 * n) (set (set w (n + 3 * i) x) (n + 3 * i + 1) y) (n + 3 * i + 2) z (omega arith)
       ∙ drop-set-lt (4 * n) (set w (n + 3 * i) x) (n + 3 * i + 1) y (omega arith)
       ∙ drop-set-lt (4 * n) w (n + 3 * i) x (omega arith)
 
 -- ---- one cell more is kept
-pub cells-step : (f : ℕ → Cell) (w u : List ℕ) (n i : ℕ) → ((j : ℕ) → j < i → cellIn w n j ≡ f j) → cellIn u n i ≡ f i
-    → ((j : ℕ) → (j ≡ i → ⊥) → cellIn u n j ≡ cellIn w n j)
-    → (j : ℕ) → j < i + 1 → cellIn u n j ≡ f j
-cells-step f w u n i inv e other = below_more (λ (j : ℕ). cellIn u n j ≡ f j) i (λ (j : ℕ) (l : j < i). other j (λ (q : j ≡ i). omega arith) ∙ inv j l) e
+pub cells_step : (f : ℕ → Cell) (w u : List ℕ) (n i : ℕ) → ((j : ℕ) → j < i → cell_in w n j ≡ f j) → cell_in u n i ≡ f i
+    → ((j : ℕ) → (j ≡ i → ⊥) → cell_in u n j ≡ cell_in w n j)
+    → (j : ℕ) → j < i + 1 → cell_in u n j ≡ f j
+cells_step f w u n i inv e other = below_more (λ (j : ℕ). cell_in u n j ≡ f j) i (λ (j : ℕ) (l : j < i). other j (λ (q : j ≡ i). omega arith) ∙ inv j l) e
 
 -- ---- the kept cells lie in the words from n to 4n
-pub cell-of-take : (w u : List ℕ) (n j : ℕ) → j < n → take (4 * n) u ≡ take (4 * n) w → cellIn u n j ≡ cellIn w n j
-unfolding cellIn
-cell-of-take w u n j h e = rw (same (n + 3 * j) (omega arith), same (n + 3 * j + 1) (omega arith), same (n + 3 * j + 2) (omega arith))
+pub cell_of_take : (w u : List ℕ) (n j : ℕ) → j < n → take (4 * n) u ≡ take (4 * n) w → cell_in u n j ≡ cell_in w n j
+unfolding cell_in
+cell_of_take w u n j h e = rw (same (n + 3 * j) (omega arith), same (n + 3 * j + 1) (omega arith), same (n + 3 * j + 2) (omega arith))
   where
     same : (k : ℕ) → k < 4 * n → get_or u k 0 ≡ get_or w k 0
     same k l = sym (get_or-take (4 * n) u k 0 l) ∙ ap (λ (z : List ℕ). get_or z k 0) e ∙ get_or-take (4 * n) w k 0 l

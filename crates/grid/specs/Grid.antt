@@ -5,39 +5,39 @@ use Rattle.numbers.specs.Rounded.{◌⊖◌, ◌⊘◌}
 use Rattle.numbers.specs.Order.{minimum}
 use Rattle.numbers.specs.Cut.{cut, ceil}
 use Rattle.vector.specs.declared.Point3f.{Point3f}
-use Rattle.points.specs.Points.{pointAt}
+use Rattle.points.specs.Points.{point_at}
 use Rattle.lists.specs.Lists.{up_from}
-use Rattle.sorting.specs.Insertion.{insertBefore}
+use Rattle.sorting.specs.Insertion.{insert_before}
 use Rattle.grid.specs.declared.SpatialGrid.{SpatialGrid}
 use Rattle.grid.specs.declared.Cell.{Cell}
 
 -- the least of a and of m coordinates on one axis, the first at index `at`
-unfoldable pub leastFrom : List Float → Float → ℕ → ℕ → Float
-leastFrom pts a at zero = a
-leastFrom pts a at (suc m) = leastFrom pts (minimum a (get_or pts at nan)) (at + 3) m
+unfoldable pub least_from : List Float → Float → ℕ → ℕ → Float
+least_from pts a at zero = a
+least_from pts a at (suc m) = least_from pts (minimum a (get_or pts at nan)) (at + 3) m
 
 -- the cloud's least coordinate on each axis
-unfoldable pub boundsMin : List Float → ℕ → Point3f
-boundsMin pts n = record {
-  x = leastFrom pts (inf false) 0 n;
-  y = leastFrom pts (inf false) 1 n;
-  z = leastFrom pts (inf false) 2 n;
+unfoldable pub bounds_min : List Float → ℕ → Point3f
+bounds_min pts n = record {
+  x = least_from pts (inf false) 0 n;
+  y = least_from pts (inf false) 1 n;
+  z = least_from pts (inf false) 2 n;
 }
 
 -- the index of n points: cells of one size, counted from the least coordinates
-abbrev pub gridOf : Float → List Float → ℕ → SpatialGrid
-gridOf size pts n = record { cell_size = size; bounds_min = boundsMin pts n }
+abbrev pub grid_of : Float → List Float → ℕ → SpatialGrid
+grid_of size pts n = record { cell_size = size; bounds_min = bounds_min pts n }
 
 -- a coordinate's distance above the least one, divided by the cell size, cut
-unfoldable pub cellOn : Float → Float → Float → ℕ
-cellOn size least v = cut ((v ⊖ least) ⊘ size)
+unfoldable pub cell_on : Float → Float → Float → ℕ
+cell_on size least v = cut ((v ⊖ least) ⊘ size)
 
 -- the cell of a place
 unfoldable pub cell_of : SpatialGrid → Point3f → Cell
 cell_of g p = record {
-  x = cellOn g.cell_size g.bounds_min.x p.x;
-  y = cellOn g.cell_size g.bounds_min.y p.y;
-  z = cellOn g.cell_size g.bounds_min.z p.z;
+  x = cell_on g.cell_size g.bounds_min.x p.x;
+  y = cell_on g.cell_size g.bounds_min.y p.y;
+  z = cell_on g.cell_size g.bounds_min.z p.z;
 }
 
 -- ordered by first, second, third coordinate
@@ -45,22 +45,22 @@ unfoldable pub before : Cell → Cell → Bool
 before c d = ltb c.x d.x || (eqb c.x d.x && (ltb c.y d.y || (eqb c.y d.y && ltb c.z d.z)))
 
 -- the cell of point i comes before that of point j
-unfoldable pub precedesByCell : SpatialGrid → List Float → ℕ → ℕ → Bool
-precedesByCell g pts i j = before (cell_of g (pointAt pts i)) (cell_of g (pointAt pts j))
+unfoldable pub precedes_by_cell : SpatialGrid → List Float → ℕ → ℕ → Bool
+precedes_by_cell g pts i j = before (cell_of g (point_at pts i)) (cell_of g (point_at pts j))
 
 -- the first m points ordered by cell, then by number: each in turn goes before the first one whose cell comes
 -- after its own
-unfoldable pub byCell : SpatialGrid → List Float → ℕ → List ℕ
-byCell g pts zero = []
-byCell g pts (suc m) = insertBefore (precedesByCell g pts m) m (byCell g pts m)
+unfoldable pub by_cell : SpatialGrid → List Float → ℕ → List ℕ
+by_cell g pts zero = []
+by_cell g pts (suc m) = insert_before (precedes_by_cell g pts m) m (by_cell g pts m)
 
 -- two cells lie within a range of each other on each axis
-unfoldable pub withinRange : ℕ → ℕ → ℕ → Bool
-withinRange range a b = leb a (b + range) && leb b (a + range)
+unfoldable pub within_range : ℕ → ℕ → ℕ → Bool
+within_range range a b = leb a (b + range) && leb b (a + range)
 
 unfoldable pub in_range : ℕ → Cell → Cell → Bool
 in_range range c d =
-    withinRange range c.x d.x && (withinRange range c.y d.y && withinRange range c.z d.z)
+    within_range range c.x d.x && (within_range range c.y d.y && within_range range c.z d.z)
 
 -- how many cells a radius reaches
 unfoldable pub range_of : SpatialGrid → Float → ℕ
@@ -71,9 +71,9 @@ unfoldable pub keep : SpatialGrid → List Float → ℕ → Cell → List ℕ �
 keep g pts range c [] = []
 keep g pts range c (j ∷ js) =
     let later = keep g pts range c js in
-    cond (in_range range c (cell_of g (pointAt pts j))) (j ∷ later) later
+    cond (in_range range c (cell_of g (point_at pts j))) (j ∷ later) later
 
 -- the neighbours of a place at a radius, of n points: by cell, then by number; without the index all points in
 -- number order
 unfoldable pub neighbors : Bool → SpatialGrid → List Float → ℕ → Point3f → Float → List ℕ
-neighbors indexed g pts n p r = cond indexed (keep g pts (range_of g r) (cell_of g p) (byCell g pts n)) (up_from 0 n)
+neighbors indexed g pts n p r = cond indexed (keep g pts (range_of g r) (cell_of g p) (by_cell g pts n)) (up_from 0 n)

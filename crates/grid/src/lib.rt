@@ -4,8 +4,8 @@ pub mod order;
 pub mod search;
 
 ghost use Rattle.std.specs.Prelude.{◌≡◌, ◌*◌, ◌≤◌, length, drop};
-ghost use Rattle.regions.specs.Inner.Regions.{neighborsAt, wordsLength};
-ghost use Rattle.grid.specs.Grid.{boundsMin, gridOf, cell_of};
+ghost use Rattle.regions.specs.Inner.Regions.{neighbors_at, words_length};
+ghost use Rattle.grid.specs.Grid.{bounds_min, grid_of, cell_of};
 ghost use Rattle.grid.specs.Inner.Index.{CellsIndexed};
 
 use vector::Point3f;
@@ -27,7 +27,7 @@ pub struct Cell {
 // The least coordinate of n points on each axis.
 pub fn bounds_min(points: &[f32], n: usize) -> Point3f
     requires { 3 * n ≤ length points.now }
-    ensures { result ≡ boundsMin points.now n }
+    ensures { result ≡ bounds_min points.now n }
 {
     let x = cells::least_from(points, 0, n);
     let y = cells::least_from(points, 1, n);
@@ -47,10 +47,10 @@ pub fn cell_of(grid: SpatialGrid, p: Point3f) -> Cell
 
 // Indexes n points: keeps the cell of each.
 pub fn build_spatial_grid(points: &[f32], n: usize, cell_size: f32, w: &mut [u32]) -> SpatialGrid
-    requires { (n ≤ 4096) × (3 * n ≤ length points.now) × (wordsLength n ≤ length w.old) }
-    ensures { (result ≡ gridOf cell_size points.now n)
+    requires { (n ≤ 4096) × (3 * n ≤ length points.now) × (words_length n ≤ length w.old) }
+    ensures { (result ≡ grid_of cell_size points.now n)
         × CellsIndexed result points.now n w.new
-        × (drop (neighborsAt n) w.new ≡ drop (neighborsAt n) w.old) }
+        × (drop (neighbors_at n) w.new ≡ drop (neighbors_at n) w.old) }
 {
     let grid = SpatialGrid {
         cell_size: cell_size,

@@ -2,7 +2,7 @@
 ghost use Rattle.std.specs.Prelude.{◌≡◌, ◌/◌, ◌≤◌, ◌<◌, length};
 ghost use Rattle.vector.specs.Inner.Numbers.{Finite};
 ghost use Rattle.nearest.specs.Scan.{nearest};
-ghost use Rattle.nearest.specs.Parts.{nearOfBest};
+ghost use Rattle.nearest.specs.Parts.{near_of_best};
 ghost use Rattle.index_search.specs.Inner.Indexed.{OwnIndex, Width};
 
 use nearest::Best;
@@ -24,7 +24,7 @@ pub fn width_of(n: usize) -> usize
 pub fn nearest_in(points: &[f32], index: &[u32], width: usize, spot: Point3f) -> Best
     requires { OwnIndex points.now index.now × Width (length points.now / 3) width × (width ≤ 4096)
         × Finite spot }
-    ensures { nearOfBest result ≡ nearest points.now (length points.now / 3) spot }
+    ensures { near_of_best result ≡ nearest points.now (length points.now / 3) spot }
 {
     let n = points.len() / 3;
     let square = vector::distance_squared(points::point_at(points, 0), spot);

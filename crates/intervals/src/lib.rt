@@ -5,7 +5,7 @@ mod axis;
 ghost use Rattle.std.specs.Prelude.{◌≡◌, T};
 ghost use Rattle.vector.specs.Inner.Numbers.{Finite};
 ghost use Rattle.bounds.specs.Inner.Within.{within};
-ghost use Rattle.intervals.specs.Inner.Enclosed.{Grown, Joined, differencesOf, Magnitudes, Crosses};
+ghost use Rattle.intervals.specs.Inner.Enclosed.{Grown, Joined, differences_of, Magnitudes, Crosses};
 ghost use Rattle.intervals.specs.Inner.Enclosed.{CrossSquares};
 
 use bounds::{Bounds, Interval};
@@ -46,7 +46,7 @@ pub fn joined(a: Interval, b: Interval) -> Interval
 
 // The vectors from points of q to points of p: those between two ends.
 pub fn differences(p: Bounds, q: Bounds) -> Bounds
-    ensures { result ≡ differencesOf p q }
+    ensures { result ≡ differences_of p q }
 {
     let lo = vector::difference(p.lo, q.hi);
     let hi = vector::difference(p.hi, q.lo);

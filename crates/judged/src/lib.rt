@@ -2,10 +2,10 @@
 // after a search that found nothing, without its order and its filters.
 ghost use Rattle.std.specs.Prelude.{◌≡◌, ◌<◌};
 ghost use Rattle.lists.specs.Lists.{any};
-ghost use Rattle.decisions.specs.Decisions.{floatsOf};
-ghost use Rattle.nearby.specs.Inner.Ready.{NeighborsListed, neighborsListed, SceneKept};
+ghost use Rattle.decisions.specs.Decisions.{floats_of};
+ghost use Rattle.nearby.specs.Inner.Ready.{NeighborsListed, neighbors_listed, SceneKept};
 ghost use Rattle.reaching.specs.Reaching.{reaches};
-ghost use Rattle.judged.specs.Inner.Triples.{isBeside, isBesideBoth, hasThird, FilterAround, Fresh, TellsFirst};
+ghost use Rattle.judged.specs.Inner.Triples.{is_beside, is_beside_both, has_third, FilterAround, Fresh, TellsFirst};
 
 use decisions::Scene;
 use nearby::Filter;
@@ -25,7 +25,7 @@ fn is_beside(
     k: usize,
 ) -> bool
     requires { FilterAround s points.now w.now radius f i × (k < s.n) }
-    ensures { result ≡ isBeside s points.now radius i k }
+    ensures { result ≡ is_beside s points.now radius i k }
 {
     if i == k {
         return false;
@@ -48,7 +48,7 @@ fn is_beside_both(
     k: usize,
 ) -> bool
     requires { FilterAround s points.now w.now radius f i × (j < s.n) × (k < s.n) }
-    ensures { result ≡ isBesideBoth s points.now radius i j k }
+    ensures { result ≡ is_beside_both s points.now radius i j k }
 {
     if j == k {
         return false;
@@ -71,8 +71,8 @@ fn find_third(
     j: usize,
 ) -> bool
     requires { FilterAround s points.now w.now radius f i × NeighborsListed s w.now count × (j < s.n) }
-    ensures { result ≡ any (isBesideBoth s points.now radius i j)
-        (neighborsListed s w.now count) }
+    ensures { result ≡ any (is_beside_both s points.now radius i j)
+        (neighbors_listed s w.now count) }
 {
     let mut m: usize = 0;
     while m < count {
@@ -97,7 +97,7 @@ fn has_third(
     j: usize,
 ) -> bool
     requires { FilterAround s points.now w.now radius f i × NeighborsListed s w.now count × (j < s.n) }
-    ensures { result ≡ hasThird s points.now radius (neighborsListed s w.now count) i j }
+    ensures { result ≡ has_third s points.now radius (neighbors_listed s w.now count) i j }
 {
     if !is_beside(s, points, w, radius, f, i, j) {
         return false;
@@ -116,8 +116,8 @@ fn find_second(
     i: usize,
 ) -> bool
     requires { FilterAround s points.now w.now radius f i × NeighborsListed s w.now count }
-    ensures { result ≡ any (hasThird s points.now radius (neighborsListed s w.now count) i)
-        (neighborsListed s w.now count) }
+    ensures { result ≡ any (has_third s points.now radius (neighbors_listed s w.now count) i)
+        (neighbors_listed s w.now count) }
 {
     let mut m: usize = 0;
     while m < count {
@@ -144,7 +144,7 @@ fn is_first(s: Scene, points: &[f32], w: &mut [u32], radius: f32, hash: Hash, i:
 // Whether any triple is judged at a radius.
 pub fn is_any_judged(s: Scene, points: &[f32], w: &mut [u32], radius: f32, hash: Hash) -> bool
     requires { Fresh s hash points.now w.old }
-    ensures { result ≡ reaches (floatsOf s points.now) s.n radius }
+    ensures { result ≡ reaches (floats_of s points.now) s.n radius }
 {
     let n = s.n;
     let mut i: usize = 0;

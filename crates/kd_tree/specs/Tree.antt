@@ -10,40 +10,40 @@ use Rattle.std.specs.Float.Ieee.{to_bits}
 use Rattle.lists.specs.Lists.{up_from}
 use Rattle.axis_sort.specs.Axis.{precedes}
 use Rattle.axis_sort.specs.Halving.{halving}
-use Rattle.axis_sort.specs.Sorted.{sortedBy}
-use Rattle.kd_tree.specs.Boxes.{boxOf, boxCorners, longest}
+use Rattle.axis_sort.specs.Sorted.{sorted_by}
+use Rattle.kd_tree.specs.Boxes.{box_of, box_corners, longest}
 
 -- the most points that a leaf has
-abbrev pub leafSize : ℕ
-leafSize = 8
+abbrev pub leaf_size : ℕ
+leaf_size = 8
 
 -- the points of a part in order along the axis where their box is longest
 unfoldable pub along : List Float → List ℕ → List ℕ
-along points xs = sortedBy (precedes points (longest (boxOf points xs))) xs
+along points xs = sorted_by (precedes points (longest (box_of points xs))) xs
 
 -- the order that the splits leave: a leaf keeps the order of its parent's split
 unfoldable pub split : List Float → List ℕ → List ℕ
-split points xs = halving leafSize (λ l. l) (λ _ a b. a ++ b) (along points) (length xs) xs
+split points xs = halving leaf_size (λ l. l) (λ _ a b. a ++ b) (along points) (length xs) xs
 
 -- the boxes, each before those of its parts and the first part's first
-unfoldable pub boxesOf : List Float → List ℕ → List Float
-boxesOf points xs =
-    halving leafSize (λ l. boxCorners (boxOf points l)) (λ l a b. boxCorners (boxOf points l) ++ (a ++ b))
+unfoldable pub boxes_of : List Float → List ℕ → List Float
+boxes_of points xs =
+    halving leaf_size (λ l. box_corners (box_of points l)) (λ l a b. box_corners (box_of points l) ++ (a ++ b))
     (along points)
     (length xs) xs
 
 -- how many boxes a part of m points has, its own and its parts'
-unfoldable pub boxCountTo : ℕ → ℕ → ℕ
-boxCountTo zero m = 1
-boxCountTo (suc depth) m =
-    elim (leb m leafSize) [ true ↦ 1 | false ↦ 1 + (boxCountTo depth (m / 2) + boxCountTo depth (m - m / 2)) ]
+unfoldable pub box_count_to : ℕ → ℕ → ℕ
+box_count_to zero m = 1
+box_count_to (suc depth) m =
+    elim (leb m leaf_size) [ true ↦ 1 | false ↦ 1 + (box_count_to depth (m / 2) + box_count_to depth (m - m / 2)) ]
 
-unfoldable pub boxCount : ℕ → ℕ
-boxCount m = boxCountTo m m
+unfoldable pub box_count : ℕ → ℕ
+box_count m = box_count_to m m
 
 -- how many numbers an index of n points has
-abbrev pub indexSize : ℕ → ℕ
-indexSize n = 8 * n + 64
+abbrev pub index_size : ℕ → ℕ
+index_size n = 8 * n + 64
 
 -- numbers, and zeros up to so many
 unfoldable pub padded : ℕ → List ℕ → List ℕ
@@ -53,8 +53,8 @@ padded size xs = xs ++ replicate (size - length xs) 0
 unfoldable pub built : List Float → List ℕ
 built points =
     let n = length points / 3 in
-    padded (indexSize n)
-    (split points (up_from 0 n) ++ map (to_bits binary32) (boxesOf points (up_from 0 n)))
+    padded (index_size n)
+    (split points (up_from 0 n) ++ map (to_bits binary32) (boxes_of points (up_from 0 n)))
 
 -- whether two lists are the same
 unfoldable pub same_numbers : List ℕ → List ℕ → Bool
@@ -65,4 +65,4 @@ same_numbers (x ∷ xs) (y ∷ ys) = eqb x y && same_numbers xs ys
 
 -- whether an index is the cloud's: its numbers are those that building it afresh gives; numbers past them don't count
 unfoldable pub belongs : List Float → List ℕ → Bool
-belongs points index = same_numbers (take (indexSize (length points / 3)) index) (built points)
+belongs points index = same_numbers (take (index_size (length points / 3)) index) (built points)

@@ -1,14 +1,14 @@
 // A box of the tree of a cloud: its coordinates, the axis where it is longest, and where it is written. The tree itself
 // is defined in specs/, and crate `tree_build` builds it.
 ghost use Rattle.std.specs.Prelude.{◌≡◌, ◌+◌, ◌≤◌, ◌<◌, length};
-ghost use Rattle.kd_tree.specs.Boxes.{plusZero, boxCorners, longest};
+ghost use Rattle.kd_tree.specs.Boxes.{plus_zero, box_corners, longest};
 ghost use Rattle.kd_tree.specs.Inner.Written.{ListWritten};
 
 use bounds::Bounds;
 
 // Minus zero as zero.
 pub fn plus_zero(x: f32) -> f32
-    ensures { result ≡ plusZero x }
+    ensures { result ≡ plus_zero x }
 {
     if x == 0.0 {
         return 0.0;
@@ -38,7 +38,7 @@ pub fn longest(b: Bounds) -> usize
 // A box's six coordinates, from `at` on.
 pub fn put_box(boxes: &mut [f32], at: usize, b: Bounds)
     requires { at + 6 ≤ length boxes.old }
-    ensures { ListWritten boxes.old boxes.new at (boxCorners b) }
+    ensures { ListWritten boxes.old boxes.new at (box_corners b) }
 {
     boxes[at] = b.lo.x;
     boxes[at + 1] = b.lo.y;

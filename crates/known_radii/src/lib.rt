@@ -1,7 +1,7 @@
 // Radii that are known to have no seed: in a flat cloud, or since a larger one has none.
 ghost use Rattle.std.specs.Prelude.{◌≡◌, true, false, ◌<◌};
 ghost use Rattle.spatial_hash.specs.Inner.Near.{Hashed};
-ghost use Rattle.nearby.specs.Inner.Ready.{SceneHeld, usedInScene, SceneKept};
+ghost use Rattle.nearby.specs.Inner.Ready.{SceneHeld, used_in_scene, SceneKept};
 ghost use Rattle.known_radii.specs.Inner.Known.{RadiusKnown, Number, Growing, NothingTo, Silent};
 
 use decisions::Scene;
@@ -78,7 +78,7 @@ fn is_seedless_to(
 ) -> bool
     requires { SceneHeld p.scene points.now w.old × Hashed p.hash points.now p.scene.n w.old }
     ensures { (result ≡ true
-        → NothingTo p.scene points.now (usedInScene p.scene w.old) largest)
+        → NothingTo p.scene points.now (used_in_scene p.scene w.old) largest)
         × SceneKept p.scene w.old w.new }
 {
     let s = p.scene;
@@ -131,7 +131,7 @@ pub fn ask_early(
     requires { SceneHeld p.scene points.now w.old × Hashed p.hash points.now p.scene.n w.old
         × (i < p.scene.n) }
     ensures { (result.told ≡ true
-        → NothingTo p.scene points.now (usedInScene p.scene w.old) largest)
+        → NothingTo p.scene points.now (used_in_scene p.scene w.old) largest)
         × SceneKept p.scene w.old w.new }
 {
     if !asks {
@@ -168,7 +168,7 @@ pub fn is_known_by(s: Scene, radius: f32, largest: f32, told: bool) -> bool
 // that a search at this radius asked in vain.
 fn ask_at(p: Site, points: &[f32], w: &mut [u32], largest: f32, budget: usize) -> f32
     requires { SceneHeld p.scene points.now w.old × Hashed p.hash points.now p.scene.n w.old }
-    ensures { NothingTo p.scene points.now (usedInScene p.scene w.old) result
+    ensures { NothingTo p.scene points.now (used_in_scene p.scene w.old) result
         × SceneKept p.scene w.old w.new }
 {
     let s = p.scene;
@@ -191,8 +191,8 @@ pub fn known_to(
     budget: usize,
 ) -> f32
     requires { SceneHeld p.scene points.now w.old × Hashed p.hash points.now p.scene.n w.old
-        × (told ≡ true → NothingTo p.scene points.now (usedInScene p.scene w.old) largest) }
-    ensures { NothingTo p.scene points.now (usedInScene p.scene w.old) result
+        × (told ≡ true → NothingTo p.scene points.now (used_in_scene p.scene w.old) largest) }
+    ensures { NothingTo p.scene points.now (used_in_scene p.scene w.old) result
         × SceneKept p.scene w.old w.new }
 {
     if told {

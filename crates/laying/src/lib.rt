@@ -1,14 +1,14 @@
 // Ball pivoting over the lent slices: a look at an entry, the looks of one radius, and the radii in turn.
 ghost use Rattle.std.specs.Prelude.{◌≡◌, true, ◌*◌, ◌≤◌, ◌<◌, take, [], ◌∷◌};
-ghost use Rattle.patch.specs.Lay.{edge, run, layOne, patch, blank};
-ghost use Rattle.origins.specs.Inner.Following.{marksFrom};
+ghost use Rattle.patch.specs.Lay.{edge, run, lay_one, patch, blank};
+ghost use Rattle.origins.specs.Inner.Following.{marks_from};
 ghost use Rattle.patch.specs.Frontier.{pop_of};
 ghost use Rattle.patch.specs.Inner.Invariant.{Inv, Rest};
 ghost use Rattle.std.proofs.Math.Option.{none};
-ghost use Rattle.nearby.specs.Inner.Ready.{usedInScene};
+ghost use Rattle.nearby.specs.Inner.Ready.{used_in_scene};
 ghost use Rattle.laying_steps.specs.Inner.Work.{HoldsState};
 ghost use Rattle.known_radii.specs.Inner.Known.{NothingTo};
-ghost use Rattle.laying.specs.Inner.Laying.{AllSearchable, LayingSearchable, rulesOf, pivotOver, lookUnder};
+ghost use Rattle.laying.specs.Inner.Laying.{AllSearchable, LayingSearchable, rules_of, pivot_over, look_under};
 ghost use Rattle.laying.specs.Inner.Laying.{LaysState, EntryOpened};
 ghost use Rattle.laying.specs.Inner.Laying.{Pivoting, BetweenLooks, BetweenRadii, Without};
 ghost use Rattle.spatial_hash.specs.Inner.Near.{HashLinked};
@@ -40,7 +40,7 @@ fn pivot_over(
 ) -> Counts
     requires { Pivoting p.scene p.hash points.now c w.old faces.old (edge a b) }
     ensures { LaysState p.scene p.hash points.now (EntryOpened p.scene.n (edge a b))
-        (pivotOver p.scene points.now p.radius (edge a b)) c w.old faces.old result
+        (pivot_over p.scene points.now p.radius (edge a b)) c w.old faces.old result
         w.new faces.new }
 {
     let s = p.scene;
@@ -59,7 +59,7 @@ fn pivot_over(
 fn look(p: Pass, points: &[f32], faces: &mut [u32], w: &mut [u32], c: Counts) -> Counts
     requires { BetweenLooks p.scene p.hash points.now c w.old faces.old × (0 < c.frontier) }
     ensures { LaysState p.scene p.hash points.now (Inv p.scene.n)
-        (lookUnder p.rule p.scene points.now p.radius) c w.old faces.old result
+        (look_under p.rule p.scene points.now p.radius) c w.old faces.old result
         w.new faces.new }
 {
     let top = laying_steps::pop(w, p.scene.n, c, p.rule);
@@ -75,7 +75,7 @@ fn look(p: Pass, points: &[f32], faces: &mut [u32], w: &mut [u32], c: Counts) ->
 fn run(p: Pass, points: &[f32], faces: &mut [u32], w: &mut [u32], start: Counts) -> Counts
     requires { BetweenLooks p.scene p.hash points.now start w.old faces.old }
     ensures { LaysState p.scene p.hash points.now (Inv p.scene.n)
-        (run (rulesOf p.scene points.now) (pop_of p.rule) p.radius (3 * p.scene.n)) start
+        (run (rules_of p.scene points.now) (pop_of p.rule) p.radius (3 * p.scene.n)) start
         w.old faces.old result w.new faces.new }
 {
     let mut c = start;
@@ -112,13 +112,13 @@ fn lay_one(
     t: Told,
 ) -> Laid
     requires { BetweenRadii p.scene p.hash points.now before w.old faces.old
-        × (t.known ≡ true → (rulesOf p.scene points.now).seedOf p.radius (usedInScene p.scene w.old)
+        × (t.known ≡ true → (rules_of p.scene points.now).seed_of p.radius (used_in_scene p.scene w.old)
         ≡ none)
-        × NothingTo p.scene points.now (usedInScene p.scene w.old) t.upto }
+        × NothingTo p.scene points.now (used_in_scene p.scene w.old) t.upto }
     ensures { LaysState p.scene p.hash points.now (Rest p.scene.n)
-        (layOne (rulesOf p.scene points.now) (pop_of p.rule) p.scene.n p.radius) before
+        (lay_one (rules_of p.scene points.now) (pop_of p.rule) p.scene.n p.radius) before
         w.old faces.old result.counts w.new faces.new
-        × NothingTo p.scene points.now (usedInScene p.scene w.new) result.upto }
+        × NothingTo p.scene points.now (used_in_scene p.scene w.new) result.upto }
 {
     let s = p.scene;
     let hash = p.hash;
@@ -172,11 +172,11 @@ pub fn advanced_ball_pivoting(
 ) -> Course
     requires { AllSearchable s hash points.now w.old × (count ≤ 17) }
     ensures { HoldsState s.n faces.old
-        (patch (rulesOf s points.now) (pop_of rule) s.n (take count radii)) result.counts w.new
+        (patch (rules_of s points.now) (pop_of rule) s.n (take count radii)) result.counts w.new
         faces.new
         × LayingSearchable s hash points.now w.new
         × (take count result.marks
-        ≡ marksFrom (rulesOf s points.now) (pop_of rule) s.n (take count radii) (blank s.n)) }
+        ≡ marks_from (rules_of s points.now) (pop_of rule) s.n (take count radii) (blank s.n)) }
 {
     let flat = flatness::is_flat(s, points);
     let largest = last_of(radii, count);

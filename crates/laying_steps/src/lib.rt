@@ -1,9 +1,9 @@
 // The parts of a step of the laying: the counts of faces, seeds, entries, looks and pivots, and the lent slices.
 ghost use Rattle.std.proofs.Math.Option.{some};
 ghost use Rattle.std.specs.Prelude.{◌≤◌, ◌<◌};
-ghost use Rattle.regions.specs.Inner.Regions.{usedAt, frontierAt, frontierEnd};
+ghost use Rattle.regions.specs.Inner.Regions.{used_at, frontier_at, frontier_end};
 ghost use Rattle.patch.specs.Lay.{edge, met, seeded, pivoted};
-ghost use Rattle.patch.specs.Frontier.{heapOf, queueOf, pop_of};
+ghost use Rattle.patch.specs.Frontier.{heap_of, queue_of, pop_of};
 ghost use Rattle.laying_words.specs.Inner.Words.{WordsSized, OnlyIn};
 ghost use Rattle.laying_steps.specs.Inner.Work.{Takes, Begins, Clears, Pops, TellsEntry, Open, NoneProcessed};
 ghost use Rattle.laying_steps.specs.Inner.Work.{Misses};
@@ -42,7 +42,7 @@ pub struct Popped {
 pub fn begin(w: &mut [u32], n: usize) -> Counts
     requires { WordsSized n w.old }
     ensures begins { Begins n result w.new }
-    ensures only_in { OnlyIn (usedAt n) (frontierAt n) w.old w.new }
+    ensures only_in { OnlyIn (used_at n) (frontier_at n) w.old w.new }
 {
     laying_words::clear_used(w, n);
     Counts {
@@ -68,8 +68,8 @@ pub fn clear(c: Counts) -> Counts
 // A look begins under rule 1: an entry is popped from the heap.
 fn pop_heap(w: &mut [u32], n: usize, c: Counts) -> Popped
     requires { FrontierReady n c w.old × (0 < c.frontier) }
-    ensures pops { Pops heapOf n c w.old result.entry result.counts w.new }
-    ensures only_in { OnlyIn (usedAt n) (frontierEnd n) w.old w.new }
+    ensures pops { Pops heap_of n c w.old result.entry result.counts w.new }
+    ensures only_in { OnlyIn (used_at n) (frontier_end n) w.old w.new }
 {
     let count = c.frontier;
     let entry = laying_words::pop_frontier(w, n, c.first, count);
@@ -85,7 +85,7 @@ fn pop_heap(w: &mut [u32], n: usize, c: Counts) -> Popped
 // A look begins under rule 2: the entry that was pushed first is popped, and the others stay where they are.
 fn pop_queue(w: &[u32], n: usize, c: Counts) -> Popped
     requires { FrontierReady n c w.now × (0 < c.frontier) }
-    ensures { Pops queueOf n c w.now result.entry result.counts w.now }
+    ensures { Pops queue_of n c w.now result.entry result.counts w.now }
 {
     let front = c.first;
     let left = c.frontier - 1;
@@ -104,7 +104,7 @@ fn pop_queue(w: &[u32], n: usize, c: Counts) -> Popped
 pub fn pop(w: &mut [u32], n: usize, c: Counts, rule: u32) -> Popped
     requires { FrontierReady n c w.old × (0 < c.frontier) }
     ensures pops { Pops (pop_of rule) n c w.old result.entry result.counts w.new }
-    ensures only_in { OnlyIn (usedAt n) (frontierEnd n) w.old w.new }
+    ensures only_in { OnlyIn (used_at n) (frontier_end n) w.old w.new }
 {
     if rule == 2 {
         return pop_queue(w, n, c);
@@ -146,7 +146,7 @@ pub fn lay_pivot(
     requires { FaceRoom n c w.old a b k }
     ensures takes { Takes n (Open (edge a b) k) (λ s. pivoted (edge a b) (met (edge a b) (some k) s)) c
         w.old faces.old result w.new faces.new }
-    ensures only_in { OnlyIn (usedAt n) (frontierEnd n) w.old w.new }
+    ensures only_in { OnlyIn (used_at n) (frontier_end n) w.old w.new }
 {
     let count = c.faces;
     let waiting = c.frontier;
@@ -173,7 +173,7 @@ pub fn lay_seed(
     requires { FaceRoom n c w.old i j k }
     ensures takes { Takes n NoneProcessed (seeded (i, j, k)) c w.old faces.old result w.new
         faces.new }
-    ensures only_in { OnlyIn (usedAt n) (frontierEnd n) w.old w.new }
+    ensures only_in { OnlyIn (used_at n) (frontier_end n) w.old w.new }
 {
     let count = c.faces;
     let waiting = c.frontier;

@@ -9,74 +9,74 @@ use lib.Seq.{get_or-take, drop-set-add, take-set-lt, take-suc-set}
 use borrow.Rule.Slice.PartMut.{put_mid}
 use Rattle.lists.specs.Lists.{count}
 use Rattle.patch.specs.Lay.{face, marked}
-use Rattle.patch.specs.Frontier.{afterPop}
-use Rattle.patch.proofs.View.{written-more, written-full, length-written}
-use Rattle.regions.specs.Inner.Regions.{usedIn}
-use Rattle.laying_words.specs.Inner.Words.{entriesIn, WordsSized, OnlyIn, Taken, Pushed, WordsMarked, WroteFace}
-use Rattle.laying_words.proofs.Slices.{only_none, only_set, only_wider, only-both, word-stored, tail-is, back, only-tail}
+use Rattle.patch.specs.Frontier.{after_pop}
+use Rattle.patch.proofs.View.{written_more, written_full, length_written}
+use Rattle.regions.specs.Inner.Regions.{used_in}
+use Rattle.laying_words.specs.Inner.Words.{entries_in, WordsSized, OnlyIn, Taken, Pushed, WordsMarked, WroteFace}
+use Rattle.laying_words.proofs.Slices.{only_none, only_set, only_wider, only_both, word_stored, tail_is, back, only_tail}
 
 module _ (n first count : ℕ) (w ys : List ℕ) (r : ℕ) (sized : WordsSized n w) (some-wait : 0 < count) (few : first + count ≤ 3 * n) where
   pub taken : let at = 6 * n + first in
-      r ≡ get_or (take (length w - at) (drop at w)) 0 0 → take (count - 1) ys ≡ afterPop 0 (take count (take (length w - at) (drop at w)))
+      r ≡ get_or (take (length w - at) (drop at w)) 0 0 → take (count - 1) ys ≡ after_pop 0 (take count (take (length w - at) (drop at w)))
       → drop count ys ≡ drop count (take (length w - at) (drop at w)) → length ys ≡ length (take (length w - at) (drop at w))
       → Taken n first count w (put_mid at (length w - at) w ys) r
   taken top rest same long =
       let at : ℕ = 6 * n + first in
       let inside : 6 * n + first ≤ length w = omega (arith, sized.long) in
-      let t = tail-is (6 * n + first) w inside in
+      let t = tail_is (6 * n + first) w inside in
       record {
         top = top ∙ ap (λ (l : List ℕ). get_or l 0 0) t ∙ sym (get_or-take count (drop (6 * n + first) w) 0 0 some-wait);
-        rest = ap (λ (l : List ℕ). take (count - 1) l) (back (6 * n + first) w inside ys) ∙ rest ∙ ap (λ (l : List ℕ). afterPop 0 (take count l)) t;
+        rest = ap (λ (l : List ℕ). take (count - 1) l) (back (6 * n + first) w inside ys) ∙ rest ∙ ap (λ (l : List ℕ). after_pop 0 (take count l)) t;
         only = only_wider (6 * n) (9 * n) (omega arith) (omega arith)
-            (only-tail (6 * n + first) w inside count (9 * n) ys (omega arith) (long ∙ ap length t ∙ length-drop (6 * n + first) w)
+            (only_tail (6 * n + first) w inside count (9 * n) ys (omega arith) (long ∙ ap length t ∙ length-drop (6 * n + first) w)
             (same ∙ ap (λ (l : List ℕ). drop count l) t));
       }
 
-pub pushed-one : (n end entry : ℕ) (w : List ℕ) → WordsSized n w → end + 1 ≤ 3 * n → Pushed n end (entry ∷ []) w (set w (6 * n + end) entry)
-pushed-one n end entry w sized few = record {
+pub pushed_one : (n end entry : ℕ) (w : List ℕ) → WordsSized n w → end + 1 ≤ 3 * n → Pushed n end (entry ∷ []) w (set w (6 * n + end) entry)
+pushed_one n end entry w sized few = record {
   entries = λ first count e.
       let at : 6 * n + end ≡ 6 * n + first + count = omega arith in
-      ap (λ (i : ℕ). entriesIn n first (count + 1) (set w i entry)) at ∙ word-stored w (6 * n + first) count entry (omega (arith, sized.long));
+      ap (λ (i : ℕ). entries_in n first (count + 1) (set w i entry)) at ∙ word_stored w (6 * n + first) count entry (omega (arith, sized.long));
   only = only_set (6 * n) (9 * n) w (6 * n + end) entry (omega arith) (omega arith);
 }
 
-pub pushed-three : (n end x y z : ℕ) (w w1 w2 w3 : List ℕ) → Pushed n end (x ∷ []) w w1 → Pushed n (end + 1) (y ∷ []) w1 w2 → Pushed n (end + 2) (z ∷ []) w2 w3
+pub pushed_three : (n end x y z : ℕ) (w w1 w2 w3 : List ℕ) → Pushed n end (x ∷ []) w w1 → Pushed n (end + 1) (y ∷ []) w1 w2 → Pushed n (end + 2) (z ∷ []) w2 w3
     → Pushed n end (x ∷ y ∷ z ∷ []) w w3
-pushed-three n end x y z w w1 w2 w3 p q r = record {
+pushed_three n end x y z w w1 w2 w3 p q r = record {
   entries = λ first count e.
       let two : count + 2 ≡ count + 1 + 1 = omega arith in
       let three : count + 3 ≡ count + 2 + 1 = omega arith in
-      let old : List ℕ = entriesIn n first count w in
-      ap (λ (m : ℕ). entriesIn n first m w3) three ∙ r.entries first (count + 2) (omega arith)
+      let old : List ℕ = entries_in n first count w in
+      ap (λ (m : ℕ). entries_in n first m w3) three ∙ r.entries first (count + 2) (omega arith)
       ∙ ap (λ (l : List ℕ). l ++ (z ∷ []))
-      (ap (λ (m : ℕ). entriesIn n first m w2) two ∙ q.entries first (count + 1) (omega arith) ∙ ap (λ (l : List ℕ). l ++ (y ∷ [])) (p.entries first count e))
+      (ap (λ (m : ℕ). entries_in n first m w2) two ∙ q.entries first (count + 1) (omega arith) ∙ ap (λ (l : List ℕ). l ++ (y ∷ [])) (p.entries first count e))
       ∙ append_assoc (old ++ (x ∷ [])) (y ∷ []) (z ∷ []) ∙ append_assoc old (x ∷ []) (y ∷ z ∷ []);
-  only = only-both (only-both p.only q.only) r.only;
+  only = only_both (only_both p.only q.only) r.only;
 }
 
-pub marked-one : (n k : ℕ) (w : List ℕ) → k < n → WordsMarked n (k ∷ []) w (set w (5 * n + k) 1)
+pub marked_one : (n k : ℕ) (w : List ℕ) → k < n → WordsMarked n (k ∷ []) w (set w (5 * n + k) 1)
 unfolding marked
-marked-one n k w h = record {
+marked_one n k w h = record {
   flags = ap (λ (l : List ℕ). take n l) (drop-set-add (5 * n) w k 1) ∙ take-set-lt n (drop (5 * n) w) k 1 h;
   only = only_set (5 * n) (6 * n) w (5 * n + k) 1 (omega arith) (omega arith);
 }
 
-pub marked-three : (n a b k : ℕ) (w w1 w2 w3 : List ℕ) → WordsMarked n (a ∷ []) w w1 → WordsMarked n (b ∷ []) w1 w2 → WordsMarked n (k ∷ []) w2 w3
+pub marked_three : (n a b k : ℕ) (w w1 w2 w3 : List ℕ) → WordsMarked n (a ∷ []) w w1 → WordsMarked n (b ∷ []) w1 w2 → WordsMarked n (k ∷ []) w2 w3
     → WordsMarked n (a ∷ b ∷ k ∷ []) w w3
 unfolding marked
-marked-three n a b k w w1 w2 w3 p q r = record {
+marked_three n a b k w w1 w2 w3 p q r = record {
   flags = r.flags ∙ ap (λ (l : List ℕ). set l k 1) (q.flags ∙ ap (λ (l : List ℕ). set l b 1) p.flags);
-  only = only-both (only-both p.only q.only) r.only;
+  only = only_both (only_both p.only q.only) r.only;
 }
 
 module _ (count a b k : ℕ) (slice : List ℕ) where
-  pub wrote-more : 3 * count + 3 ≤ length slice → WroteFace count (face a b k) slice (set (set (set slice (3 * count) a) (3 * count + 1) b) (3 * count + 2) k)
-  wrote-more h lent fs l e =
+  pub wrote_more : 3 * count + 3 ≤ length slice → WroteFace count (face a b k) slice (set (set (set slice (3 * count) a) (3 * count + 1) b) (3 * count + 2) k)
+  wrote_more h lent fs l e =
       ap₂ (λ (m : ℕ) (xs : List ℕ). set (set (set xs (3 * m) a) (3 * m + 1) b) (3 * m + 2) k) (sym l) e
-      ∙ written-more fs (face a b k) lent (omega (arith, ap length e, length-written fs lent))
+      ∙ written_more fs (face a b k) lent (omega (arith, ap length e, length_written fs lent))
 
-  pub wrote-full : length slice < 3 * count + 3 → WroteFace count (face a b k) slice slice
-  wrote-full h lent fs l e = e ∙ written-full fs (face a b k) lent (omega (arith, ap length e, length-written fs lent))
+  pub wrote_full : length slice < 3 * count + 3 → WroteFace count (face a b k) slice slice
+  wrote_full h lent fs l e = e ∙ written_full fs (face a b k) lent (omega (arith, ap length e, length_written fs lent))
 
 replicate_more : (i : ℕ) → ◌++◌ {A = ℕ} (replicate i 0) (0 ∷ []) ≡ replicate (suc i) 0
 replicate_more zero = refl
@@ -89,11 +89,11 @@ pub record Clearing (n : ℕ) (w₀ w : List ℕ) (i : ℕ) : Type 0 where
   pub zeros : take i (drop (5 * n) w) ≡ replicate i 0
   pub only : OnlyIn (5 * n) (6 * n) w₀ w
 
-pub clearing-start : (n : ℕ) (w : List ℕ) → WordsSized n w → Clearing n w w 0
-clearing-start n w sized = record { inside = omega arith; sized = sized; zeros = refl; only = only_none (5 * n) (6 * n) w }
+pub clearing_start : (n : ℕ) (w : List ℕ) → WordsSized n w → Clearing n w w 0
+clearing_start n w sized = record { inside = omega arith; sized = sized; zeros = refl; only = only_none (5 * n) (6 * n) w }
 
-pub clearing-step : (n : ℕ) (w₀ w : List ℕ) (i : ℕ) → Clearing n w₀ w i → i < n → Clearing n w₀ (set w (5 * n + i) 0) (i + 1)
-clearing-step n w₀ w i c h =
+pub clearing_step : (n : ℕ) (w₀ w : List ℕ) (i : ℕ) → Clearing n w₀ w i → i < n → Clearing n w₀ (set w (5 * n + i) 0) (i + 1)
+clearing_step n w₀ w i c h =
     let s : i + 1 ≡ suc i = omega arith in
     let l : i < length (drop (5 * n) w) = omega (arith, length-drop (5 * n) w, c.sized.long) in
     record {
@@ -101,10 +101,10 @@ clearing-step n w₀ w i c h =
       sized = record { some = c.sized.some; few = c.sized.few; long = omega (arith, c.sized.long, length-set w (5 * n + i) 0) };
       zeros = ap₂ (λ (j : ℕ) (xs : List ℕ). take j xs) s (drop-set-add (5 * n) w i 0) ∙ take-suc-set (drop (5 * n) w) i 0 l ∙ ap
           (λ (xs : List ℕ). xs ++ (0 ∷ [])) c.zeros ∙ replicate_more i ∙ ap (λ (j : ℕ). replicate j 0) (sym s);
-      only = only-both c.only (only_set (5 * n) (6 * n) w (5 * n + i) 0 (omega arith) (omega arith));
+      only = only_both c.only (only_set (5 * n) (6 * n) w (5 * n + i) 0 (omega arith) (omega arith));
     }
 
-pub clearing-end : (n : ℕ) (w₀ w : List ℕ) (i : ℕ) → Clearing n w₀ w i → n ≤ i → (usedIn n w ≡ replicate n 0) × OnlyIn (5 * n) (6 * n) w₀ w
-clearing-end n w₀ w i c h =
+pub clearing_end : (n : ℕ) (w₀ w : List ℕ) (i : ℕ) → Clearing n w₀ w i → n ≤ i → (used_in n w ≡ replicate n 0) × OnlyIn (5 * n) (6 * n) w₀ w
+clearing_end n w₀ w i c h =
     let e : i ≡ n = omega (arith, c.inside) in
     (ap (λ (j : ℕ). take j (drop (5 * n) w)) (sym e) ∙ c.zeros ∙ ap (λ (j : ℕ). replicate j 0) e, c.only)

@@ -28,52 +28,52 @@ module _ {lo hi : ℕ} {w u : List ℕ} (o : OnlyIn lo hi w u) where
   after_same at k h = ap (λ (l : List ℕ). take k l) (sym (further hi at u h) ∙ ap (λ (l : List ℕ). drop (at - hi) l) o.after ∙ further hi at w h)
 
 pub only_none : (lo hi : ℕ) (w : List ℕ) → OnlyIn lo hi w w
-only_none lo hi w = record { before = refl; after = refl; length-same = refl }
+only_none lo hi w = record { before = refl; after = refl; length_same = refl }
 
 pub only_set : (lo hi : ℕ) (w : List ℕ) (i v : ℕ) → lo ≤ i → i < hi → OnlyIn lo hi w (set w i v)
-only_set lo hi w i v h g = record { before = take-set-le lo w i v h; after = drop-set-lt hi w i v g; length-same = length-set w i v }
+only_set lo hi w i v h g = record { before = take-set-le lo w i v h; after = drop-set-lt hi w i v g; length_same = length-set w i v }
 
 -- what lies between farther places
 pub only_wider : {lo hi : ℕ} {w u : List ℕ} (lo' hi' : ℕ) → lo' ≤ lo → hi ≤ hi' → OnlyIn lo hi w u → OnlyIn lo' hi' w u
 only_wider {lo} {hi} {w} {u} lo' hi' h g o = record {
   before = sym (take-take lo' lo u h) ∙ ap (λ (l : List ℕ). take lo' l) o.before ∙ take-take lo' lo w h;
   after = sym (further hi hi' u g) ∙ ap (λ (l : List ℕ). drop (hi' - hi) l) o.after ∙ further hi hi' w g;
-  length-same = o.length-same;
+  length_same = o.length_same;
 }
 
-pub only-both : {lo hi : ℕ} {w u v : List ℕ} → OnlyIn lo hi w u → OnlyIn lo hi u v → OnlyIn lo hi w v
-only-both o p = record { before = p.before ∙ o.before; after = p.after ∙ o.after; length-same = p.length-same ∙ o.length-same }
+pub only_both : {lo hi : ℕ} {w u v : List ℕ} → OnlyIn lo hi w u → OnlyIn lo hi u v → OnlyIn lo hi w v
+only_both o p = record { before = p.before ∙ o.before; after = p.after ∙ o.after; length_same = p.length_same ∙ o.length_same }
 
 -- ---- one more word behind the k words from `at` on
-pub word-stored : (w : List ℕ) (at k c : ℕ) → at + k < length w → take (k + 1) (drop at (set w (at + k) c)) ≡ take k (drop at w) ++ (c ∷ [])
-word-stored w at k c h =
+pub word_stored : (w : List ℕ) (at k c : ℕ) → at + k < length w → take (k + 1) (drop at (set w (at + k) c)) ≡ take k (drop at w) ++ (c ∷ [])
+word_stored w at k c h =
     let l : k < length (drop at w) = omega (arith, length-drop at w) in
     let e : k + 1 ≡ suc k = omega arith in
     ap (λ (j : ℕ). take j (drop at (set w (at + k) c))) e ∙ ap (λ (xs : List ℕ). take (suc k) xs) (drop-set-add at w k c) ∙ take-suc-set (drop at w) k c l
 
 -- ---- the tail from `at` on, come back as ys
 module _ (at : ℕ) (w : List ℕ) (long : at ≤ length w) where
-  pub tail-is : take (length w - at) (drop at w) ≡ drop at w
-  tail-is = take_all (length w - at) (drop at w) (le_of_eq (length-drop at w))
+  pub tail_is : take (length w - at) (drop at w) ≡ drop at w
+  tail_is = take_all (length w - at) (drop at w) (le_of_eq (length-drop at w))
 
-  put-tail : (ys : List ℕ) → put_mid at (length w - at) w ys ≡ take at w ++ ys
-  put-tail ys = ap (λ (z : List ℕ). take at w ++ (ys ++ z)) (drop_of_length-le (drop at w) (le_of_eq (length-drop at w))) ∙ ap (λ (z : List ℕ). take at w ++ z)
+  put_tail : (ys : List ℕ) → put_mid at (length w - at) w ys ≡ take at w ++ ys
+  put_tail ys = ap (λ (z : List ℕ). take at w ++ (ys ++ z)) (drop_of_length-le (drop at w) (le_of_eq (length-drop at w))) ∙ ap (λ (z : List ℕ). take at w ++ z)
       (append-nil ys)
 
   pub front : (ys : List ℕ) → take at (put_mid at (length w - at) w ys) ≡ take at w
-  front ys = ap (λ (z : List ℕ). take at z) (put-tail ys) ∙ take_at (take at w) ys at (length-take-le at w long)
+  front ys = ap (λ (z : List ℕ). take at z) (put_tail ys) ∙ take_at (take at w) ys at (length-take-le at w long)
 
   pub back : (ys : List ℕ) → drop at (put_mid at (length w - at) w ys) ≡ ys
-  back ys = ap (λ (z : List ℕ). drop at z) (put-tail ys) ∙ drop_at (take at w) ys at (length-take-le at w long)
+  back ys = ap (λ (z : List ℕ). drop at z) (put_tail ys) ∙ drop_at (take at w) ys at (length-take-le at w long)
 
   -- where only the first m words of the tail changed
-  pub only-tail : (m hi : ℕ) (ys : List ℕ) → at + m ≤ hi → length ys ≡ length w - at → drop m ys ≡ drop m (drop at w)
+  pub only_tail : (m hi : ℕ) (ys : List ℕ) → at + m ≤ hi → length ys ≡ length w - at → drop m ys ≡ drop m (drop at w)
       → OnlyIn at hi w (put_mid at (length w - at) w ys)
-  only-tail m hi ys h l e =
+  only_tail m hi ys h l e =
       let u : List ℕ = put_mid at (length w - at) w ys in
       let same : drop (at + m) u ≡ drop (at + m) w = sym (drop-drop m at u) ∙ ap (λ (z : List ℕ). drop m z) (back ys) ∙ e ∙ drop-drop m at w in
       record {
         before = front ys;
         after = sym (further (at + m) hi u h) ∙ ap (λ (z : List ℕ). drop (hi - (at + m)) z) same ∙ further (at + m) hi w h;
-        length-same = ap length (put-tail ys) ∙ length-append (take at w) ys ∙ (let t = length-take-le at w long in omega arith);
+        length_same = ap length (put_tail ys) ∙ length-append (take at w) ys ∙ (let t = length-take-le at w long in omega arith);
       }

@@ -1,6 +1,6 @@
 // The pop of a heap whose priorities are all equal, in front of a lent slice.
 ghost use Rattle.std.specs.Prelude.{◌≡◌, ◌-◌, ◌≤◌, ◌<◌, length, get_or, take, drop};
-ghost use Rattle.patch.specs.Frontier.{sift, afterPop};
+ghost use Rattle.patch.specs.Frontier.{sift, after_pop};
 
 // Puts v into the gap at the top of the first m entries.
 fn sift_down(w: &mut [u32], m: usize, v: u32)
@@ -25,7 +25,7 @@ fn sift_down(w: &mut [u32], m: usize, v: u32)
 pub fn pop(w: &mut [u32], m: usize) -> u32
     requires { (0 < m) × (m ≤ length w.old) }
     ensures { (result ≡ get_or w.old 0 0)
-        × (take (m - 1) w.new ≡ afterPop 0 (take m w.old))
+        × (take (m - 1) w.new ≡ after_pop 0 (take m w.old))
         × (drop m w.new ≡ drop m w.old) }
 {
     let top = w[0];

@@ -2,7 +2,7 @@
 mod heap;
 
 ghost use Rattle.std.specs.Prelude.{◌≡◌, [], ◌∷◌, replicate, ◌+◌, ◌*◌, ◌≤◌, ◌<◌};
-ghost use Rattle.regions.specs.Inner.Regions.{usedAt, frontierAt, usedIn};
+ghost use Rattle.regions.specs.Inner.Regions.{used_at, frontier_at, used_in};
 ghost use Rattle.patch.specs.Lay.{edge, face};
 ghost use Rattle.laying_words.specs.Inner.Words.{flag, word_of, words_of, WordsSized, OnlyIn, Taken, Pushed};
 ghost use Rattle.laying_words.specs.Inner.Words.{WordsMarked};
@@ -11,8 +11,8 @@ ghost use Rattle.laying_words.specs.Inner.Words.{WroteFace};
 // No point is used.
 pub fn clear_used(w: &mut [u32], n: usize)
     requires { WordsSized n w.old }
-    ensures w_after { usedIn n w.new ≡ replicate n 0 }
-    ensures only_in { OnlyIn (usedAt n) (frontierAt n) w.old w.new }
+    ensures w_after { used_in n w.new ≡ replicate n 0 }
+    ensures only_in { OnlyIn (used_at n) (frontier_at n) w.old w.new }
 {
     let mut i: usize = 0;
     while i < n {

@@ -8,19 +8,19 @@ use native.Mathlib.Omega.{arith}
 use lib.Dec.{eqb}
 use lib.ListN.{length, get_or, set, take, drop, length-set, take-append-drop}
 use borrow.Rule.Slice.PartMut.{put_mid}
-use Rattle.axis_sort.proofs.Parts.{part-2, whole-2, size-2}
+use Rattle.axis_sort.proofs.Parts.{part_2, whole_2, size_2}
 use lib.Seq.{get_or-set_same, get_or-set_other}
 use borrow.Author.Tests.{eqb-true, eqb-false}
 use Rattle.lists.specs.Lists.{bit, count}
 use Rattle.lists.proofs.Bools.{either}
-use Rattle.lists.proofs.Counts.{count-append}
+use Rattle.lists.proofs.Counts.{count_append}
 use Rattle.listed_boxes.specs.Inner.Boxes.{SameWords}
 
 pub same_self : (w : List ℕ) → SameWords w w
 same_self w = record { size = refl; counts = λ k. refl }
 
-pub same-on : {w u v : List ℕ} → SameWords w u → SameWords u v → SameWords w v
-same-on a b = record { size = b.size ∙ a.size; counts = λ k. b.counts k ∙ a.counts k }
+pub same_on : {w u v : List ℕ} → SameWords w u → SameWords u v → SameWords w v
+same_on a b = record { size = b.size ∙ a.size; counts = λ k. b.counts k ∙ a.counts k }
 
 -- ---- two words change places
 
@@ -42,8 +42,8 @@ module _ (w : List ℕ) (i j : ℕ) (hi : i < length w) (hj : j < length w) wher
       (λ (t : eqb j i ≡ false). get_or-set_other w i j (get_or w j 0) 0 (eqb-false j i t))
       (either (eqb j i))
 
-  pub swap-same : SameWords w swapped
-  swap-same = record {
+  pub swap_same : SameWords w swapped
+  swap_same = record {
     size = length-set one j (get_or w i 0) ∙ length-set w i (get_or w j 0);
     counts = λ k.
         let a = count_set (eqb k) w i (get_or w j 0) hi in
@@ -65,7 +65,7 @@ move_start {w} = record { words = same_self w; most = omega arith; inside = omeg
 pub move_step : {w u : List ℕ} {kept m : ℕ} (next : ℕ) → next ≤ kept + 1 → Moving w u kept m → m < length u
     → Moving w (set (set u m (get_or u kept 0)) kept (get_or u m 0)) next (m + 1)
 move_step {w} {u} {kept} {m} next n k h = record {
-  words = same-on k.words (swap-same u m kept h (omega (arith, k.most)));
+  words = same_on k.words (swap_same u m kept h (omega (arith, k.most)));
   most = omega (arith, k.most);
   inside = omega (arith, k.words.size);
 }
@@ -76,10 +76,10 @@ module _ (o a : List ℕ) (m : ℕ) (h : m ≤ length o) (first : SameWords (tak
   pub parts_same : (b : List ℕ) → SameWords (take (length (a ++ drop m o) - m) (drop m (a ++ drop m o))) b
       → SameWords o (put_mid m (length (a ++ drop m o) - m) (a ++ drop m o) b)
   parts_same b second = record {
-    size = size-2 o a m h first.size b second.size;
+    size = size_2 o a m h first.size b second.size;
     counts = λ k.
-        let e = part-2 o a m h first.size in
+        let e = part_2 o a m h first.size in
         let c : count (eqb k) b ≡ count (eqb k) (drop m o) = second.counts k ∙ ap (count (eqb k)) e in
-        ap (count (eqb k)) (whole-2 o a m h first.size b) ∙ count-append (eqb k) a b ∙ rw (c, first.counts k)
-        (sym (count-append (eqb k) (take m o) (drop m o)) ∙ ap (count (eqb k)) (take-append-drop m o));
+        ap (count (eqb k)) (whole_2 o a m h first.size b) ∙ count_append (eqb k) a b ∙ rw (c, first.counts k)
+        (sym (count_append (eqb k) (take m o) (drop m o)) ∙ ap (count (eqb k)) (take-append-drop m o));
   }

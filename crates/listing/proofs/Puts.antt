@@ -11,11 +11,11 @@ use Rattle.words.proofs.Laws.{sets_then}
 use Rattle.listing.specs.Inner.Ready.{PutBytes}
 
 -- past the end nothing is put
-pub put-past : (b : ℕ) (l : List ℕ) (at : ℕ) → length l ≤ at → PutBytes (b ∷ []) l l at (at + 1)
-put-past b l at h = record { holds = sym (set_out l at b h); next = refl }
+pub put_past : (b : ℕ) (l : List ℕ) (at : ℕ) → length l ≤ at → PutBytes (b ∷ []) l l at (at + 1)
+put_past b l at h = record { holds = sym (set_out l at b h); next = refl }
 
-pub put-none : (l : List ℕ) (at : ℕ) → PutBytes [] l l at at
-put-none l at = record { holds = refl; next = sym (add-zero at) }
+pub put_none : (l : List ℕ) (at : ℕ) → PutBytes [] l l at at
+put_none l at = record { holds = refl; next = sym (add-zero at) }
 
 -- one after the other
 pub put_then : (xs ys l₀ l₁ l₂ : List ℕ) (at r₁ r₂ : ℕ) → PutBytes xs l₀ l₁ at r₁ → PutBytes ys l₁ l₂ r₁ r₂ → PutBytes (xs ++ ys) l₀ l₂ at r₂
@@ -29,9 +29,9 @@ put_then xs ys l₀ l₁ l₂ at r₁ r₂ p q =
     }
 
 -- ---- a text, byte by byte
-pub put-more : (t l₀ l₁ l₂ : List ℕ) (at i r₁ r₂ : ℕ) → i < length t → PutBytes (take i t) l₀ l₁ at r₁ → PutBytes (get_or t i 0 ∷ []) l₁ l₂ r₁ r₂
+pub put_more : (t l₀ l₁ l₂ : List ℕ) (at i r₁ r₂ : ℕ) → i < length t → PutBytes (take i t) l₀ l₁ at r₁ → PutBytes (get_or t i 0 ∷ []) l₁ l₂ r₁ r₂
     → PutBytes (take (i + 1) t) l₀ l₂ at r₂
-put-more t l₀ l₁ l₂ at i r₁ r₂ h p q =
+put_more t l₀ l₁ l₂ at i r₁ r₂ h p q =
     let e : take (i + 1) t ≡ take i t ++ (get_or t i 0 ∷ []) = ap (λ (n : ℕ). take n t) (add-one i) ∙ take-suc t i 0 h in
     subst (λ (xs : List ℕ). PutBytes xs l₀ l₂ at r₂) (sym e) (put_then (take i t) (get_or t i 0 ∷ []) l₀ l₁ l₂ at r₁ r₂ p q)
 

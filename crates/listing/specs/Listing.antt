@@ -14,49 +14,49 @@ unfoldable pub spelled : ℕ → ℕ → List ℕ
 spelled zero n = []
 spelled (suc fuel) n = let more = spelled fuel (n / 10) ++ ((48 + n % 10) ∷ []) in cond (ltb n 10) ((48 + n) ∷ []) more
 
-unfoldable pub digitsOf : ℕ → List ℕ
+unfoldable pub digits_of : ℕ → List ℕ
 unfolding spelled
-digitsOf n = spelled (suc n) n
+digits_of n = spelled (suc n) n
 
 -- a number and the byte that ends it: a comma is 44, a line feed 10
-unfoldable pub fieldText : ℕ → ℕ → List ℕ
-unfolding digitsOf
-fieldText n end = digitsOf n ++ (end ∷ [])
+unfoldable pub field_text : ℕ → ℕ → List ℕ
+unfolding digits_of
+field_text n end = digits_of n ++ (end ∷ [])
 
 -- the line of one face: its number and its three points'
-unfoldable pub faceLine : ℕ → ℕ → ℕ → ℕ → List ℕ
-unfolding fieldText
-faceLine i a b c = fieldText i 44 ++ fieldText a 44 ++ fieldText b 44 ++ fieldText c 10
+unfoldable pub face_line : ℕ → ℕ → ℕ → ℕ → List ℕ
+unfolding field_text
+face_line i a b c = field_text i 44 ++ field_text a 44 ++ field_text b 44 ++ field_text c 10
 
 -- the lines of n faces, the first of them number i; three entries of fs to a face
-unfoldable pub faceLines : List ℕ → ℕ → ℕ → List ℕ
-unfolding faceLine
-faceLines fs i zero = []
-faceLines fs i (suc n) = faceLine i (get_or fs (3 * i) 0) (get_or fs (3 * i + 1) 0) (get_or fs (3 * i + 2) 0)
-    ++ faceLines fs (i + 1) n
+unfoldable pub face_lines : List ℕ → ℕ → ℕ → List ℕ
+unfolding face_line
+face_lines fs i zero = []
+face_lines fs i (suc n) = face_line i (get_or fs (3 * i) 0) (get_or fs (3 * i + 1) 0) (get_or fs (3 * i + 2) 0)
+    ++ face_lines fs (i + 1) n
 
-unfoldable pub countsLine : ListingCounts → List ℕ
-unfolding fieldText
-countsLine c = fieldText c.points 44 ++ fieldText c.faces 44 ++ fieldText c.seeds 44 ++ fieldText c.looks 44
-    ++ fieldText c.pivots 10
+unfoldable pub counts_line : ListingCounts → List ℕ
+unfolding field_text
+counts_line c = field_text c.points 44 ++ field_text c.faces 44 ++ field_text c.seeds 44 ++ field_text c.looks 44
+    ++ field_text c.pivots 10
 
 -- the whole listing
 unfoldable pub listing : ListingCounts → List ℕ → List ℕ
-unfolding text countsLine faceLines
+unfolding text counts_line face_lines
 listing c fs =
-    text "points,faces,seeds,looks,pivots\n" ++ countsLine c ++ text "face,a,b,c\n" ++ faceLines fs 0 c.faces
+    text "points,faces,seeds,looks,pivots\n" ++ counts_line c ++ text "face,a,b,c\n" ++ face_lines fs 0 c.faces
 
 -- a refusal
-unfoldable pub refusalText : ℕ → ℕ → List ℕ
-unfolding text fieldText
-refusalText answer detail = text "refused," ++ fieldText answer 44 ++ fieldText detail 10
+unfoldable pub refusal_text : ℕ → ℕ → List ℕ
+unfolding text field_text
+refusal_text answer detail = text "refused," ++ field_text answer 44 ++ field_text detail 10
 
 -- ---- into a lent buffer: the whole text in front, or nothing where it does not fit; and how many bytes were written
 unfoldable pub filled : List ℕ → List ℕ → List ℕ
 filled t out = cond (leb (length t) (length out)) (t ++ drop (length t) out) out
 
-unfoldable pub writtenLength : List ℕ → List ℕ → ℕ
-writtenLength t out = cond (leb (length t) (length out)) (length t) 0
+unfoldable pub written_length : List ℕ → List ℕ → ℕ
+written_length t out = cond (leb (length t) (length out)) (length t) 0
 
 -- Where there are fewer faces than the counts say, there is nothing to list.
 unfoldable pub listed : ListingCounts → List ℕ → List ℕ

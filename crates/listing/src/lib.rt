@@ -6,7 +6,7 @@ mod put;
 mod rows;
 
 ghost use Rattle.std.specs.Prelude.{◌≡◌, ◌*◌, ◌≤◌, length};
-ghost use Rattle.listing.specs.Listing.{refusalText, listing, listed, filled, writtenLength};
+ghost use Rattle.listing.specs.Listing.{refusal_text, listing, listed, filled, written_length};
 ghost use Rattle.listing.specs.Inner.Ready.{PutBytes};
 
 use crate::put::{put_field, put_text};
@@ -36,7 +36,7 @@ fn put_listing(counts: ListingCounts, faces: &[u32], out: &mut [u8]) -> usize
 
 // The number of bytes written, 0 where the listing does not fit or there are fewer faces than counted.
 pub fn write_listing(counts: ListingCounts, faces: &[u32], out: &mut [u8]) -> usize
-    ensures { (result ≡ writtenLength (listed counts faces.now) out.old)
+    ensures { (result ≡ written_length (listed counts faces.now) out.old)
         × (out.new ≡ filled (listed counts faces.now) out.old) }
 {
     if faces.len() / 3 < counts.faces as usize {
@@ -51,7 +51,7 @@ pub fn write_listing(counts: ListingCounts, faces: &[u32], out: &mut [u8]) -> us
 }
 
 fn put_refusal(answer: u32, detail: usize, out: &mut [u8]) -> usize
-    ensures { PutBytes (refusalText answer detail) out.old out.new 0 result }
+    ensures { PutBytes (refusal_text answer detail) out.old out.new 0 result }
 {
     let a = put_text(out, 0, b"refused,");
     let b = put_field(out, a, answer as u64, b',');
@@ -60,8 +60,8 @@ fn put_refusal(answer: u32, detail: usize, out: &mut [u8]) -> usize
 
 // The number of bytes written, 0 where the line does not fit.
 pub fn write_refusal(answer: u32, detail: usize, out: &mut [u8]) -> usize
-    ensures { (result ≡ writtenLength (refusalText answer detail) out.old)
-        × (out.new ≡ filled (refusalText answer detail) out.old) }
+    ensures { (result ≡ written_length (refusal_text answer detail) out.old)
+        × (out.new ≡ filled (refusal_text answer detail) out.old) }
 {
     let mut scratch = [0u8; 1];
     let n = put_refusal(answer, detail, &mut scratch);

@@ -1,6 +1,6 @@
 // Bytes put at a place of a buffer, as far as it goes. Each function answers the place after what it put.
 ghost use Rattle.std.specs.Prelude.{◌+◌, ◌≤◌, ◌<◌, ◌^◌, ◌∷◌, []};
-ghost use Rattle.listing.specs.Listing.{digitsOf, fieldText};
+ghost use Rattle.listing.specs.Listing.{digits_of, field_text};
 ghost use Rattle.listing.specs.Inner.Ready.{PutBytes};
 
 fn put_byte(out: &mut [u8], at: usize, b: u8) -> usize
@@ -31,7 +31,7 @@ pub fn put_text(out: &mut [u8], at: usize, text: &[u8]) -> usize
 // A number in decimal.
 fn put_decimal(out: &mut [u8], at: usize, n: u64) -> usize
     requires { at < 2 ^ 62 }
-    ensures { PutBytes (digitsOf n) out.old out.new at result × (result ≤ at + 20) }
+    ensures { PutBytes (digits_of n) out.old out.new at result × (result ≤ at + 20) }
 {
     if n < 10 {
         return put_byte(out, at, 48 + n as u8);
@@ -43,7 +43,7 @@ fn put_decimal(out: &mut [u8], at: usize, n: u64) -> usize
 // A number and the byte that ends it.
 pub fn put_field(out: &mut [u8], at: usize, n: u64, end: u8) -> usize
     requires { at < 2 ^ 62 }
-    ensures { PutBytes (fieldText n end) out.old out.new at result × (result ≤ at + 21) }
+    ensures { PutBytes (field_text n end) out.old out.new at result × (result ≤ at + 21) }
 {
     let next = put_decimal(out, at, n);
     put_byte(out, next, end)

@@ -1,6 +1,6 @@
 // The lines of the listing.
 ghost use Rattle.std.specs.Prelude.{◌+◌, ◌*◌, ◌≤◌, ◌<◌, ◌^◌, length};
-ghost use Rattle.listing.specs.Listing.{countsLine, faceLine, faceLines};
+ghost use Rattle.listing.specs.Listing.{counts_line, face_line, face_lines};
 ghost use Rattle.listing.specs.Inner.Ready.{PutBytes};
 
 use crate::ListingCounts;
@@ -8,7 +8,7 @@ use crate::put::put_field;
 
 pub fn put_counts(out: &mut [u8], at: usize, counts: ListingCounts) -> usize
     requires { at < 2 ^ 61 }
-    ensures { PutBytes (countsLine counts) out.old out.new at result × (result ≤ at + 105) }
+    ensures { PutBytes (counts_line counts) out.old out.new at result × (result ≤ at + 105) }
 {
     let a = put_field(out, at, counts.points as u64, b',');
     let b = put_field(out, a, counts.faces as u64, b',');
@@ -19,7 +19,7 @@ pub fn put_counts(out: &mut [u8], at: usize, counts: ListingCounts) -> usize
 
 fn put_face(out: &mut [u8], at: usize, i: u32, a: u32, b: u32, c: u32) -> usize
     requires { at < 2 ^ 61 }
-    ensures { PutBytes (faceLine i a b c) out.old out.new at result × (result ≤ at + 84) }
+    ensures { PutBytes (face_line i a b c) out.old out.new at result × (result ≤ at + 84) }
 {
     let p = put_field(out, at, i as u64, b',');
     let q = put_field(out, p, a as u64, b',');
@@ -30,7 +30,7 @@ fn put_face(out: &mut [u8], at: usize, i: u32, a: u32, b: u32, c: u32) -> usize
 // The lines of the first n faces.
 pub fn put_faces(out: &mut [u8], at: usize, faces: &[u32], n: u32) -> usize
     requires { (at < 2 ^ 32) × (3 * n ≤ length faces.now) }
-    ensures { PutBytes (faceLines faces.now 0 n) out.old out.new at result }
+    ensures { PutBytes (face_lines faces.now 0 n) out.old out.new at result }
 {
     let mut i: u32 = 0;
     let mut next = at;

@@ -1,10 +1,10 @@
 // A test by squares that a triangle's edges are too long for a radius: the edge ratio times the root of the area,
 // before any root is taken.
 ghost use Rattle.std.specs.Prelude.{◌≡◌, true};
-ghost use Rattle.long_edges.specs.Inner.LongEdges.{edgeBetween, isPlainTriple, isBeyond, LongLimit, Long};
+ghost use Rattle.long_edges.specs.Inner.LongEdges.{edge_between, is_plain_triple, is_beyond, LongLimit, Long};
 
 fn is_between(x: f32, lo: f32, hi: f32) -> bool
-    ensures { result ≡ edgeBetween x lo hi }
+    ensures { result ≡ edge_between x lo hi }
 {
     lo <= x && x <= hi
 }
@@ -22,7 +22,7 @@ pub fn long_limit(edge: f32) -> f32
 
 // Whether nothing over- or underflows with these squares.
 fn is_plain(a: f32, b: f32, c: f32) -> bool
-    ensures { result ≡ isPlainTriple a b c }
+    ensures { result ≡ is_plain_triple a b c }
 {
     is_between(a, 0.00000000000090949470, 67108864.0)
         && (is_between(b, 0.00000000000090949470, 67108864.0)
@@ -31,7 +31,7 @@ fn is_plain(a: f32, b: f32, c: f32) -> bool
 
 // Whether a limit is passed by the squares of the shortest edge, of the longest one and of twice the area.
 fn is_beyond(short: f32, long: f32, cross: f32, limit: f32) -> bool
-    ensures { result ≡ isBeyond short long cross limit }
+    ensures { result ≡ is_beyond short long cross limit }
 {
     is_between(long, 0.000000014901161, 67108864.0)
         && (is_between(cross, 0.00000000000000000086736174, 1152921504606846976.0)

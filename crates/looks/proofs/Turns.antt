@@ -10,9 +10,9 @@ use lib.Seq.{sets, set-get_or, get_or-set_other}
 use Rattle.patch.specs.Lay.{Face, points_of}
 use Rattle.patch.specs.View.{flat}
 use Rattle.words.proofs.Laws.{sets_then}
-use Rattle.origins.specs.Sides.{looksIn}
-use Rattle.origins.specs.Turned.{turnedFace, turnedFrom}
-use Rattle.tracing.specs.Inner.Read.{faceOf, facesFrom}
+use Rattle.origins.specs.Sides.{looks_in}
+use Rattle.origins.specs.Turned.{turned_face, turned_from}
+use Rattle.tracing.specs.Inner.Read.{face_of, faces_from}
 use Rattle.looks.specs.Inner.Looks.{parent_in, side_of, HasSides}
 
 -- what is put in front leaves what comes behind
@@ -20,35 +20,35 @@ behind : (vs l : List ℕ) (i j : ℕ) → i + length vs ≤ j → get_or (sets 
 behind [] l i j h = refl
 behind (v ∷ vs) l i j h = behind vs (set l i v) (suc i) j (omega arith) ∙ get_or-set_other l i j v 0 (λ q. omega arith)
 
-flat-cons : (f : Face) (fs : List Face) → flat (f ∷ fs) ≡ points_of f ++ flat fs
+flat_cons : (f : Face) (fs : List Face) → flat (f ∷ fs) ≡ points_of f ++ flat fs
 unfolding flat
-flat-cons f fs = refl
+flat_cons f fs = refl
 
 -- k faces are turned
 pub record Turning (parent : ℕ → ℕ) (before : List ℕ) (n : ℕ) (now : List ℕ) (k : ℕ) : Type 0 where
   pub done : List ℕ
   pub long : length done ≡ 3 * k
   pub put : now ≡ sets before 0 done
-  pub leads : done ++ flat (turnedFrom parent k (facesFrom before k (n - k))) ≡ flat (turnedFrom parent 0 (facesFrom before 0 n))
+  pub leads : done ++ flat (turned_from parent k (faces_from before k (n - k))) ≡ flat (turned_from parent 0 (faces_from before 0 n))
 
-pub turning-start : (parent : ℕ → ℕ) (before : List ℕ) (n : ℕ) → Turning parent before n before 0
-turning-start parent before n =
+pub turning_start : (parent : ℕ → ℕ) (before : List ℕ) (n : ℕ) → Turning parent before n before 0
+turning_start parent before n =
     let all : n - 0 ≡ n = omega arith in
-    record { done = []; long = refl; put = refl; leads = ap (λ (m : ℕ). flat (turnedFrom parent 0 (facesFrom before 0 m))) all }
+    record { done = []; long = refl; put = refl; leads = ap (λ (m : ℕ). flat (turned_from parent 0 (faces_from before 0 m))) all }
 
 module _ (parent : ℕ → ℕ) (before : List ℕ) (n : ℕ) where
-  left-next : (k m : ℕ) → flat (turnedFrom parent k (facesFrom before k (suc m)))
-      ≡ points_of (turnedFace (looksIn parent k) (faceOf before k)) ++ flat (turnedFrom parent (k + 1) (facesFrom before (k + 1) m))
-  unfolding turnedFrom facesFrom
-  left-next k m =
-      flat-cons (turnedFace (looksIn parent k) (faceOf before k)) (turnedFrom parent (suc k) (facesFrom before (k + 1) m))
-      ∙ ap (λ (j : ℕ). points_of (turnedFace (looksIn parent k) (faceOf before k)) ++ flat (turnedFrom parent j (facesFrom before (k + 1) m))) (sym (add-one k))
+  left_next : (k m : ℕ) → flat (turned_from parent k (faces_from before k (suc m)))
+      ≡ points_of (turned_face (looks_in parent k) (face_of before k)) ++ flat (turned_from parent (k + 1) (faces_from before (k + 1) m))
+  unfolding turned_from faces_from
+  left_next k m =
+      flat_cons (turned_face (looks_in parent k) (face_of before k)) (turned_from parent (suc k) (faces_from before (k + 1) m))
+      ∙ ap (λ (j : ℕ). points_of (turned_face (looks_in parent k) (face_of before k)) ++ flat (turned_from parent j (faces_from before (k + 1) m))) (sym (add-one k))
 
   -- one face more: its three numbers are put at their place
-  step : (now now₁ : List ℕ) (k : ℕ) → k < n → now₁ ≡ sets now (3 * k) (points_of (turnedFace (looksIn parent k) (faceOf before k)))
+  step : (now now₁ : List ℕ) (k : ℕ) → k < n → now₁ ≡ sets now (3 * k) (points_of (turned_face (looks_in parent k) (face_of before k)))
       → Turning parent before n now k → Turning parent before n now₁ (k + 1)
   step now now₁ k h e t =
-      let f = turnedFace (looksIn parent k) (faceOf before k) in
+      let f = turned_face (looks_in parent k) (face_of before k) in
       let at : 3 * k ≡ 0 + length t.done = omega (arith, t.long) in
       let more : n - k ≡ suc (n - (k + 1)) = omega arith in
       record {
@@ -56,8 +56,8 @@ module _ (parent : ℕ → ℕ) (before : List ℕ) (n : ℕ) where
         long = length-append t.done (points_of f) ∙ omega (arith, t.long);
         put = sets_then t.done (points_of f) before now now₁ 0 (3 * k) t.put at e;
         leads =
-            append_assoc t.done (points_of f) (flat (turnedFrom parent (k + 1) (facesFrom before (k + 1) (n - (k + 1)))))
-            ∙ ap (λ (l : List ℕ). t.done ++ l) (sym (left-next k (n - (k + 1))) ∙ ap (λ (m : ℕ). flat (turnedFrom parent k (facesFrom before k m))) (sym more))
+            append_assoc t.done (points_of f) (flat (turned_from parent (k + 1) (faces_from before (k + 1) (n - (k + 1)))))
+            ∙ ap (λ (l : List ℕ). t.done ++ l) (sym (left_next k (n - (k + 1))) ∙ ap (λ (m : ℕ). flat (turned_from parent k (faces_from before k m))) (sym more))
             ∙ t.leads;
       }
 
@@ -66,16 +66,16 @@ module _ (parent : ℕ → ℕ) (before : List ℕ) (n : ℕ) where
     same_at : (j : ℕ) → 3 * k ≤ j → get_or now j 0 ≡ get_or before j 0
     same_at j h = ap (λ (l : List ℕ). get_or l j 0) t.put ∙ behind t.done before 0 j (omega (arith, t.long))
 
-    pub turning-in : (now₁ : List ℕ) → k < n → looksIn parent k ≡ true
+    pub turning_in : (now₁ : List ℕ) → k < n → looks_in parent k ≡ true
         → now₁ ≡ set (set now (3 * k) (get_or now (3 * k + 1) 0)) (3 * k + 1) (get_or now (3 * k) 0) → Turning parent before n now₁ (k + 1)
-    turning-in now₁ h inward e = step now now₁ k h
+    turning_in now₁ h inward e = step now now₁ k h
         (e
         ∙ (let x = get_or now (3 * k + 1) 0 in let y = get_or now (3 * k) 0 in
         sym (third now (3 * k) x y)
         ∙ ap (λ (v : ℕ). sets now (3 * k) (v ∷ y ∷ get_or now (3 * k + 2) 0 ∷ [])) (same_at (3 * k + 1) (omega arith))
         ∙ ap (λ (v : ℕ). sets now (3 * k) (get_or before (3 * k + 1) 0 ∷ v ∷ get_or now (3 * k + 2) 0 ∷ [])) (same_at (3 * k) (omega arith))
         ∙ ap (λ (v : ℕ). sets now (3 * k) (get_or before (3 * k + 1) 0 ∷ get_or before (3 * k) 0 ∷ v ∷ [])) (same_at (3 * k + 2) (omega arith))
-        ∙ ap (λ (b : Bool). sets now (3 * k) (points_of (turnedFace b (faceOf before k)))) (sym inward)))
+        ∙ ap (λ (b : Bool). sets now (3 * k) (points_of (turned_face b (face_of before k)))) (sym inward)))
         t
       where
         third : (l : List ℕ) (i x y : ℕ) → sets l i (x ∷ y ∷ get_or l (i + 2) 0 ∷ []) ≡ set (set l i x) (i + 1) y
@@ -88,9 +88,9 @@ module _ (parent : ℕ → ℕ) (before : List ℕ) (n : ℕ) where
             ∙ ap (set m (suc (suc i))) same ∙ set-get_or m (suc (suc i)) 0
             ∙ ap (λ (j : ℕ). set (set l i x) j y) (sym (add-one i))
 
-    pub turning-out : k < n → looksIn parent k ≡ false → Turning parent before n now (k + 1)
-    turning-out h outward = step now now k h
-        (sym (ap (λ (b : Bool). sets now (3 * k) (points_of (turnedFace b (faceOf before k)))) outward
+    pub turning_out : k < n → looks_in parent k ≡ false → Turning parent before n now (k + 1)
+    turning_out h outward = step now now k h
+        (sym (ap (λ (b : Bool). sets now (3 * k) (points_of (turned_face b (face_of before k)))) outward
         ∙ ap (λ (v : ℕ). sets now (3 * k) (v ∷ get_or before (3 * k + 1) 0 ∷ get_or before (3 * k + 2) 0 ∷ [])) (sym (same_at (3 * k) (omega arith)))
         ∙ ap (λ (v : ℕ). sets now (3 * k) (get_or now (3 * k) 0 ∷ v ∷ get_or before (3 * k + 2) 0 ∷ [])) (sym (same_at (3 * k + 1) (omega arith)))
         ∙ ap (λ (v : ℕ). sets now (3 * k) (get_or now (3 * k) 0 ∷ get_or now (3 * k + 1) 0 ∷ v ∷ [])) (sym (same_at (3 * k + 2) (omega arith)))
@@ -102,33 +102,33 @@ module _ (parent : ℕ → ℕ) (before : List ℕ) (n : ℕ) where
             let two : i + 2 ≡ suc (suc i) = omega arith in
             rw (two, add-one i, set-get_or l i 0, set-get_or l (suc i) 0, set-get_or l (suc (suc i)) 0)
 
-  none_left : (k m : ℕ) → m ≡ 0 → flat (turnedFrom parent k (facesFrom before k m)) ≡ []
-  unfolding flat turnedFrom facesFrom
+  none_left : (k m : ℕ) → m ≡ 0 → flat (turned_from parent k (faces_from before k m)) ≡ []
+  unfolding flat turned_from faces_from
   none_left k zero e = refl
   none_left k (suc m) e = absurd (omega arith)
 
-  pub turning-end : (now : List ℕ) (k : ℕ) → n ≤ k → Turning parent before n now k → now ≡ sets before 0 (flat (turnedFrom parent 0 (facesFrom before 0 n)))
-  turning-end now k h t =
+  pub turning_end : (now : List ℕ) (k : ℕ) → n ≤ k → Turning parent before n now k → now ≡ sets before 0 (flat (turned_from parent 0 (faces_from before 0 n)))
+  turning_end now k h t =
       t.put
       ∙ ap (sets before 0) (sym (append-nil t.done) ∙ ap (λ (l : List ℕ). t.done ++ l) (sym (none_left k (n - k) (omega arith))) ∙ t.leads)
 
 -- ---- by the sides that are told
-inward-of : (b : Bool) (x : ℕ) → x ≡ cond b 1 0 → (x ≡ 0 → ⊥) → b ≡ true
-inward-of true x e h = refl
-inward-of false x e h = absurd (h e)
+inward_of : (b : Bool) (x : ℕ) → x ≡ cond b 1 0 → (x ≡ 0 → ⊥) → b ≡ true
+inward_of true x e h = refl
+inward_of false x e h = absurd (h e)
 
-outward-of : (b : Bool) (x : ℕ) → x ≡ cond b 1 0 → x ≡ 0 → b ≡ false
-outward-of true x e h = absurd (omega arith)
-outward-of false x e h = refl
+outward_of : (b : Bool) (x : ℕ) → x ≡ cond b 1 0 → x ≡ 0 → b ≡ false
+outward_of true x e h = absurd (omega arith)
+outward_of false x e h = refl
 
 module _ (origins sides before : List ℕ) (n : ℕ) (known : HasSides origins sides n) (now : List ℕ) (k : ℕ) (h : k < n)
     (t : Turning (parent_in origins) before n now k) where
   pub told_in : (now₁ : List ℕ) → (get_or sides k 0 ≡ 0 → ⊥)
       → now₁ ≡ set (set now (3 * k) (get_or now (3 * k + 1) 0)) (3 * k + 1) (get_or now (3 * k) 0) → Turning (parent_in origins) before n now₁ (k + 1)
   unfolding side_of
-  told_in now₁ some e = turning-in (parent_in origins) before n now k t now₁ h
-      (inward-of (looksIn (parent_in origins) k) (get_or sides k 0) (known.right k h) some) e
+  told_in now₁ some e = turning_in (parent_in origins) before n now k t now₁ h
+      (inward_of (looks_in (parent_in origins) k) (get_or sides k 0) (known.right k h) some) e
 
-  pub told-out : get_or sides k 0 ≡ 0 → Turning (parent_in origins) before n now (k + 1)
+  pub told_out : get_or sides k 0 ≡ 0 → Turning (parent_in origins) before n now (k + 1)
   unfolding side_of
-  told-out none = turning-out (parent_in origins) before n now k t h (outward-of (looksIn (parent_in origins) k) (get_or sides k 0) (known.right k h) none)
+  told_out none = turning_out (parent_in origins) before n now k t h (outward_of (looks_in (parent_in origins) k) (get_or sides k 0) (known.right k h) none)

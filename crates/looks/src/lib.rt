@@ -3,9 +3,9 @@
 ghost use Rattle.std.specs.Prelude.{◌≡◌, cond, List, eqb, ℕ, ◌+◌, ◌*◌, ◌≤◌, ◌<◌, length, get_or, set};
 ghost use Rattle.std.proofs.lemmas.List.Edits.{sets};
 ghost use Rattle.patch.specs.View.{flat};
-ghost use Rattle.origins.specs.Sides.{looksOut, looksIn};
-ghost use Rattle.tracing.specs.Inner.Read.{facesFrom};
-ghost use Rattle.origins.specs.Turned.{turnedFrom};
+ghost use Rattle.origins.specs.Sides.{looks_out, looks_in};
+ghost use Rattle.tracing.specs.Inner.Read.{faces_from};
+ghost use Rattle.origins.specs.Turned.{turned_from};
 ghost use Rattle.looks.specs.Inner.Looks.{parent_in, HasSides, SidesWritten};
 
 // The parent's number, or the face's own where there is none.
@@ -30,7 +30,7 @@ fn wide(x: u32) -> usize
 #[cycle(looks_in_looks_out)]
 fn looks_out(origins: &[u32], sides: &[u32], known: usize, face: usize) -> bool
     requires { HasSides origins.now sides.now known }
-    ensures { result ≡ looksOut (parent_in origins.now) face }
+    ensures { result ≡ looks_out (parent_in origins.now) face }
 {
     if face < known {
         return is_out(sides, face);
@@ -46,7 +46,7 @@ fn looks_out(origins: &[u32], sides: &[u32], known: usize, face: usize) -> bool
 #[cycle(looks_in_looks_out)]
 fn looks_in(origins: &[u32], sides: &[u32], known: usize, face: usize) -> bool
     requires { HasSides origins.now sides.now known }
-    ensures { result ≡ looksIn (parent_in origins.now) face }
+    ensures { result ≡ looks_in (parent_in origins.now) face }
 {
     if face < known {
         return !is_out(sides, face);
@@ -103,7 +103,7 @@ fn turn_told(sides: &[u32], faces: &mut [u32], n: usize)
     requires { (n ≤ length sides.now) × (3 * n ≤ length faces.old) }
     ensures { (origins : List ℕ) → HasSides origins sides.now n
         → faces.new ≡ sets faces.old 0
-        (flat (turnedFrom (parent_in origins) 0 (facesFrom faces.old 0 n))) }
+        (flat (turned_from (parent_in origins) 0 (faces_from faces.old 0 n))) }
 {
     let mut k: usize = 0;
     while k < n {
@@ -120,7 +120,7 @@ fn turn_told(sides: &[u32], faces: &mut [u32], n: usize)
 pub fn turn(origins: &[u32], sides: &mut [u32], faces: &mut [u32], n: usize)
     requires { (n ≤ length sides.old) × (3 * n ≤ length faces.old) }
     ensures { faces.new ≡ sets faces.old 0
-        (flat (turnedFrom (parent_in origins.now) 0 (facesFrom faces.old 0 n))) }
+        (flat (turned_from (parent_in origins.now) 0 (faces_from faces.old 0 n))) }
 {
     tell_sides(origins, sides, n);
     turn_told(sides, faces, n);

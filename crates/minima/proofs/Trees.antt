@@ -16,19 +16,19 @@ use Rattle.minima.specs.Inner.Minima.{Node, Nodes, leaf, Renewed, Planted}
 abbrev pub AllBut : ℕ → ℕ → ℕ → List ℕ → Type 0
 AllBut base count b w = (k : ℕ) → 1 ≤ k → k < count → k ≢ b → Node base w k
 
-node-same : (base : ℕ) (v w : List ℕ) (k : ℕ) → get_or v (base + k) 0 ≡ get_or w (base + k) 0 → get_or v (base + 2 * k) 0 ≡ get_or w (base + 2 * k) 0
+node_same : (base : ℕ) (v w : List ℕ) (k : ℕ) → get_or v (base + k) 0 ≡ get_or w (base + k) 0 → get_or v (base + 2 * k) 0 ≡ get_or w (base + 2 * k) 0
     → get_or v (base + 2 * k + 1) 0 ≡ get_or w (base + 2 * k + 1) 0 → Node base w k → Node base v k
-node-same base v w k a b c h = a ∙ h ∙ ap₂ min (sym b) (sym c)
+node_same base v w k a b c h = a ∙ h ∙ ap₂ min (sym b) (sym c)
 
 -- words outside the tree don't matter
-pub nodes-same : (base count : ℕ) (v w : List ℕ) → ((k : ℕ) → base ≤ k → get_or v k 0 ≡ get_or w k 0) → Nodes base count w → Nodes base count v
-nodes-same base count v w same h k l m =
-    node-same base v w k (same (base + k) (omega arith)) (same (base + 2 * k) (omega arith)) (same (base + 2 * k + 1) (omega arith)) (h k l m)
+pub nodes_same : (base count : ℕ) (v w : List ℕ) → ((k : ℕ) → base ≤ k → get_or v k 0 ≡ get_or w k 0) → Nodes base count w → Nodes base count v
+nodes_same base count v w same h k l m =
+    node_same base v w k (same (base + k) (omega arith)) (same (base + 2 * k) (omega arith)) (same (base + 2 * k + 1) (omega arith)) (h k l m)
 
 -- the least of the two below stored at node b
-self-stored : (base : ℕ) (w : List ℕ) (b v : ℕ) → 1 ≤ b → base + b < length w → v ≡ min (get_or w (base + 2 * b) 0) (get_or w (base + 2 * b + 1) 0)
+self_stored : (base : ℕ) (w : List ℕ) (b v : ℕ) → 1 ≤ b → base + b < length w → v ≡ min (get_or w (base + 2 * b) 0) (get_or w (base + 2 * b + 1) 0)
     → Node base (set w (base + b) v) b
-self-stored base w b v l room is =
+self_stored base w b v l room is =
     get_or-set_same w (base + b) v 0 room
     ∙ is
     ∙ ap₂ min
@@ -38,37 +38,37 @@ self-stored base w b v l room is =
 module _ (base count : ℕ) (w : List ℕ) where
   -- a store at node b leaves every node but the one over it, and b itself, as it was
   elsewhere : (b v k : ℕ) → 1 ≤ k → k ≢ b → 2 * k ≢ b → 2 * k + 1 ≢ b → Node base w k → Node base (set w (base + b) v) k
-  elsewhere b v k l a p q h = node-same base (set w (base + b) v) w k
+  elsewhere b v k l a p q h = node_same base (set w (base + b) v) w k
       (get_or-set_other w (base + b) (base + k) v 0 (λ (e : base + k ≡ base + b). a (omega arith)))
       (get_or-set_other w (base + b) (base + 2 * k) v 0 (λ (e : base + 2 * k ≡ base + b). p (omega arith)))
       (get_or-set_other w (base + b) (base + 2 * k + 1) v 0 (λ (e : base + 2 * k + 1 ≡ base + b). q (omega arith)))
       h
 
   -- a store at a leaf: only the node over it may be wrong then
-  pub leaf-stored : (e v : ℕ) → Nodes base count w → AllBut base count ((count + e) / 2) (set w (base + count + e) v)
-  leaf-stored e v h k l b ne =
+  pub leaf_stored : (e v : ℕ) → Nodes base count w → AllBut base count ((count + e) / 2) (set w (base + count + e) v)
+  leaf_stored e v h k l b ne =
       let same : base + (count + e) ≡ base + count + e = omega arith in
       rw (← same) (elsewhere (count + e) v k l (λ (q : k ≡ count + e). omega arith) (λ (q : 2 * k ≡ count + e). ne (omega arith))
       (λ (q : 2 * k + 1 ≡ count + e). ne (omega arith)) (h k l b))
 
   -- the least of the two below stored at a node: only the node over it may be wrong then
-  pub node-stored : (b v : ℕ) → 1 ≤ b → b < count → base + 2 * count ≤ length w → v ≡ min (get_or w (base + 2 * b) 0) (get_or w (base + 2 * b + 1) 0)
+  pub node_stored : (b v : ℕ) → 1 ≤ b → b < count → base + 2 * count ≤ length w → v ≡ min (get_or w (base + 2 * b) 0) (get_or w (base + 2 * b + 1) 0)
       → AllBut base count b w → AllBut base count (b / 2) (set w (base + b) v)
-  node-stored b v l m room is h k kl km ne = ⊎_elim
+  node_stored b v l m room is h k kl km ne = ⊎_elim
       (λ (t : eqb k b ≡ true).
-      rw (eqb-true k b t) (self-stored base w b v l (omega arith) is))
+      rw (eqb-true k b t) (self_stored base w b v l (omega arith) is))
       (λ (t : eqb k b ≡ false).
       let a = eqb-false k b t in
       elsewhere b v k kl a (λ (q : 2 * k ≡ b). ne (omega arith)) (λ (q : 2 * k + 1 ≡ b). ne (omega arith)) (h k kl km a))
       (either (eqb k b))
 
   -- the root is the least of all
-  least-up : Nodes base count w → (m k : ℕ) → k ≤ m → 1 ≤ k → k < 2 * count → get_or w (base + 1) 0 ≤ get_or w (base + k) 0
-  least-up h zero k b l t = absurd (omega arith)
-  least-up h (suc m) k b l t = ⊎_elim
+  least_up : Nodes base count w → (m k : ℕ) → k ≤ m → 1 ≤ k → k < 2 * count → get_or w (base + 1) 0 ≤ get_or w (base + k) 0
+  least_up h zero k b l t = absurd (omega arith)
+  least_up h (suc m) k b l t = ⊎_elim
       (λ (one : ltb 1 k ≡ true).
       let o = ltb-true 1 k one in
-      let up = least-up h m (k / 2) (omega arith) (omega arith) (omega arith) in
+      let up = least_up h m (k / 2) (omega arith) (omega arith) (omega arith) in
       let node = h (k / 2) (omega arith) (omega arith) in
       ⊎_elim
       (λ (e : eqb (2 * (k / 2)) k ≡ true).
@@ -86,10 +86,10 @@ module _ (base count : ℕ) (w : List ℕ) where
       rw q (omega arith))
       (either (ltb 1 k))
 
-  pub root-least : Nodes base count w → (g : ℕ) → g < count → get_or w (base + 1) 0 ≤ leaf base count w g
-  root-least h g b =
+  pub root_least : Nodes base count w → (g : ℕ) → g < count → get_or w (base + 1) 0 ≤ leaf base count w g
+  root_least h g b =
       let same : base + (count + g) ≡ base + count + g = omega arith in
-      rw (← same) (least-up h (count + g) (count + g) (omega arith) (omega arith) (omega arith))
+      rw (← same) (least_up h (count + g) (count + g) (omega arith) (omega arith) (omega arith))
 
   -- and some element's
   pub record Leaf (v : ℕ) : Type 0 where
@@ -97,14 +97,14 @@ module _ (base count : ℕ) (w : List ℕ) where
     pub below : element < count
     pub is : v ≡ leaf base count w element
 
-  some-leaf : Nodes base count w → (m k : ℕ) → 2 * count ≤ k + m → 1 ≤ k → k < 2 * count → Leaf (get_or w (base + k) 0)
-  some-leaf h zero k b l t = absurd (omega arith)
-  some-leaf h (suc m) k b l t = ⊎_elim
+  some_leaf : Nodes base count w → (m k : ℕ) → 2 * count ≤ k + m → 1 ≤ k → k < 2 * count → Leaf (get_or w (base + k) 0)
+  some_leaf h zero k b l t = absurd (omega arith)
+  some_leaf h (suc m) k b l t = ⊎_elim
       (λ (in_tree : ltb k count ≡ true).
       let u = ltb-true k count in_tree in
       let node = h k l u in
-      let left = some-leaf h m (2 * k) (omega arith) (omega arith) (omega arith) in
-      let right = some-leaf h m (2 * k + 1) (omega arith) (omega arith) (omega arith) in
+      let left = some_leaf h m (2 * k) (omega arith) (omega arith) (omega arith) in
+      let right = some_leaf h m (2 * k + 1) (omega arith) (omega arith) (omega arith) in
       let flat : base + (2 * k + 1) ≡ base + 2 * k + 1 = omega arith in
       let right_is : get_or w (base + (2 * k + 1)) 0 ≡ get_or w (base + 2 * k + 1) 0 = ap (λ (j : ℕ). get_or w j 0) flat in
       ⊎_elim
@@ -122,8 +122,8 @@ module _ (base count : ℕ) (w : List ℕ) where
       record { element = flat; below = omega arith; is = ap (λ (j : ℕ). get_or w j 0) (sym same) })
       (either (ltb k count))
 
-  pub root-leaf : Nodes base count w → 1 ≤ count → Leaf (get_or w (base + 1) 0)
-  root-leaf h l = some-leaf h (2 * count) 1 (omega arith) (omega arith) (omega arith)
+  pub root_leaf : Nodes base count w → 1 ≤ count → Leaf (get_or w (base + 1) 0)
+  root_leaf h l = some_leaf h (2 * count) 1 (omega arith) (omega arith) (omega arith)
 
 -- ---- the loops
 pub flat : (base count e : ℕ) (w : List ℕ) → get_or w (base + count + e) 0 ≡ get_or w (base + (count + e)) 0
@@ -159,14 +159,14 @@ InnerOnly base count v w = (j : ℕ) → (j < base) ⊎ (base + count ≤ j) →
 apart : (base count b j : ℕ) → b < count → (j < base) ⊎ (base + count ≤ j) → j ≢ base + b
 apart base count b j m s = ⊎_elim (λ (l : j < base) (e : j ≡ base + b). omega arith) (λ (l : base + count ≤ j) (e : j ≡ base + b). omega arith) s
 
-pub inner-stored : (base count : ℕ) (v w : List ℕ) (b x : ℕ) → b < count → InnerOnly base count v w → InnerOnly base count v (set w (base + b) x)
-inner-stored base count v w b x m h j s = get_or-set_other w (base + b) j x 0 (apart base count b j m s) ∙ h j s
+pub inner_stored : (base count : ℕ) (v w : List ℕ) (b x : ℕ) → b < count → InnerOnly base count v w → InnerOnly base count v (set w (base + b) x)
+inner_stored base count v w b x m h j s = get_or-set_other w (base + b) j x 0 (apart base count b j m s) ∙ h j s
 
-pub renewed-all : (base count e v : ℕ) (w u : List ℕ) → e < count → base + 2 * count ≤ length w
+pub renewed_all : (base count e v : ℕ) (w u : List ℕ) → e < count → base + 2 * count ≤ length w
     → (AllBut base count ((count + e) / 2) (set w (base + count + e) v) → AllBut base count 0 u) → InnerOnly base count (set w (base + count + e) v) u
     → Renewed base count e v w u
-renewed-all base count e v w u b room nodes only = record {
-  nodes = λ h k l m. nodes (leaf-stored base count w e v h) k l m (λ (q : k ≡ 0). omega arith);
+renewed_all base count e v w u b room nodes only = record {
+  nodes = λ h k l m. nodes (leaf_stored base count w e v h) k l m (λ (q : k ≡ 0). omega arith);
   renewed = only (base + count + e) (inr (omega arith)) ∙ get_or-set_same w (base + count + e) v 0 (omega arith);
   others = λ g l ne. only (base + count + g) (inr (omega arith)) ∙ get_or-set_other w (base + count + e) (base + count + g) v 0
       (λ (q : base + count + g ≡ base + count + e). ne (omega arith));
@@ -185,8 +185,8 @@ abbrev pub LeavesOnly : ℕ → ℕ → List ℕ → List ℕ → Type 0
 LeavesOnly base count v w = (k : ℕ) → (k < base + count) ⊎ (base + 2 * count ≤ k) → get_or w k 0 ≡ get_or v k 0
 
 module _ (base count g : ℕ) (w : List ℕ) (b : g < count) (room : base + 2 * count ≤ length w) where
-  pub leaves-stored : Leaves base count g w → Leaves base count (g + 1) (set w (base + count + g) (count + g))
-  leaves-stored h j l = ⊎_elim
+  pub leaves_stored : Leaves base count g w → Leaves base count (g + 1) (set w (base + count + g) (count + g))
+  leaves_stored h j l = ⊎_elim
       (λ (t : eqb j g ≡ true). rw (eqb-true j g t) (get_or-set_same w (base + count + g) (count + g) 0 (omega arith)))
       (λ (t : eqb j g ≡ false).
       let ne = eqb-false j g t in
@@ -194,8 +194,8 @@ module _ (base count g : ℕ) (w : List ℕ) (b : g < count) (room : base + 2 * 
       get_or-set_other w (base + count + g) (base + count + j) (count + g) 0 (λ (q : base + count + j ≡ base + count + g). ne (omega arith)) ∙ h j less)
       (either (eqb j g))
 
-  pub leaves-only : (v : List ℕ) → LeavesOnly base count v w → LeavesOnly base count v (set w (base + count + g) (count + g))
-  leaves-only v h k s =
+  pub leaves_only : (v : List ℕ) → LeavesOnly base count v w → LeavesOnly base count v (set w (base + count + g) (count + g))
+  leaves_only v h k s =
       get_or-set_other w (base + count + g) k (count + g) 0
       (⊎_elim (λ (l : k < base + count) (e : k ≡ base + count + g). omega arith) (λ (l : base + 2 * count ≤ k) (e : k ≡ base + count + g). omega arith) s)
       ∙ h k s
@@ -204,10 +204,10 @@ module _ (base count g : ℕ) (w : List ℕ) (b : g < count) (room : base + 2 * 
 abbrev pub NodesFrom : ℕ → ℕ → ℕ → List ℕ → Type 0
 NodesFrom base count b w = (k : ℕ) → b ≤ k → 1 ≤ k → k < count → Node base w k
 
-pub nodes-stored : (base count b v : ℕ) (w : List ℕ) → 1 ≤ b → b < count → base + 2 * count ≤ length w → v
+pub nodes_stored : (base count b v : ℕ) (w : List ℕ) → 1 ≤ b → b < count → base + 2 * count ≤ length w → v
     ≡ min (get_or w (base + 2 * b) 0) (get_or w (base + 2 * b + 1) 0) → NodesFrom base count (b + 1) w → NodesFrom base count b (set w (base + b) v)
-nodes-stored base count b v w l m room is h k kb kl km = ⊎_elim
-    (λ (t : eqb k b ≡ true). rw (eqb-true k b t) (self-stored base w b v l (omega arith) is))
+nodes_stored base count b v w l m room is h k kb kl km = ⊎_elim
+    (λ (t : eqb k b ≡ true). rw (eqb-true k b t) (self_stored base w b v l (omega arith) is))
     (λ (t : eqb k b ≡ false).
     let a = eqb-false k b t in
     let more : b + 1 ≤ k = let n : k ≢ b = a in omega arith in

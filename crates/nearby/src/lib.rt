@@ -5,9 +5,9 @@ ghost use Rattle.grid.specs.Inner.Index.{Cells};
 ghost use Rattle.vector.specs.Inner.Numbers.{Finite};
 ghost use Rattle.spatial_hash.specs.Inner.Near.{Hashed};
 ghost use Rattle.lists.specs.Lists.{unused};
-ghost use Rattle.regions.specs.Inner.Regions.{wordsLength};
-ghost use Rattle.nearby.specs.Inner.Ready.{SceneHeld, NeighborsListed, usedInScene, nth};
-ghost use Rattle.nearby.specs.Inner.Narrow.{passesFilter, Filters, Collected, Narrowed};
+ghost use Rattle.regions.specs.Inner.Regions.{words_length};
+ghost use Rattle.nearby.specs.Inner.Ready.{SceneHeld, NeighborsListed, used_in_scene, nth};
+ghost use Rattle.nearby.specs.Inner.Narrow.{passes_filter, Filters, Collected, Narrowed};
 
 use decisions::Scene;
 use grid::Cell;
@@ -25,15 +25,15 @@ pub struct Filter {
 
 // Whether no face has point k yet.
 pub fn is_unused(s: Scene, w: &[u32], k: usize) -> bool
-    requires { (wordsLength s.n ≤ length w.now) × (s.n ≤ 4096) × (k < s.n) }
-    ensures { result ≡ unused (usedInScene s w.now) k }
+    requires { (words_length s.n ≤ length w.now) × (s.n ≤ 4096) × (k < s.n) }
+    ensures { result ≡ unused (used_in_scene s w.now) k }
 {
     w[regions::USED * s.n + k] == 0
 }
 
 // The m-th of the `count` points that are listed.
 pub fn listed_point(s: Scene, w: &[u32], count: usize, m: usize) -> usize
-    requires { (s.n ≤ 4096) × (wordsLength s.n ≤ length w.now) × NeighborsListed s w.now count
+    requires { (s.n ≤ 4096) × (words_length s.n ≤ length w.now) × NeighborsListed s w.now count
         × (m < count) }
     ensures { (result ≡ nth s w.now m) × (result < s.n) }
 {
@@ -43,7 +43,7 @@ pub fn listed_point(s: Scene, w: &[u32], count: usize, m: usize) -> usize
 // Whether point k is as the filter asks.
 fn passes(s: Scene, points: &[f32], w: &[u32], f: Filter, k: usize) -> bool
     requires { SceneHeld s points.now w.now × Cells s.grid points.now s.n w.now × (k < s.n) }
-    ensures { result ≡ passesFilter s points.now (usedInScene s w.now) f k }
+    ensures { result ≡ passes_filter s points.now (used_in_scene s w.now) f k }
 {
     if !is_unused(s, w, k) {
         return false;

@@ -8,14 +8,14 @@ use native.Mathlib.Omega.{arith}
 use borrow.Author.Tests.{ltb-true, ltb-false}
 use lib.Dec.{T, ltb}
 use lib.Ieee.{Float, binary32, lt, le, is_nan}
-use Rattle.numbers.proofs.OrderLaws.{lt-le, le_refl, le_trans, le_not_lt, not-lt-le, unsigned-number, le-antisymmetric}
+use Rattle.numbers.proofs.OrderLaws.{lt_le, le_refl, le_trans, le_not_lt, not_lt_le, unsigned_number_lem, le_antisymmetric}
 use Rattle.lists.specs.Members.{In}
-use Rattle.lists.proofs.Members.{in_head, in-cases}
+use Rattle.lists.proofs.Members.{in_head, in_cases}
 use Rattle.nearest.specs.Scan.{Near}
 use Rattle.nearest.specs.Parts.{closer, scanned, Length}
 
 abbrev number : {d : Float} → Length d → T (not (is_nan d))
-number {d} l = unsigned-number d l.sign
+number {d} l = unsigned_number_lem d l.sign
 
 -- r is not after z: not farther, and no higher number where it is no nearer
 pub record NotAfter (r z : Near) : Type 0 where
@@ -29,7 +29,7 @@ pub itself : (z : Near) → Length z.distance → NotAfter z z
 itself z l = record { near = le_refl z.distance (number l); low = λ _. omega arith }
 
 pub strictly : (r z : Near) → T (lt r.distance z.distance) → NotAfter r z
-strictly r z h = record { near = lt-le _ _ h; low = λ k. absurd (le_not_lt _ _ k h) }
+strictly r z h = record { near = lt_le _ _ h; low = λ k. absurd (le_not_lt _ _ k h) }
 
 chain : (r c z : Near) → NotAfter r c → NotAfter c z → NotAfter r z
 chain r c z a b = record {
@@ -40,7 +40,7 @@ chain r c z a b = record {
 
 same : (r z : Near) → Length r.distance → Length z.distance → NotAfter r z → NotAfter z r → r ≡ z
 same r z l k a b =
-    let d : r.distance ≡ z.distance = le-antisymmetric binary32 _ _ l.is-f32 k.is-f32 l.sign k.sign a.near b.near in
+    let d : r.distance ≡ z.distance = le_antisymmetric binary32 _ _ l.is_f32 k.is_f32 l.sign k.sign a.near b.near in
     let x : r.number ≤ z.number = a.low b.near in
     let y : z.number ≤ r.number = b.low a.near in
     let n : r.number ≡ z.number = omega arith in
@@ -52,8 +52,8 @@ record Step (best z c : Near) : Type 0 where
   first : NotAfter c best
   second : NotAfter c z
 
-true-T : (b : Bool) → b ≡ true → T b
-true-T b e = subst⁻¹ T e tt
+true_T : (b : Bool) → b ≡ true → T b
+true_T b e = subst⁻¹ T e tt
 
 not_T : (b : Bool) → b ≡ false → T (not b)
 not_T true e = absurd (let z : ◌≡◌ {A = ℕ} 0 1 = cc in omega arith)
@@ -64,23 +64,23 @@ module _ (best : Near) (d : Float) (n : ℕ) (lb : Length best.distance) (ld : L
       → Step best (at d n) (cond x (at d n) (cond y best (cond z (at d n) best)))
   cases true y z e f g = record {
     one_of = inr refl;
-    first = strictly (at d n) best (true-T _ e);
+    first = strictly (at d n) best (true_T _ e);
     second = itself (at d n) ld;
   }
   cases false true z e f g = record {
     one_of = inl refl;
     first = itself best lb;
-    second = strictly best (at d n) (true-T _ f);
+    second = strictly best (at d n) (true_T _ f);
   }
   cases false false true e f g = record {
     one_of = inr refl;
-    first = record { near = not-lt-le _ _ (number lb) (number ld) (not_T _ f); low = λ _. let h : n < best.number = ltb-true _ _ g in omega arith };
+    first = record { near = not_lt_le _ _ (number lb) (number ld) (not_T _ f); low = λ _. let h : n < best.number = ltb-true _ _ g in omega arith };
     second = itself (at d n) ld;
   }
   cases false false false e f g = record {
     one_of = inl refl;
     first = itself best lb;
-    second = record { near = not-lt-le _ _ (number ld) (number lb) (not_T _ e); low = λ _. ltb-false _ _ g };
+    second = record { near = not_lt_le _ _ (number ld) (number lb) (not_T _ e); low = λ _. ltb-false _ _ g };
   }
 
   step : Step best (at d n) (closer best d n)
@@ -94,8 +94,8 @@ pub record Found (key : ℕ → Float) (xs : List ℕ) (best r : Near) : Type 0 
   pub before : NotAfter r best
   pub least : (v : ℕ) → In v xs → NotAfter r (at (key v) v)
 
-first-in : (key : ℕ → Float) (x : ℕ) (xs : List ℕ) (r : Near) → r ≡ at (key x) x → In r.number (x ∷ xs) × (r ≡ at (key r.number) r.number)
-first-in key x xs r e =
+first_in : (key : ℕ → Float) (x : ℕ) (xs : List ℕ) (r : Near) → r ≡ at (key x) x → In r.number (x ∷ xs) × (r ≡ at (key r.number) r.number)
+first_in key x xs r e =
     let n : x ≡ r.number = sym (ap (λ (z : Near). z.number) e) in
     (subst (λ (k : ℕ). In k (x ∷ xs)) n (in_head x xs), e ∙ ap (λ (w : ℕ). at (key w) w) n)
 
@@ -122,15 +122,15 @@ found key (x ∷ xs) good best l =
     let r = scanned key xs c in
     record {
       size = f.size;
-      among = ⊎_elim (λ e. ⊎_elim (λ g. inl (e ∙ g)) (λ g. inr (first-in key x xs r (e ∙ g))) s.one_of) (λ g. inr (later x xs r.number g.0, g.1))
+      among = ⊎_elim (λ e. ⊎_elim (λ g. inl (e ∙ g)) (λ g. inr (first_in key x xs r (e ∙ g))) s.one_of) (λ g. inr (later x xs r.number g.0, g.1))
           f.among;
       before = chain r c best f.before s.first;
-      least = in-cases (λ (v : ℕ). NotAfter r (at (key v) v)) x xs (chain r c (at (key x) x) f.before s.second) f.least;
+      least = in_cases (λ (v : ℕ). NotAfter r (at (key v) v)) x xs (chain r c (at (key x) x) f.before s.second) f.least;
     }
 
 -- there is one such
-pub only-found : (key : ℕ → Float) (xs : List ℕ) (best r t : Near) → Found key xs best r → Found key xs best t → r ≡ t
-only-found key xs best r t a b = same r t a.size b.size (after key xs xs best r t a b (λ v i. i)) (after key xs xs best t r b a (λ v i. i))
+pub only_found : (key : ℕ → Float) (xs : List ℕ) (best r t : Near) → Found key xs best r → Found key xs best t → r ≡ t
+only_found key xs best r t a b = same r t a.size b.size (after key xs xs best r t a b (λ v i. i)) (after key xs xs best t r b a (λ v i. i))
 
 -- lists with the same elements give the same
 pub any_order : (key : ℕ → Float) (xs ys : List ℕ) → ((v : ℕ) → In v xs → Length (key v)) → (best : Near) → Length best.distance

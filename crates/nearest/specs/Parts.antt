@@ -27,22 +27,22 @@ NumbersOfPoints points xs = (v : ℕ) → In v xs → 3 * v + 2 < length points
 
 -- a length as `distance` gives it
 pub record Length (d : Float) : Type 0 where
-  pub is-f32 : T (fits binary32 d)
+  pub is_f32 : T (fits binary32 d)
   pub sign : T (unsigned d)
 
-abbrev pub nearOfBest : Best → Near
-nearOfBest best = record { distance = root best.square; number = best.number }
+abbrev pub near_of_best : Best → Near
+near_of_best best = record { distance = root best.square; number = best.number }
 
 -- the best one whose square and limit stand in two floats
-abbrev pub bestIn : List Float → ℕ → Best
-bestIn best number = record { square = get_or best 0 nan; number = number; limit = get_or best 1 nan }
+abbrev pub best_in : List Float → ℕ → Best
+best_in best number = record { square = get_or best 0 nan; number = number; limit = get_or best 1 nan }
 
 -- the square is an f32, and each square above the limit has a greater root
 pub record BestLimited (best : Best) : Type 0 where
-  pub is-f32 : T (fits binary32 best.square)
+  pub is_f32 : T (fits binary32 best.square)
   pub above : Limit (root best.square) best.limit
 
 -- what is kept stands for the one found, and its limit is one of its square
 pub record KeepsBest (best : Best) (found : Near) : Type 0 where
-  pub found-is : nearOfBest best ≡ found
+  pub found_is : near_of_best best ≡ found
   pub limited : BestLimited best

@@ -5,10 +5,10 @@ ghost use Rattle.std.specs.Float.Ieee.{fits};
 ghost use Rattle.numbers.specs.Root.{root};
 ghost use Rattle.bounds.specs.Inner.Within.{Limit};
 ghost use Rattle.vector.specs.Vector.{distance};
-ghost use Rattle.nearest.specs.Scan.{lengthTo};
-ghost use Rattle.nearest.specs.Parts.{closer, scanned, Length, nearOfBest, bestIn, NumbersOfPoints, BestLimited};
+ghost use Rattle.nearest.specs.Scan.{length_to};
+ghost use Rattle.nearest.specs.Parts.{closer, scanned, Length, near_of_best, best_in, NumbersOfPoints, BestLimited};
 ghost use Rattle.nearest.specs.Parts.{KeepsBest};
-ghost use Rattle.nearest.specs.Least.{greater, lesser, squareTo, nearerNumber, nextLeast, TwoLeast, AllFinite};
+ghost use Rattle.nearest.specs.Least.{greater, lesser, square_to, nearer_number, next_least, TwoLeast, AllFinite};
 
 use vector::Point3f;
 
@@ -64,7 +64,7 @@ pub fn limit_of(square: f32) -> f32
 // The nearer of two by their roots, the lower number on equality.
 fn settled(best: Best, other: Best) -> Best
     requires { BestLimited best × BestLimited other }
-    ensures { KeepsBest result (closer (nearOfBest best) (root other.square) other.number) }
+    ensures { KeepsBest result (closer (near_of_best best) (root other.square) other.number) }
 {
     let kept = numbers::sqrt(best.square);
     let distance = numbers::sqrt(other.square);
@@ -83,7 +83,7 @@ fn settled(best: Best, other: Best) -> Best
 // The nearer of the best so far and a point, the lower number on equality.
 fn closer(best: Best, p: Point3f, spot: Point3f, number: u32) -> Best
     requires { BestLimited best }
-    ensures { KeepsBest result (closer (nearOfBest best) (distance p spot) number) }
+    ensures { KeepsBest result (closer (near_of_best best) (distance p spot) number) }
 {
     let square = vector::distance_squared(p, spot);
     if best.limit < square {
@@ -106,7 +106,7 @@ fn scan(points: &[f32], spot: Point3f, order: &[u32], best: Best) -> Best
     requires best_limited { BestLimited best }
     requires numbers_of_points { NumbersOfPoints points.now order.now }
     ensures { KeepsBest result
-        (scanned (lengthTo points.now spot) order.now (nearOfBest best)) }
+        (scanned (length_to points.now spot) order.now (near_of_best best)) }
 {
     let mut found = best;
     let mut i: usize = 0;
@@ -121,7 +121,7 @@ fn scan(points: &[f32], spot: Point3f, order: &[u32], best: Best) -> Best
 
 // The least one's number, after one more square.
 fn nearer_number(least: Least, square: f32, number: u32) -> u32
-    ensures { result ≡ nearerNumber least square number }
+    ensures { result ≡ nearer_number least square number }
 {
     if square < least.first {
         return number;
@@ -131,7 +131,7 @@ fn nearer_number(least: Least, square: f32, number: u32) -> u32
 
 // The two least squares after one more. No branch has to be foretold.
 fn next_least(least: Least, square: f32, number: u32) -> Least
-    ensures { result ≡ nextLeast least square number }
+    ensures { result ≡ next_least least square number }
 {
     Least {
         first: lesser(square, least.first),
@@ -144,7 +144,7 @@ fn next_least(least: Least, square: f32, number: u32) -> Least
 fn two_least(points: &[f32], spot: Point3f, order: &[u32]) -> Least
     requires numbers_of_points { NumbersOfPoints points.now order.now }
     requires all_finite { AllFinite points.now spot order.now }
-    ensures { TwoLeast (squareTo points.now spot) order.now result }
+    ensures { TwoLeast (square_to points.now spot) order.now result }
 {
     let mut least = Least {
         first: 3.4028235e38,
@@ -171,10 +171,10 @@ pub fn scan_leaf(
     near: u32,
     best: &mut [f32; 2],
 ) -> u32
-    requires best_limited { BestLimited (bestIn best.old near) × Length (root (bestIn best.old near).square) }
+    requires best_limited { BestLimited (best_in best.old near) × Length (root (best_in best.old near).square) }
     requires numbers_of_points { NumbersOfPoints points.now order.now × AllFinite points.now spot order.now }
-    ensures { KeepsBest (bestIn best.new result) (scanned (lengthTo points.now spot)
-        order.now (nearOfBest (bestIn best.old near))) }
+    ensures { KeepsBest (best_in best.new result) (scanned (length_to points.now spot)
+        order.now (near_of_best (best_in best.old near))) }
 {
     let least = two_least(points, spot, order);
     let first = least.first;

@@ -9,42 +9,42 @@ use lib.Ieee.{Float}
 use lib.ListN.{length, get_or, take, drop, take-append-drop}
 use borrow.Author.Tests.{eq-eqb, leb-true, eqb-true, ltb-true, ltb-false}
 use Rattle.lists.specs.Lists.{up_from}
-use Rattle.lists.proofs.Bools.{true-not-false}
-use Rattle.domain.specs.Refusals.{check, firstRefusal}
-use Rattle.domain.proofs.Refusals.{check-accepted}
+use Rattle.lists.proofs.Bools.{true_not_false}
+use Rattle.domain.specs.Refusals.{check, first_refusal}
+use Rattle.domain.proofs.Refusals.{check_accepted}
 use Rattle.kd_tree.specs.Tree.{belongs}
-use Rattle.nearest_points.specs.Found.{searchRefusal, checked, nearestRefusal, number_at, numbersIn}
+use Rattle.nearest_points.specs.Found.{search_refusal, checked, nearest_refusal, number_at, numbers_in}
 use Rattle.nearest_distances.specs.Measured.{shorter}
 
-pub shorter-first : (a b : ℕ) → shorter a b ≤ a
+pub shorter_first : (a b : ℕ) → shorter a b ≤ a
 unfolding shorter
-shorter-first a b = go (ltb a b) refl
+shorter_first a b = go (ltb a b) refl
   where
     go : (t : Bool) → ltb a b ≡ t → cond t a b ≤ a
     go true e = omega arith
     go false e = omega (arith, ltb-false a b e)
 
-pub shorter-second : (a b : ℕ) → shorter a b ≤ b
+pub shorter_second : (a b : ℕ) → shorter a b ≤ b
 unfolding shorter
-shorter-second a b = go (ltb a b) refl
+shorter_second a b = go (ltb a b) refl
   where
     go : (t : Bool) → ltb a b ≡ t → cond t a b ≤ b
     go true e = omega (arith, ltb-true a b e)
     go false e = omega arith
 
-drop-front : {A : Type 0} (m room : ℕ) (xs : List A) → m ≤ room → drop m (take room xs) ++ drop room xs ≡ drop m xs
-drop-front zero room xs h = take-append-drop room xs
-drop-front (suc m) zero xs h = absurd (omega arith)
-drop-front (suc m) (suc room) [] h = refl
-drop-front (suc m) (suc room) (x ∷ xs) h = drop-front m room xs (omega arith)
+drop_front : {A : Type 0} (m room : ℕ) (xs : List A) → m ≤ room → drop m (take room xs) ++ drop room xs ≡ drop m xs
+drop_front zero room xs h = take-append-drop room xs
+drop_front (suc m) zero xs h = absurd (omega arith)
+drop_front (suc m) (suc room) [] h = refl
+drop_front (suc m) (suc room) (x ∷ xs) h = drop_front m room xs (omega arith)
 
 -- numbers in front of a part, with the rest behind it, are numbers in front of the whole
-pub numbers-whole : (points spots : List Float) (room : ℕ) (found : List ℕ) → length spots / 3 ≤ room → numbersIn points spots (take room found)
-    ++ drop room found ≡ numbersIn points spots found
-numbers-whole points spots room found h =
+pub numbers_whole : (points spots : List Float) (room : ℕ) (found : List ℕ) → length spots / 3 ≤ room → numbers_in points spots (take room found)
+    ++ drop room found ≡ numbers_in points spots found
+numbers_whole points spots room found h =
     let m = length spots / 3 in
     let a = map (number_at points spots) (up_from 0 m) in
-    append_assoc a (drop m (take room found)) (drop room found) ∙ ap (λ (x : List ℕ). a ++ x) (drop-front m room found h)
+    append_assoc a (drop m (take room found)) (drop room found) ∙ ap (λ (x : List ℕ). a ++ x) (drop_front m room found h)
 
 mapped_at : (f : ℕ → ℕ) (j m i : ℕ) (rest : List ℕ) → i < m → get_or (map f (up_from j m) ++ rest) i 0 ≡ f (j + i)
 unfolding up_from
@@ -52,27 +52,27 @@ mapped_at f j zero i rest h = absurd (omega arith)
 mapped_at f j (suc m) zero rest h = ap f (let e : j ≡ j + 0 = omega arith in e)
 mapped_at f j (suc m) (suc i) rest h = mapped_at f (j + 1) m i rest (omega arith) ∙ ap f (let e : j + 1 + i ≡ j + suc i = omega arith in e)
 
-pub number-at : (points spots : List Float) (found : List ℕ) (i : ℕ) → i < length spots / 3 → get_or (numbersIn points spots found) i 0 ≡ number_at points spots i
-number-at points spots found i h =
+pub number_at_lem : (points spots : List Float) (found : List ℕ) (i : ℕ) → i < length spots / 3 → get_or (numbers_in points spots found) i 0 ≡ number_at points spots i
+number_at_lem points spots found i h =
     mapped_at (number_at points spots) 0 (length spots / 3) i (drop (length spots / 3) found) h
     ∙ ap (number_at points spots) (let e : 0 + i ≡ i = omega arith in e)
 
 -- where the answer is 0 the checks up to 7 pass, and there is room for all spots
-pub found-room : (points spots : List Float) (index : List ℕ) (words floats room : ℕ) → (nearestRefusal points spots index words floats room).answer ≡ 0
-    → ((searchRefusal points spots (length index) words floats).answer ≡ 0) × (length spots / 3 ≤ room)
-unfolding nearestRefusal
-found-room points spots index words floats room h = go (checked points spots (length index) words floats) refl h
+pub found_room : (points spots : List Float) (index : List ℕ) (words floats room : ℕ) → (nearest_refusal points spots index words floats room).answer ≡ 0
+    → ((search_refusal points spots (length index) words floats).answer ≡ 0) × (length spots / 3 ≤ room)
+unfolding nearest_refusal
+found_room points spots index words floats room h = go (checked points spots (length index) words floats) refl h
   where
     m : ℕ
     m = length spots / 3
 
     go : (b : Bool) → checked points spots (length index) words floats ≡ b
-        → (cond b (firstRefusal (check (leb m room) 13 0 ∷ check (belongs points index) 22 0 ∷ []))
-        (searchRefusal points spots (length index) words floats)).answer ≡ 0 → ((searchRefusal points spots (length index) words floats).answer ≡ 0)
+        → (cond b (first_refusal (check (leb m room) 13 0 ∷ check (belongs points index) 22 0 ∷ []))
+        (search_refusal points spots (length index) words floats)).answer ≡ 0 → ((search_refusal points spots (length index) words floats).answer ≡ 0)
         × (m ≤ room)
     go true e k = (
-      eqb-true (searchRefusal points spots (length index) words floats).answer 0 e,
+      eqb-true (search_refusal points spots (length index) words floats).answer 0 e,
       leb-true m room
-          (check-accepted (check (leb m room) 13 0) _ (λ z. omega arith) k).0,
+          (check_accepted (check (leb m room) 13 0) _ (λ z. omega arith) k).0,
     )
-    go false e k = absurd (true-not-false (eq-eqb (searchRefusal points spots (length index) words floats).answer 0 k) e)
+    go false e k = absurd (true_not_false (eq-eqb (search_refusal points spots (length index) words floats).answer 0 k) e)

@@ -3,7 +3,7 @@
 // The search is that of crate `nearest_points`. Each distance is worked out once more from the number that it found.
 ghost use Rattle.std.specs.Prelude.{◌≡◌, ℕ, ◌/◌, ◌≤◌, ◌<◌, length, get_or};
 ghost use Rattle.nearest_points.specs.Found.{number_at};
-ghost use Rattle.nearest_distances.specs.Measured.{shorter, distancesIn, Measures};
+ghost use Rattle.nearest_distances.specs.Measured.{shorter, distances_in, Measures};
 
 use nearest_points::Searched;
 
@@ -24,7 +24,7 @@ fn measure(points: &[f32], spots: &[f32], found: &[u32], distances: &mut [f32])
     requires by_index { (i : ℕ) → i < length spots.now / 3
         → get_or found.now i 0 ≡ number_at points.now spots.now i }
     ensures { distances.new
-        ≡ distancesIn points.now spots.now distances.old }
+        ≡ distances_in points.now spots.now distances.old }
 {
     let m = spots.len() / 3;
     let mut i: usize = 0;

@@ -11,16 +11,16 @@ use borrow.Author.Tests.{lt-ltb, le-ltb, le-leb, lt-leb, eq-eqb, ne_eqb, ltb-tru
 use Rattle.lists.proofs.Bools.{and_both}
 use Rattle.vector.specs.Vector.{point}
 use Rattle.vector.specs.Inner.Numbers.{Finite}
-use Rattle.points.specs.Points.{pointAt}
-use Rattle.ranges.specs.Range.{inside, firstOutside, farthest}
+use Rattle.points.specs.Points.{point_at}
+use Rattle.ranges.specs.Range.{inside, first_outside, farthest}
 use Rattle.domain.specs.declared.Refusal.{Refusal}
-use Rattle.domain.specs.Refusals.{check, refusal, firstRefusal, roomy, pointCheck}
+use Rattle.domain.specs.Refusals.{check, refusal, first_refusal, roomy, point_check}
 use Rattle.domain.specs.Inner.Accepted.{Cloud, ValuesWithin, WorkRoom}
-use Rattle.domain.proofs.Refusals.{check-accepted, roomy-room}
-use Rattle.domain.proofs.Accepted.{all-within, cloud-finite}
-use Rattle.kd_tree.specs.Tree.{indexSize}
+use Rattle.domain.proofs.Refusals.{check_accepted, roomy_room}
+use Rattle.domain.proofs.Accepted.{all_within, cloud_finite}
+use Rattle.kd_tree.specs.Tree.{index_size}
 use Rattle.nearest_points.specs.declared.Searched.{Searched}
-use Rattle.nearest_points.specs.Found.{answer_of, Answers, checksBy, searchRefusal}
+use Rattle.nearest_points.specs.Found.{answer_of, Answers, checks_by, search_refusal}
 
 pub told : {r : Searched} {f : Refusal} {answer detail : ℕ} → r ≡ answer_of answer detail → refusal answer detail ≡ f → Answers r f
 told e g =
@@ -32,35 +32,35 @@ told e g =
 
 module _ (p s bad badSpot index words floats : ℕ) where
   abbrev first : Refusal
-  first = firstRefusal (checksBy p s bad badSpot index words floats)
+  first = first_refusal (checks_by p s bad badSpot index words floats)
 
   pub none : p ≡ 0 → refusal 1 0 ≡ first
-  unfolding firstRefusal
+  unfolding first_refusal
   none h = rw (le-ltb 0 p (omega arith))
 
   module _ (some : p ≡ 0 → ⊥) where
-    pub not-threes : (p % 3 ≡ 0 → ⊥) → refusal 2 0 ≡ first
-    unfolding firstRefusal
-    not-threes t = rw (lt-ltb 0 p (omega arith), ne_eqb (p % 3) 0 t)
+    pub not_threes : (p % 3 ≡ 0 → ⊥) → refusal 2 0 ≡ first
+    unfolding first_refusal
+    not_threes t = rw (lt-ltb 0 p (omega arith), ne_eqb (p % 3) 0 t)
 
     module _ (threes : p % 3 ≡ 0) where
-      pub spots-not-threes : (s % 3 ≡ 0 → ⊥) → refusal 2 0 ≡ first
-      unfolding firstRefusal
-      spots-not-threes t = rw (lt-ltb 0 p (omega arith), eq-eqb (p % 3) 0 threes, ne_eqb (s % 3) 0 t)
+      pub spots_not_threes : (s % 3 ≡ 0 → ⊥) → refusal 2 0 ≡ first
+      unfolding first_refusal
+      spots_not_threes t = rw (lt-ltb 0 p (omega arith), eq-eqb (p % 3) 0 threes, ne_eqb (s % 3) 0 t)
 
       module _ (spot-threes : s % 3 ≡ 0) where
         pub many : 4096 < p / 3 → refusal 3 0 ≡ first
-        unfolding firstRefusal
+        unfolding first_refusal
         many h = rw (lt-ltb 0 p (omega arith), eq-eqb (p % 3) 0 threes, eq-eqb (s % 3) 0 spot-threes, lt-leb (p / 3) 4096 h)
 
         module _ (few : p / 3 ≤ 4096) where
-          pub point-out : bad < p / 3 → refusal 4 bad ≡ first
-          unfolding firstRefusal
-          point-out h = rw (lt-ltb 0 p (omega arith), eq-eqb (p % 3) 0 threes, eq-eqb (s % 3) 0 spot-threes, le-leb (p / 3) 4096 few, lt-leb (p / 3) bad h)
+          pub point_out : bad < p / 3 → refusal 4 bad ≡ first
+          unfolding first_refusal
+          point_out h = rw (lt-ltb 0 p (omega arith), eq-eqb (p % 3) 0 threes, eq-eqb (s % 3) 0 spot-threes, le-leb (p / 3) 4096 few, lt-leb (p / 3) bad h)
 
           module _ (points-in : p / 3 ≤ bad) where
             pub spot_out : badSpot < s / 3 → refusal 4 (p / 3 + badSpot) ≡ first
-            unfolding firstRefusal
+            unfolding first_refusal
             spot_out h =
                 rw (
                   lt-ltb 0 p (omega arith),
@@ -73,8 +73,8 @@ module _ (p s bad badSpot index words floats : ℕ) where
                 )
 
             module _ (spots-in : s / 3 ≤ badSpot) where
-              last : first ≡ firstRefusal (check (roomy (p / 3) words floats && leb (indexSize (p / 3)) index) 7 0 ∷ [])
-              unfolding firstRefusal
+              last : first ≡ first_refusal (check (roomy (p / 3) words floats && leb (index_size (p / 3)) index) 7 0 ∷ [])
+              unfolding first_refusal
               last = rw (
                 lt-ltb 0 p (omega arith),
                 eq-eqb (p % 3) 0 threes,
@@ -86,20 +86,20 @@ module _ (p s bad badSpot index words floats : ℕ) where
               )
 
               pub few_words : words < 24 * (p / 3) + 64 → refusal 7 0 ≡ first
-              unfolding firstRefusal roomy
+              unfolding first_refusal roomy
               few_words h = sym (last ∙ rw (lt-leb (24 * (p / 3) + 64) words h))
 
-              pub few-floats : 24 * (p / 3) + 64 ≤ words → floats < 4 * (p / 3) + 64 → refusal 7 0 ≡ first
-              unfolding firstRefusal roomy
-              few-floats w h = sym (last ∙ rw (le-leb (24 * (p / 3) + 64) words w, lt-leb (4 * (p / 3) + 64) floats h))
+              pub few_floats : 24 * (p / 3) + 64 ≤ words → floats < 4 * (p / 3) + 64 → refusal 7 0 ≡ first
+              unfolding first_refusal roomy
+              few_floats w h = sym (last ∙ rw (le-leb (24 * (p / 3) + 64) words w, lt-leb (4 * (p / 3) + 64) floats h))
 
-              pub short-index : 24 * (p / 3) + 64 ≤ words → 4 * (p / 3) + 64 ≤ floats → index < 8 * (p / 3) + 64 → refusal 7 0 ≡ first
-              unfolding firstRefusal roomy
-              short-index w f h = sym (last ∙ rw (le-leb (24 * (p / 3) + 64) words w, le-leb (4 * (p / 3) + 64) floats f, lt-leb (8 * (p / 3) + 64) index h))
+              pub short_index : 24 * (p / 3) + 64 ≤ words → 4 * (p / 3) + 64 ≤ floats → index < 8 * (p / 3) + 64 → refusal 7 0 ≡ first
+              unfolding first_refusal roomy
+              short_index w f h = sym (last ∙ rw (le-leb (24 * (p / 3) + 64) words w, le-leb (4 * (p / 3) + 64) floats f, lt-leb (8 * (p / 3) + 64) index h))
 
-              pub all-passed : 24 * (p / 3) + 64 ≤ words → 4 * (p / 3) + 64 ≤ floats → 8 * (p / 3) + 64 ≤ index → refusal 0 0 ≡ first
-              unfolding firstRefusal roomy
-              all-passed w f h = sym (last ∙ rw (le-leb (24 * (p / 3) + 64) words w, le-leb (4 * (p / 3) + 64) floats f, le-leb (8 * (p / 3) + 64) index h))
+              pub all_passed : 24 * (p / 3) + 64 ≤ words → 4 * (p / 3) + 64 ≤ floats → 8 * (p / 3) + 64 ≤ index → refusal 0 0 ≡ first
+              unfolding first_refusal roomy
+              all_passed w f h = sym (last ∙ rw (le-leb (24 * (p / 3) + 64) words w, le-leb (4 * (p / 3) + 64) floats f, le-leb (8 * (p / 3) + 64) index h))
 
 -- ---- what holds where they pass
 pub record Accepted (points spots : List Float) (index words floats : ℕ) : Type 0 where
@@ -107,23 +107,23 @@ pub record Accepted (points spots : List Float) (index words floats : ℕ) : Typ
   pub near : ValuesWithin farthest spots
   pub threes : length spots % 3 ≡ 0
   pub room : WorkRoom (length points / 3) words floats
-  pub index-enough : indexSize (length points / 3) ≤ index
+  pub index_enough : index_size (length points / 3) ≤ index
 
-pub accepted : (points spots : List Float) (index words floats : ℕ) → (searchRefusal points spots index words floats).answer ≡ 0
+pub accepted : (points spots : List Float) (index words floats : ℕ) → (search_refusal points spots index words floats).answer ≡ 0
     → Accepted points spots index words floats
-unfolding searchRefusal
+unfolding search_refusal
 accepted points spots index words floats e =
     let p = length points in
     let s = length spots in
     let n = length points / 3 in
-    let one = check-accepted (check (ltb 0 p) 1 0) _ (λ h. omega arith) e in
-    let two = check-accepted (check (eqb (p % 3) 0 && eqb (s % 3) 0) 2 0) _ (λ h. omega arith) one.1 in
-    let three = check-accepted (check (leb n 4096) 3 0) _ (λ h. omega arith) two.1 in
-    let four = check-accepted (pointCheck n (firstOutside farthest points)) _ (λ h. omega arith) three.1 in
-    let spot = check-accepted (check (leb (s / 3) (firstOutside farthest spots)) 4 (n + firstOutside farthest spots)) _ (λ h. omega arith) four.1 in
-    let seven = check-accepted (check (roomy n words floats && leb (indexSize n) index) 7 0) [] (λ h. omega arith) spot.1 in
+    let one = check_accepted (check (ltb 0 p) 1 0) _ (λ h. omega arith) e in
+    let two = check_accepted (check (eqb (p % 3) 0 && eqb (s % 3) 0) 2 0) _ (λ h. omega arith) one.1 in
+    let three = check_accepted (check (leb n 4096) 3 0) _ (λ h. omega arith) two.1 in
+    let four = check_accepted (point_check n (first_outside farthest points)) _ (λ h. omega arith) three.1 in
+    let spot = check_accepted (check (leb (s / 3) (first_outside farthest spots)) 4 (n + first_outside farthest spots)) _ (λ h. omega arith) four.1 in
+    let seven = check_accepted (check (roomy n words floats && leb (index_size n) index) 7 0) [] (λ h. omega arith) spot.1 in
     let both = and_both {p = eqb (p % 3) 0} {q = eqb (s % 3) 0} two.0 in
-    let rooms = and_both {p = roomy n words floats} {q = leb (indexSize n) index} seven.0 in
+    let rooms = and_both {p = roomy n words floats} {q = leb (index_size n) index} seven.0 in
     let t : p % 3 ≡ 0 = eqb-true (p % 3) 0 both.0 in
     let u : s % 3 ≡ 0 = eqb-true (s % 3) 0 both.1 in
     record {
@@ -131,19 +131,19 @@ accepted points spots index words floats e =
         some = omega (arith, ltb-true 0 p one.0);
         few = leb-true n 4096 three.0;
         threes = omega arith;
-        near = all-within farthest points t (leb-true n (firstOutside farthest points) four.0);
+        near = all_within farthest points t (leb-true n (first_outside farthest points) four.0);
       };
-      near = all-within farthest spots u (leb-true (s / 3) (firstOutside farthest spots) spot.0);
+      near = all_within farthest spots u (leb-true (s / 3) (first_outside farthest spots) spot.0);
       threes = u;
-      room = roomy-room n words floats rooms.0;
-      index-enough = leb-true (indexSize n) index rooms.1;
+      room = roomy_room n words floats rooms.0;
+      index_enough = leb-true (index_size n) index rooms.1;
     }
 
 -- a spot is finite: it is a cloud of one point
-pub spot-finite : (x y z : Float) → inside (neg farthest) farthest x ≡ true → inside (neg farthest) farthest y ≡ true → inside (neg farthest) farthest z ≡ true
+pub spot_finite : (x y z : Float) → inside (neg farthest) farthest x ≡ true → inside (neg farthest) farthest y ≡ true → inside (neg farthest) farthest z ≡ true
     → Finite (point x y z)
-spot-finite x y z a b c =
-    record { x-finite = cloud-finite one 0 (omega arith); y-finite = cloud-finite one 1 (omega arith); z-finite = cloud-finite one 2 (omega arith) }
+spot_finite x y z a b c =
+    record { x_finite = cloud_finite one 0 (omega arith); y_finite = cloud_finite one 1 (omega arith); z_finite = cloud_finite one 2 (omega arith) }
   where
     near : ValuesWithin farthest (x ∷ y ∷ z ∷ [])
     near zero h = a
@@ -154,12 +154,12 @@ spot-finite x y z a b c =
     one : Cloud 1 (x ∷ y ∷ z ∷ [])
     one = record { some = omega arith; few = omega arith; threes = refl; near = near }
 
-pub spots-finite : (spots : List Float) → ValuesWithin farthest spots → (i : ℕ) → 3 * i + 2 < length spots → Finite (pointAt spots i)
-unfolding pointAt
-spots-finite spots near i h =
-    spot-finite (get_or spots (3 * i) nan) (get_or spots (3 * i + 1) nan) (get_or spots (3 * i + 2) nan) (near (3 * i) (omega arith)) (near (3 * i + 1) (omega arith))
+pub spots_finite : (spots : List Float) → ValuesWithin farthest spots → (i : ℕ) → 3 * i + 2 < length spots → Finite (point_at spots i)
+unfolding point_at
+spots_finite spots near i h =
+    spot_finite (get_or spots (3 * i) nan) (get_or spots (3 * i + 1) nan) (get_or spots (3 * i + 2) nan) (near (3 * i) (omega arith)) (near (3 * i + 1) (omega arith))
     (near (3 * i + 2) h)
 
 -- one spot inside the domain
-pub one-finite : (x y z : Float) → ValuesWithin farthest (x ∷ y ∷ z ∷ []) → Finite (point x y z)
-one-finite x y z near = spot-finite x y z (near 0 (omega arith)) (near 1 (omega arith)) (near 2 (omega arith))
+pub one_finite : (x y z : Float) → ValuesWithin farthest (x ∷ y ∷ z ∷ []) → Finite (point x y z)
+one_finite x y z near = spot_finite x y z (near 0 (omega arith)) (near 1 (omega arith)) (near 2 (omega arith))

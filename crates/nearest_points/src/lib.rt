@@ -1,10 +1,10 @@
 // The point of a cloud that is nearest to a spot, and those nearest to many spots, by the cloud's index.
 ghost use Rattle.std.specs.Prelude.{◌≡◌, [], ◌∷◌, ◌/◌, ◌≤◌, length};
-ghost use Rattle.ranges.specs.Range.{firstOutside, farthest};
+ghost use Rattle.ranges.specs.Range.{first_outside, farthest};
 ghost use Rattle.domain.specs.Inner.Accepted.{ValuesWithin};
-ghost use Rattle.domain.specs.Refusals.{firstRefusal};
+ghost use Rattle.domain.specs.Refusals.{first_refusal};
 ghost use Rattle.index_search.specs.Inner.Indexed.{OwnIndex, Width};
-ghost use Rattle.nearest_points.specs.Found.{answer_of, nearestOf, Answers, checksBy, numbersIn, Searches, Nears};
+ghost use Rattle.nearest_points.specs.Found.{answer_of, nearest_of, Answers, checks_by, numbers_in, Searches, Nears};
 
 // The answer's number, its detail, and the nearest point with its distance, both 0 at a refusal.
 #[repr(C)]
@@ -34,7 +34,7 @@ fn answer_of(answer: u32, detail: usize) -> Searched
 }
 
 fn nearest_of(answer: u32, detail: u32, point: u32, distance: f32) -> Nearest
-    ensures { result ≡ nearestOf answer detail point distance }
+    ensures { result ≡ nearest_of answer detail point distance }
 {
     Nearest {
         answer: answer,
@@ -46,7 +46,7 @@ fn nearest_of(answer: u32, detail: u32, point: u32, distance: f32) -> Nearest
 
 // 0 where a spot is outside the domain, else 1, as of a list of spots.
 fn spot_outside(x: f32, y: f32, z: f32) -> usize
-    ensures { result ≡ firstOutside farthest (x ∷ y ∷ z ∷ []) }
+    ensures { result ≡ first_outside farthest (x ∷ y ∷ z ∷ []) }
 {
     let spot = [x, y, z];
     ranges::first_outside(&spot[..], 10000.0)
@@ -62,7 +62,7 @@ fn refusal_of_search(
     floats: usize,
 ) -> Searched
     ensures { Answers result
-        (firstRefusal (checksBy (length points.now) spots (firstOutside farthest points.now) bad
+        (first_refusal (checks_by (length points.now) spots (first_outside farthest points.now) bad
         index words floats)) }
 {
     let size = points.len();
@@ -102,7 +102,7 @@ fn refusal_of_search(
 fn fill(points: &[f32], spots: &[f32], index: &[u32], width: usize, found: &mut [u32])
     requires own_index { OwnIndex points.now index.now × Width (length points.now / 3) width × (width ≤ 4096) }
     requires values_within { ValuesWithin farthest spots.now × (length spots.now / 3 ≤ length found.old) }
-    ensures { found.new ≡ numbersIn points.now spots.now found.old }
+    ensures { found.new ≡ numbers_in points.now spots.now found.old }
 {
     let m = spots.len() / 3;
     let mut i: usize = 0;

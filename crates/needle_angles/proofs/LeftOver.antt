@@ -11,15 +11,15 @@ use lib.Ieee.Fits.{and_l, and_r}
 use Rattle.numbers.specs.Rounded.{f32, ◌⊖◌}
 use Rattle.numbers.specs.Order.{clamp}
 use Rattle.numbers.specs.Acos.{acos}
-use Rattle.numbers.proofs.OrderLaws.{le_left, le_right, lt-le, le-or-lt, le_not_lt, le_trans}
-use Rattle.numbers.proofs.RoundedOrder.{neg-le}
+use Rattle.numbers.proofs.OrderLaws.{le_left, le_right, lt_le, le_or_lt, le_not_lt, le_trans}
+use Rattle.numbers.proofs.RoundedOrder.{neg_le}
 use Rattle.quality.specs.Measures.{least}
-use Rattle.score_bounds.proofs.Aspect.{add-under}
-use Rattle.six_orders.proofs.Positive.{least_first, least-second, least-third}
+use Rattle.score_bounds.proofs.Aspect.{add_under}
+use Rattle.six_orders.proofs.Positive.{least_first, least_second, least_third}
 use Rattle.slivers.proofs.Arc.{z_of}
-use Rattle.slivers.proofs.Angle.{limit, angle-limit-is}
-use Rattle.needle_angles.proofs.Floor.{Floor, floorHigh, floorMiddle, floorNegative, floorLow, floor-high, floor-middle, floor-negative, floor-low}
-use Rattle.needle_angles.proofs.Cosines.{areApart}
+use Rattle.slivers.proofs.Angle.{limit, angle_limit_is}
+use Rattle.needle_angles.proofs.Floor.{Floor, floor_high, floor_middle, floor_negative, floor_low, floor_high_lem, floor_middle_lem, floor_negative_lem, floor_low_lem}
+use Rattle.needle_angles.proofs.Cosines.{are_apart}
 
 abbrev half : Float
 half = f32 0x3f000000
@@ -36,43 +36,43 @@ held v = acos (clamp v (neg one) one)
 
 -- ---- what is left over
 
-abbrev isLow : Float → Bool
-isLow x = lt x (inf false)
+abbrev is_low : Float → Bool
+is_low x = lt x (inf false)
 
-abbrev leftUnder : Float → Float → Float → Bool
-leftUnder θ m n = isLow (neg m) && (isLow (neg n) && (isLow (pi ⊖ m) && le (pi ⊖ m ⊖ n) θ))
+abbrev left_under : Float → Float → Float → Bool
+left_under θ m n = is_low (neg m) && (is_low (neg n) && (is_low (pi ⊖ m) && le (pi ⊖ m ⊖ n) θ))
 
-left-under : (θ m n y z : Float) → T (leftUnder θ m n) → T (le m y) → T (le n z) → T (le (pi ⊖ y ⊖ z) θ)
+left_under_lem : (θ m n y z : Float) → T (left_under θ m n) → T (le m y) → T (le n z) → T (le (pi ⊖ y ⊖ z) θ)
 unfolding sub
-left-under θ m n y z t h k =
-    let t1 = and_r (isLow (neg m)) _ t in
-    let t2 = and_r (isLow (neg n)) _ t1 in
-    let i : T (le (pi ⊖ y) (pi ⊖ m)) = add-under pi (neg y) pi (neg m) (unfold le of_bits in tt) (neg-le m y h) (unfold lt of_bits in tt)
-    (and_l (isLow (neg m)) _ t) in
+left_under_lem θ m n y z t h k =
+    let t1 = and_r (is_low (neg m)) _ t in
+    let t2 = and_r (is_low (neg n)) _ t1 in
+    let i : T (le (pi ⊖ y) (pi ⊖ m)) = add_under pi (neg y) pi (neg m) (unfold le of_bits in tt) (neg_le m y h) (unfold lt of_bits in tt)
+    (and_l (is_low (neg m)) _ t) in
     le_trans (pi ⊖ y ⊖ z) (pi ⊖ m ⊖ n) θ
-    (add-under (pi ⊖ y) (neg z) (pi ⊖ m) (neg n) i (neg-le n z k) (and_l (isLow (pi ⊖ m)) _ t2) (and_l (isLow (neg n)) _ t1)) (and_r (isLow (pi ⊖ m)) _ t2)
+    (add_under (pi ⊖ y) (neg z) (pi ⊖ m) (neg n) i (neg_le n z k) (and_l (is_low (pi ⊖ m)) _ t2) (and_l (is_low (neg n)) _ t1)) (and_r (is_low (pi ⊖ m)) _ t2)
 
 -- ---- floors
 
-abbrev isFloor : ℕ → Float → Bool
-isFloor κ m = cond (le half (f32 κ)) (floorHigh (f32 κ) m) (floorMiddle (f32 κ) m)
+abbrev is_floor : ℕ → Float → Bool
+is_floor κ m = cond (le half (f32 κ)) (floor_high (f32 κ) m) (floor_middle (f32 κ) m)
 
-abbrev isFloorBelow : ℕ → Float → Bool
-isFloorBelow r m = cond (le half (f32 r)) (floorLow (f32 r) m) (floorNegative (neg (f32 r)) m)
+abbrev is_floor_below : ℕ → Float → Bool
+is_floor_below r m = cond (le half (f32 r)) (floor_low (f32 r) m) (floor_negative (neg (f32 r)) m)
 
-floor-is : (κ : ℕ) (m : Float) → T (isFloor κ m) → Floor (f32 κ) m
-floor-is κ m = go (le half (f32 κ))
+floor_is : (κ : ℕ) (m : Float) → T (is_floor κ m) → Floor (f32 κ) m
+floor_is κ m = go (le half (f32 κ))
   where
-    go : (b : Bool) → T (cond b (floorHigh (f32 κ) m) (floorMiddle (f32 κ) m)) → Floor (f32 κ) m
-    go true t = floor-high (f32 κ) m (of_bits-fits binary32 κ) t
-    go false t = floor-middle (f32 κ) m t
+    go : (b : Bool) → T (cond b (floor_high (f32 κ) m) (floor_middle (f32 κ) m)) → Floor (f32 κ) m
+    go true t = floor_high_lem (f32 κ) m (of_bits-fits binary32 κ) t
+    go false t = floor_middle_lem (f32 κ) m t
 
-floor-below : (r : ℕ) (m : Float) → T (isFloorBelow r m) → Floor (neg (f32 r)) m
-floor-below r m = go (le half (f32 r))
+floor_below : (r : ℕ) (m : Float) → T (is_floor_below r m) → Floor (neg (f32 r)) m
+floor_below r m = go (le half (f32 r))
   where
-    go : (b : Bool) → T (cond b (floorLow (f32 r) m) (floorNegative (neg (f32 r)) m)) → Floor (neg (f32 r)) m
-    go true t = floor-low (f32 r) m (of_bits-fits binary32 r) t
-    go false t = floor-negative (neg (f32 r)) m t
+    go : (b : Bool) → T (cond b (floor_low (f32 r) m) (floor_negative (neg (f32 r)) m)) → Floor (neg (f32 r)) m
+    go true t = floor_low_lem (f32 r) m (of_bits-fits binary32 r) t
+    go false t = floor_negative_lem (neg (f32 r)) m t
 
 -- ---- steps
 
@@ -91,131 +91,131 @@ unfoldable pub step : ℕ → ℕ → ℕ → ℕ → ℕ → ℕ → ℕ → St
 step s t τ ρ r m n = record { s = s; t = t; τ = τ; ρ = ρ; r = r; m = m; n = n }
 
 -- for cosines below κ
-abbrev isStep : ℕ → Float → ℕ → Step → Bool
-isStep K θ κ s =
+abbrev is_step : ℕ → Float → ℕ → Step → Bool
+is_step K θ κ s =
     lt (f32 s.t) (f32 κ)
-    && (areApart K s.s s.t s.τ s.ρ s.r
-    && (isFloor κ (f32 s.m) && (isFloorBelow s.r (f32 s.n) && (leftUnder θ (f32 s.m) (f32 s.n) && leftUnder θ (f32 s.n) (f32 s.m)))))
+    && (are_apart K s.s s.t s.τ s.ρ s.r
+    && (is_floor κ (f32 s.m) && (is_floor_below s.r (f32 s.n) && (left_under θ (f32 s.m) (f32 s.n) && left_under θ (f32 s.n) (f32 s.m)))))
 
-unfoldable pub areSteps : ℕ → Float → ℕ → List Step → Bool
-areSteps K θ κ [] = true
-areSteps K θ κ (s ∷ rest) = isStep K θ κ s && areSteps K θ s.t rest
+unfoldable pub are_steps : ℕ → Float → ℕ → List Step → Bool
+are_steps K θ κ [] = true
+are_steps K θ κ (s ∷ rest) = is_step K θ κ s && are_steps K θ s.t rest
 
 unfoldable pub last_of : ℕ → List Step → ℕ
 last_of κ [] = κ
 last_of κ (s ∷ rest) = last_of s.t rest
 
 -- the first cosine has a small angle, and below the last of the steps are two that are small themselves
-abbrev pub areAll : ℕ → Float → ℕ → Float → List Step → Bool
-areAll K θ κ m steps =
+abbrev pub are_all : ℕ → Float → ℕ → Float → List Step → Bool
+are_all K θ κ m steps =
     le half (f32 κ) && (lt (f32 κ) one && (le (limit (z_of (f32 κ))) θ
-    && (areSteps K θ κ steps && (isFloor (last_of κ steps) m && leftUnder θ m m))))
+    && (are_steps K θ κ steps && (is_floor (last_of κ steps) m && left_under θ m m))))
 
 -- ---- the least of three angles
 
-abbrev leastOf : Float → Float → Float
-leastOf v w = least (held v) (held w) (pi ⊖ held v ⊖ held w)
+abbrev least_of : Float → Float → Float
+least_of v w = least (held v) (held w) (pi ⊖ held v ⊖ held w)
 
 module _ (K : ℕ) (θ : Float) where
   -- what is to be shown of two cosines, in both orders
   abbrev Small : Float → Float → Type 0
-  Small v w = T (le (leastOf v w) θ) × T (le (leastOf w v) θ)
+  Small v w = T (le (least_of v w) θ) × T (le (least_of w v) θ)
 
-  by-angle : (v w : Float) → T (le (held v) θ) → Small v w
-  by-angle v w h =
+  by_angle : (v w : Float) → T (le (held v) θ) → Small v w
+  by_angle v w h =
       let n = le_left (held v) θ h in (
-        le_trans (leastOf v w) (held v) θ (least_first (held v) (held w) (pi ⊖ held v ⊖ held w) n) h,
-        le_trans (leastOf w v) (held v) θ
-            (least-second (held w) (held v) (pi ⊖ held w ⊖ held v) n) h,
+        le_trans (least_of v w) (held v) θ (least_first (held v) (held w) (pi ⊖ held v ⊖ held w) n) h,
+        le_trans (least_of w v) (held v) θ
+            (least_second (held w) (held v) (pi ⊖ held w ⊖ held v) n) h,
       )
 
   by_left : (v w : Float) → T (le (pi ⊖ held v ⊖ held w) θ) → T (le (pi ⊖ held w ⊖ held v) θ) → Small v w
   by_left v w h k = (
-    le_trans (leastOf v w) (pi ⊖ held v ⊖ held w) θ (least-third (held v) (held w) (pi ⊖ held v ⊖ held w) (le_left (pi ⊖ held v ⊖ held w) θ h)) h,
-    le_trans (leastOf w v) (pi ⊖ held w ⊖ held v) θ (least-third (held w) (held v) (pi ⊖ held w ⊖ held v) (le_left (pi ⊖ held w ⊖ held v) θ k)) k,
+    le_trans (least_of v w) (pi ⊖ held v ⊖ held w) θ (least_third (held v) (held w) (pi ⊖ held v ⊖ held w) (le_left (pi ⊖ held v ⊖ held w) θ h)) h,
+    le_trans (least_of w v) (pi ⊖ held w ⊖ held v) θ (least_third (held w) (held v) (pi ⊖ held w ⊖ held v) (le_left (pi ⊖ held w ⊖ held v) θ k)) k,
   )
 
   -- w is at most the opposite of v, but for a margin
   abbrev pub Turned : Float → Float → Type 0
-  Turned v w = (s t τ ρ r : ℕ) → T (areApart K s t τ ρ r) → T (le (f32 t) v) → T (le w (neg (f32 r)))
+  Turned v w = (s t τ ρ r : ℕ) → T (are_apart K s t τ ρ r) → T (le (f32 t) v) → T (le w (neg (f32 r)))
 
   module _ (v w : Float) (f : T (fits binary32 v)) (g : T (fits binary32 w)) (turned : Turned v w) where
-    one-step : (κ : ℕ) (s : Step) → T (isStep K θ κ s) → T (lt v (f32 κ)) → T (le (f32 s.t) v) → Small v w
-    one-step κ s h' b k =
+    one_step : (κ : ℕ) (s : Step) → T (is_step K θ κ s) → T (lt v (f32 κ)) → T (le (f32 s.t) v) → Small v w
+    one_step κ s h' b k =
         let h = and_r (lt (f32 s.t) (f32 κ)) _ h' in
-        let h1 = and_r (areApart K s.s s.t s.τ s.ρ s.r) _ h in
-        let h2 = and_r (isFloor κ (f32 s.m)) _ h1 in
-        let h3 = and_r (isFloorBelow s.r (f32 s.n)) _ h2 in
-        let y = (floor-is κ (f32 s.m) (and_l (isFloor κ (f32 s.m)) _ h1)).least v f (lt-le v (f32 κ) b) in
-        let z = (floor-below s.r (f32 s.n) (and_l (isFloorBelow s.r (f32 s.n)) _ h2)).least w g
-        (turned s.s s.t s.τ s.ρ s.r (and_l (areApart K s.s s.t s.τ s.ρ s.r) _ h) k) in
-        by_left v w (left-under θ (f32 s.m) (f32 s.n) (held v) (held w) (and_l (leftUnder θ (f32 s.m) (f32 s.n)) _ h3) y z)
-        (left-under θ (f32 s.n) (f32 s.m) (held w) (held v) (and_r (leftUnder θ (f32 s.m) (f32 s.n)) _ h3) z y)
+        let h1 = and_r (are_apart K s.s s.t s.τ s.ρ s.r) _ h in
+        let h2 = and_r (is_floor κ (f32 s.m)) _ h1 in
+        let h3 = and_r (is_floor_below s.r (f32 s.n)) _ h2 in
+        let y = (floor_is κ (f32 s.m) (and_l (is_floor κ (f32 s.m)) _ h1)).least v f (lt_le v (f32 κ) b) in
+        let z = (floor_below s.r (f32 s.n) (and_l (is_floor_below s.r (f32 s.n)) _ h2)).least w g
+        (turned s.s s.t s.τ s.ρ s.r (and_l (are_apart K s.s s.t s.τ s.ρ s.r) _ h) k) in
+        by_left v w (left_under_lem θ (f32 s.m) (f32 s.n) (held v) (held w) (and_l (left_under θ (f32 s.m) (f32 s.n)) _ h3) y z)
+        (left_under_lem θ (f32 s.n) (f32 s.m) (held w) (held v) (and_r (left_under θ (f32 s.m) (f32 s.n)) _ h3) z y)
 
-    walk : (κ : ℕ) (steps : List Step) → T (areSteps K θ κ steps) → T (lt v (f32 κ)) → T (le (f32 (last_of κ steps)) v) → Small v w
-    unfolding last_of areSteps
+    walk : (κ : ℕ) (steps : List Step) → T (are_steps K θ κ steps) → T (lt v (f32 κ)) → T (le (f32 (last_of κ steps)) v) → Small v w
+    unfolding last_of are_steps
     walk κ [] h b k = absurd (le_not_lt (f32 κ) v k b)
     walk κ (s ∷ rest) h b k =
-        let here = and_l (isStep K θ κ s) _ h in
-        let later = and_r (isStep K θ κ s) _ h in
-        go (le-or-lt (f32 s.t) v (le_left (f32 s.t) (f32 κ) (lt-le (f32 s.t) (f32 κ) (and_l (lt (f32 s.t) (f32 κ)) _ here)))
-        (le_left v (f32 κ) (lt-le v (f32 κ) b))) here (λ l. walk s.t rest later l k)
+        let here = and_l (is_step K θ κ s) _ h in
+        let later = and_r (is_step K θ κ s) _ h in
+        go (le_or_lt (f32 s.t) v (le_left (f32 s.t) (f32 κ) (lt_le (f32 s.t) (f32 κ) (and_l (lt (f32 s.t) (f32 κ)) _ here)))
+        (le_left v (f32 κ) (lt_le v (f32 κ) b))) here (λ l. walk s.t rest later l k)
       where
-        go : T (le (f32 s.t) v) ⊎ T (lt v (f32 s.t)) → T (isStep K θ κ s) → (T (lt v (f32 s.t)) → Small v w) → Small v w
-        go (inl l) i n = one-step κ s i b l
+        go : T (le (f32 s.t) v) ⊎ T (lt v (f32 s.t)) → T (is_step K θ κ s) → (T (lt v (f32 s.t)) → Small v w) → Small v w
+        go (inl l) i n = one_step κ s i b l
         go (inr l) i n = n l
 
-  module _ (κ : ℕ) (m : Float) (steps : List Step) (all : T (areAll K θ κ m steps)) where
-    a1 : T (lt (f32 κ) one && (le (limit (z_of (f32 κ))) θ && (areSteps K θ κ steps && (isFloor (last_of κ steps) m && leftUnder θ m m))))
+  module _ (κ : ℕ) (m : Float) (steps : List Step) (all : T (are_all K θ κ m steps)) where
+    a1 : T (lt (f32 κ) one && (le (limit (z_of (f32 κ))) θ && (are_steps K θ κ steps && (is_floor (last_of κ steps) m && left_under θ m m))))
     a1 = and_r (le half (f32 κ)) _ all
 
-    a2 : T (le (limit (z_of (f32 κ))) θ && (areSteps K θ κ steps && (isFloor (last_of κ steps) m && leftUnder θ m m)))
+    a2 : T (le (limit (z_of (f32 κ))) θ && (are_steps K θ κ steps && (is_floor (last_of κ steps) m && left_under θ m m)))
     a2 = and_r (lt (f32 κ) one) _ a1
 
-    a3 : T (areSteps K θ κ steps && (isFloor (last_of κ steps) m && leftUnder θ m m))
+    a3 : T (are_steps K θ κ steps && (is_floor (last_of κ steps) m && left_under θ m m))
     a3 = and_r (le (limit (z_of (f32 κ))) θ) _ a2
 
-    a4 : T (isFloor (last_of κ steps) m && leftUnder θ m m)
-    a4 = and_r (areSteps K θ κ steps) _ a3
+    a4 : T (is_floor (last_of κ steps) m && left_under θ m m)
+    a4 = and_r (are_steps K θ κ steps) _ a3
 
-    limit-under : T (le (limit (z_of (f32 κ))) θ)
-    limit-under = and_l (le (limit (z_of (f32 κ))) θ) _ a2
+    limit_under : T (le (limit (z_of (f32 κ))) θ)
+    limit_under = and_l (le (limit (z_of (f32 κ))) θ) _ a2
 
     -- a cosine from κ on has a small angle
-    pub small-angle : (v : Float) → T (fits binary32 v) → T (le (f32 κ) v) → T (le (held v) θ)
-    small-angle v f h =
+    pub small_angle : (v : Float) → T (fits binary32 v) → T (le (f32 κ) v) → T (le (held v) θ)
+    small_angle v f h =
         le_trans (held v) (limit (z_of (f32 κ))) θ
-        ((angle-limit-is (f32 κ) (of_bits-fits binary32 κ) (and_l (le half (f32 κ)) _ all) (and_l (lt (f32 κ) one) _ a1)).most v f h
-        (le_left (limit (z_of (f32 κ))) θ limit-under)) limit-under
+        ((angle_limit_is (f32 κ) (of_bits-fits binary32 κ) (and_l (le half (f32 κ)) _ all) (and_l (lt (f32 κ) one) _ a1)).most v f h
+        (le_left (limit (z_of (f32 κ))) θ limit_under)) limit_under
 
     -- one cosine is from the last on
     by_one : (v w : Float) → T (fits binary32 v) → T (fits binary32 w) → Turned v w → T (le (f32 (last_of κ steps)) v) → Small v w
-    by_one v w f g turned k = go (le-or-lt (f32 κ) v (le_right half (f32 κ) (and_l (le half (f32 κ)) _ all)) (le_right (f32 (last_of κ steps)) v k))
+    by_one v w f g turned k = go (le_or_lt (f32 κ) v (le_right half (f32 κ) (and_l (le half (f32 κ)) _ all)) (le_right (f32 (last_of κ steps)) v k))
       where
         go : T (le (f32 κ) v) ⊎ T (lt v (f32 κ)) → Small v w
-        go (inl l) = by-angle v w (small-angle v f l)
-        go (inr l) = walk v w f g turned κ steps (and_l (areSteps K θ κ steps) _ a3) l k
+        go (inl l) = by_angle v w (small_angle v f l)
+        go (inr l) = walk v w f g turned κ steps (and_l (are_steps K θ κ steps) _ a3) l k
 
-    last-number : T (not (is_nan (f32 (last_of κ steps))))
-    last-number = go (le half (f32 (last_of κ steps))) (and_l (isFloor (last_of κ steps) m) _ a4)
+    last_number : T (not (is_nan (f32 (last_of κ steps))))
+    last_number = go (le half (f32 (last_of κ steps))) (and_l (is_floor (last_of κ steps) m) _ a4)
       where
         x : Float
         x = f32 (last_of κ steps)
 
-        go : (b : Bool) → T (cond b (floorHigh x m) (floorMiddle x m)) → T (not (is_nan x))
-        go true t = le_left x one (lt-le x one (and_l (lt x one) _ t))
-        go false t = le_left x half (lt-le x half (and_l (lt x half) _ t))
+        go : (b : Bool) → T (cond b (floor_high x m) (floor_middle x m)) → T (not (is_nan x))
+        go true t = le_left x one (lt_le x one (and_l (lt x one) _ t))
+        go false t = le_left x half (lt_le x half (and_l (lt x half) _ t))
 
     pub left_over : (v w : Float) → T (fits binary32 v) → T (fits binary32 w) → T (not (is_nan v)) → T (not (is_nan w)) → Turned v w → Turned w v → Small v w
-    left_over v w f g n o h k = go (le-or-lt (f32 (last_of κ steps)) v last-number n) (le-or-lt (f32 (last_of κ steps)) w last-number o)
+    left_over v w f g n o h k = go (le_or_lt (f32 (last_of κ steps)) v last_number n) (le_or_lt (f32 (last_of κ steps)) w last_number o)
       where
         go : T (le (f32 (last_of κ steps)) v) ⊎ T (lt v (f32 (last_of κ steps))) → T (le (f32 (last_of κ steps)) w) ⊎ T (lt w (f32 (last_of κ steps))) → Small v w
         go (inl l) r = by_one v w f g h l
         go (inr l) (inl r) = let s = by_one w v g f k r in (s.1, s.0)
         go (inr l) (inr r) =
             let x = f32 (last_of κ steps) in
-            let floor = floor-is (last_of κ steps) m (and_l (isFloor (last_of κ steps) m) _ a4) in
-            let y = floor.least v f (lt-le v x l) in
-            let z = floor.least w g (lt-le w x r) in
-            let t = and_r (isFloor (last_of κ steps) m) _ a4 in
-            by_left v w (left-under θ m m (held v) (held w) t y z) (left-under θ m m (held w) (held v) t z y)
+            let floor = floor_is (last_of κ steps) m (and_l (is_floor (last_of κ steps) m) _ a4) in
+            let y = floor.least v f (lt_le v x l) in
+            let z = floor.least w g (lt_le w x r) in
+            let t = and_r (is_floor (last_of κ steps) m) _ a4 in
+            by_left v w (left_under_lem θ m m (held v) (held w) t y z) (left_under_lem θ m m (held w) (held v) t z y)

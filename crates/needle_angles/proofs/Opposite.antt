@@ -1,6 +1,6 @@
 -- The two cosines of a needle, over whole numbers: a, b and c are the edges, w units to 1. Where c² + a² - b² is from y
--- on, c² - b² - a² is from y' on, rounding included (`opposite`); and a is much shorter by the squares (`edges-near`,
--- `edges-far`). Assumes nothing.
+-- on, c² - b² - a² is from y' on, rounding included (`opposite`); and a is much shorter by the squares (`edges_near`,
+-- `edges_far`). Assumes nothing.
 use mathlib.Core.Path.{◌≡◌, refl, sym, ap, subst}
 use Prim.Native.Nat.{ℕ, ◌+◌, ◌-◌, ◌*◌, ◌^◌, ◌≤◌, ◌<◌}
 use native.Mathlib.Nat.{mul-le-mul, mul-le-mul_left, mul-le-mul_right, le_of_mul-le-mul_right, mul-pos}
@@ -9,15 +9,15 @@ use native.Mathlib.Bridge.{IsLe, le_by_compare}
 use native.Mathlib.Decide.{dec_le}
 use mathlib.Core.Bool.{Bool}
 use lib.Dec.{T, leb, leb→le}
-use Rattle.rounding_errors.proofs.Near.{Near, near_le, near-eq, near-trans, near_times, near_add, near-cancel, near_within, square-back}
+use Rattle.rounding_errors.proofs.Near.{Near, near_le, near_eq, near_trans, near_times, near_add, near_cancel, near_within, square_back}
 
 -- What the factors τ and ρ of y and y' have to satisfy, with edges K times as long: c is longer than b by a part s of
 -- 4096 of a, and that makes up for the rounding errors of the sums and for what is left of a².
-abbrev pub isLonger : ℕ → ℕ → ℕ → ℕ → Bool
-isLonger K s w τ = leb ((4096 * 19 * 8193 * (K * w) + 4096 * 100000019 * w + 200000000 * (s * (K * w))) * 1000001) (4096 * 100000000 * 2 * 1000000 * (K * τ))
+abbrev pub is_longer : ℕ → ℕ → ℕ → ℕ → Bool
+is_longer K s w τ = leb ((4096 * 19 * 8193 * (K * w) + 4096 * 100000019 * w + 200000000 * (s * (K * w))) * 1000001) (4096 * 100000000 * 2 * 1000000 * (K * τ))
 
-abbrev pub isApart : ℕ → ℕ → ℕ → ℕ → ℕ → Bool
-isApart K s w τ ρ =
+abbrev pub is_apart : ℕ → ℕ → ℕ → ℕ → ℕ → Bool
+is_apart K s w τ ρ =
     leb ((4096 * 8193 * (K * w) + (16777216 * 4096 * w - 16777215 * (ρ * s)) + 4096 * 16777215 * (K * ρ)) * (1000001 * 1000001))
     (4096 * 16777215 * (1000000 * 1000000) * (K * τ))
 
@@ -27,18 +27,18 @@ rounded b B y P q h i j = omega arith
 
 -- a is at most a part of K of c, and at least one of 8193
 module _ (K s w a b c : ℕ) (large : 0 < K) (part : s ≤ 4096) (W : 0 < w) (near : a * K ≤ c) (far : c ≤ a * 8193) where
-  module _ (τ A C y : ℕ) (longer : T (isLonger K s w τ)) (C-most : Near 1 (C * w) (c * c)) (A-most : Near 1 (A * w) (a * a))
+  module _ (τ A C y : ℕ) (longer : T (is_longer K s w τ)) (C-most : Near 1 (C * w) (c * c)) (A-most : Near 1 (A * w) (a * a))
       (y-least : Near 3 (τ * (2 * c * a)) (y * w * w)) where
     -- c is longer than b
     linear : (B P : ℕ) → B + y ≤ P → Near 1 P (C + A) → Near 1 (b * b) (B * w) → 4096 * (b * b) + 2 * s * (c * a) ≤ 4096 * (c * c)
     unfolding IsLe
     linear B P h p u =
         let i = near_within {p = b * b} {q = B * w} 1 100000000 100000006 (le_by_compare (100000000 * 16777216 ^ 1) (100000006 * 16777215 ^ 1) tt) u in
-        let t : Near 2 (P * w) (c * c + a * a) = near-trans (near-eq refl (spread C A) (near_times w p)) (near_add C-most A-most) in
+        let t : Near 2 (P * w) (c * c + a * a) = near_trans (near_eq refl (spread C A) (near_times w p)) (near_add C-most A-most) in
         let j = near_within {p = P * w} {q = c * c + a * a} 2 100000000 100000012 (le_by_compare (100000000 * 16777216 ^ 2) (100000012 * 16777215 ^ 2) tt) t in
         let m = near_within {p = τ * (2 * c * a)} {q = y * w * w} 3 1000000 1000001
         (le_by_compare (1000000 * 16777216 ^ 3) (1000001 * 16777215 ^ 3) tt) y-least in
-        let r = rounded (b * b) (B * w) (y * w) (P * w) (c * c + a * a) i (add-under-w B P h) j in
+        let r = rounded (b * b) (B * w) (y * w) (P * w) (c * c + a * a) i (add_under_w B P h) j in
         let r' : (b * b * 100000000 + y * w * 100000000) * w ≤ (c * c + a * a) * 100000019 * w = mul-le-mul_right w r in
         let f : c * (c * w) ≤ a * 8193 * (c * w) = mul-le-mul_right (c * w) far in
         let n : a * K * (a * w) ≤ c * (a * w) = mul-le-mul_right (a * w) near in
@@ -48,8 +48,8 @@ module _ (K s w a b c : ℕ) (large : 0 < K) (part : s ≤ 4096) (W : 0 < w) (ne
         (K * (τ * (c * a))) (first r') (second f) (third n) (fourth m) (fifth g)) in
         le_of_mul-le-mul_right v (mul-pos W large)
       where
-        add-under-w : (B P : ℕ) → B + y ≤ P → B * w + y * w ≤ P * w
-        add-under-w B P h = let i = mul-le-mul_right w h in omega arith
+        add_under_w : (B P : ℕ) → B + y ≤ P → B * w + y * w ≤ P * w
+        add_under_w B P h = let i = mul-le-mul_right w h in omega arith
 
         spread : (C A : ℕ) → (C + A) * w ≡ C * w + A * w
         spread C A = omega arith
@@ -96,11 +96,11 @@ module _ (K s w a b c : ℕ) (large : 0 < K) (part : s ≤ 4096) (W : 0 < w) (ne
             let i = ap (λ (x : ℕ). x * d) e in
             let j = ap (λ (x : ℕ). x * (s * a)) e in
             let k = ap (λ (x : ℕ). x * (c * 4096)) e in
-            let m = square-back (b * 4096) d (omega arith) in
+            let m = square_back (b * 4096) d (omega arith) in
             omega arith
 
     -- the rounding errors of the sums, against y - y'
-    module _ (ρ y' : ℕ) (apart : T (isApart K s w τ ρ)) (y'-most : Near 3 (y' * w * w) (ρ * (2 * b * a))) where
+    module _ (ρ y' : ℕ) (apart : T (is_apart K s w τ ρ)) (y'-most : Near 3 (y' * w * w) (ρ * (2 * b * a))) where
       margin : b * 4096 + s * a ≤ c * 4096 → 2 * C + 2 * 16777216 * A + 16777215 * y' ≤ 16777215 * y
       unfolding IsLe
       margin l =
@@ -172,11 +172,11 @@ module _ (K s w a b c : ℕ) (large : 0 < K) (part : s ≤ 4096) (W : 0 < w) (ne
 -- ---- a product of a factor and two edges, and its quotient
 
 module _ (w τ c a e D y : ℕ) (W : 0 < w) where
-  pub product-least : Near 1 (2 * w * c) (e * w) → Near 1 (e * a) (D * w) → Near 1 (τ * D) (y * w) → Near 3 (τ * (2 * c * a)) (y * w * w)
-  product-least h i j =
-      let k : Near 1 (2 * c) e = near-cancel w W (near-eq first refl h) in
-      let l : Near 2 (2 * c * a) (D * w) = near-trans (near_times a k) i in
-      near-eq second refl (near-trans (near-eq refl third (near_times τ l)) (near_times w j))
+  pub product_least : Near 1 (2 * w * c) (e * w) → Near 1 (e * a) (D * w) → Near 1 (τ * D) (y * w) → Near 3 (τ * (2 * c * a)) (y * w * w)
+  product_least h i j =
+      let k : Near 1 (2 * c) e = near_cancel w W (near_eq first refl h) in
+      let l : Near 2 (2 * c * a) (D * w) = near_trans (near_times a k) i in
+      near_eq second refl (near_trans (near_eq refl third (near_times τ l)) (near_times w j))
     where
       first : 2 * w * c ≡ 2 * c * w
       first = omega arith
@@ -187,11 +187,11 @@ module _ (w τ c a e D y : ℕ) (W : 0 < w) where
       third : D * w * τ ≡ τ * D * w
       third = omega arith
 
-  pub product-most : Near 1 (e * w) (2 * w * c) → Near 1 (D * w) (e * a) → Near 1 (y * w) (τ * D) → Near 3 (y * w * w) (τ * (2 * c * a))
-  product-most h i j =
-      let k : Near 1 e (2 * c) = near-cancel w W (near-eq refl first h) in
-      let l : Near 2 (D * w) (2 * c * a) = near-trans i (near_times a k) in
-      near-trans (near-eq refl third (near_times w j)) (near-eq refl second (near_times τ l))
+  pub product_most : Near 1 (e * w) (2 * w * c) → Near 1 (D * w) (e * a) → Near 1 (y * w) (τ * D) → Near 3 (y * w * w) (τ * (2 * c * a))
+  product_most h i j =
+      let k : Near 1 e (2 * c) = near_cancel w W (near_eq refl first h) in
+      let l : Near 2 (D * w) (2 * c * a) = near_trans i (near_times a k) in
+      near_trans (near_eq refl third (near_times w j)) (near_eq refl second (near_times τ l))
     where
       first : 2 * w * c ≡ 2 * c * w
       first = omega arith
@@ -203,30 +203,30 @@ module _ (w τ c a e D y : ℕ) (W : 0 < w) where
       third = omega arith
 
 module _ (w τ D y g : ℕ) (positive : 0 < D) where
-  pub quotient-most : Near 1 (y * w) (τ * D) → Near 1 (g * D) (y * w) → g * 1000000 ≤ τ * 1000001
+  pub quotient_most : Near 1 (y * w) (τ * D) → Near 1 (g * D) (y * w) → g * 1000000 ≤ τ * 1000001
   unfolding IsLe
-  quotient-most h i = near_within {p = g} {q = τ} 2 1000000 1000001 (le_by_compare (1000000 * 16777216 ^ 2) (1000001 * 16777215 ^ 2) tt)
-      (near-cancel D positive (near-trans i h))
+  quotient_most h i = near_within {p = g} {q = τ} 2 1000000 1000001 (le_by_compare (1000000 * 16777216 ^ 2) (1000001 * 16777215 ^ 2) tt)
+      (near_cancel D positive (near_trans i h))
 
-  pub quotient-least : Near 1 (τ * D) (y * w) → Near 1 (y * w) (g * D) → τ * 1000000 ≤ g * 1000001
+  pub quotient_least : Near 1 (τ * D) (y * w) → Near 1 (y * w) (g * D) → τ * 1000000 ≤ g * 1000001
   unfolding IsLe
-  quotient-least h i = near_within {p = τ} {q = g} 2 1000000 1000001 (le_by_compare (1000000 * 16777216 ^ 2) (1000001 * 16777215 ^ 2) tt)
-      (near-cancel D positive (near-trans h i))
+  quotient_least h i = near_within {p = τ} {q = g} 2 1000000 1000001 (le_by_compare (1000000 * 16777216 ^ 2) (1000001 * 16777215 ^ 2) tt)
+      (near_cancel D positive (near_trans h i))
 
 -- ---- the angle opposite to a
 
 -- a factor f of 8192 leaves room for a part of k² between the two squares
-abbrev pub hasRoom : ℕ → ℕ → Bool
-hasRoom k f = leb ((8192 + 2 * (f * (k * k))) * (1000001 * 1000001)) (2 * 8192 * (k * k) * (1000000 * 1000000))
+abbrev pub has_room : ℕ → ℕ → Bool
+has_room k f = leb ((8192 + 2 * (f * (k * k))) * (1000001 * 1000001)) (2 * 8192 * (k * k) * (1000000 * 1000000))
 
-linear-parts : (X Z S G P F : ℕ) → X * 1000000 ≤ G * 1000001 → Z * 8192 * 1000000 ≤ 2 * F * 1000001 → 2 * P * 1000000 ≤ S * 1000001
+linear_parts : (X Z S G P F : ℕ) → X * 1000000 ≤ G * 1000001 → Z * 8192 * 1000000 ≤ 2 * F * 1000001 → 2 * P * 1000000 ≤ S * 1000001
     → (8192 * G + 2 * F) * (1000001 * 1000001) ≤ 2 * 8192 * P * (1000000 * 1000000) → X + Z ≤ S
-linear-parts X Z S G P F h i j k = omega arith
+linear_parts X Z S G P F h i j k = omega arith
 
 module _ (N f q g x z t s : ℕ) (some : 0 < N) (room : (8192 + 2 * (f * N)) * (1000001 * 1000001) ≤ 2 * 8192 * N * (1000000 * 1000000)) where
-  parts-under : 2 * g ≤ q → q * 1000000 ≤ s * 1000001 → x * 1000000 ≤ t * 1000001 → z * 8192 * 1000000 ≤ f * (2 * g) * 1000001 → t * N ≤ g → x + z ≤ s
-  parts-under h i j k l = le_of_mul-le-mul_right
-      (gathered (linear-parts (x * N) (z * N) (s * N) g (N * g) (f * N * g) (first j l) (second k) (third h i) (fourth (mul-le-mul_right g room)))) some
+  parts_under : 2 * g ≤ q → q * 1000000 ≤ s * 1000001 → x * 1000000 ≤ t * 1000001 → z * 8192 * 1000000 ≤ f * (2 * g) * 1000001 → t * N ≤ g → x + z ≤ s
+  parts_under h i j k l = le_of_mul-le-mul_right
+      (gathered (linear_parts (x * N) (z * N) (s * N) g (N * g) (f * N * g) (first j l) (second k) (third h i) (fourth (mul-le-mul_right g room)))) some
     where
       first : x * 1000000 ≤ t * 1000001 → t * N ≤ g → x * N * 1000000 ≤ g * 1000001
       first j l = let m = mul-le-mul_right N j in omega arith
@@ -245,7 +245,7 @@ module _ (N f q g x z t s : ℕ) (some : 0 < N) (room : (8192 + 2 * (f * N)) * (
       gathered m = omega arith
 
 -- its cosine is at least a factor f of 8192, where v units are 2 ^ -13
-module _ (w v a b c k f : ℕ) (U : 0 < v) (W : w ≡ 8192 * v) (some : 0 < k) (room : T (hasRoom k f)) (near : a * k ≤ b) (near' : a * k ≤ c) where
+module _ (w v a b c k f : ℕ) (U : 0 < v) (W : w ≡ 8192 * v) (some : 0 < k) (room : T (has_room k f)) (near : a * k ≤ b) (near' : a * k ≤ c) where
   squares : 2 * b * c ≤ b * b + c * c
   squares = go (dec_le b c)
     where
@@ -259,18 +259,18 @@ module _ (w v a b c k f : ℕ) (U : 0 < v) (W : w ≡ 8192 * v) (some : 0 < k) (
           let h = subst (λ (x : ℕ). 2 * c * x ≤ c * c + x * x) (sym e) (from c (b - c)) in
           omega arith
 
-  pub under-sum : (A B C S y : ℕ) → Near 1 (A * w) (a * a) → Near 1 (b * b) (B * w) → Near 1 (c * c) (C * w) → Near 1 (B + C) S
+  pub under_sum : (A B C S y : ℕ) → Near 1 (A * w) (a * a) → Near 1 (b * b) (B * w) → Near 1 (c * c) (C * w) → Near 1 (B + C) S
       → Near 3 (y * w * w) (f * v * (2 * b * c)) → A + y ≤ S
   unfolding IsLe
-  under-sum A B C S y h i j m' l =
+  under_sum A B C S y h i j m' l =
       let s : Near 1 (b * b + c * c) (B * w + C * w) = near_add i j in
-      let t : Near 2 (b * b + c * c) (S * w) = near-trans s (near-eq (spread B C) refl (near_times w m')) in
+      let t : Near 2 (b * b + c * c) (S * w) = near_trans s (near_eq (spread B C) refl (near_times w m')) in
       let m = near_within {p = b * b + c * c} {q = S * w} 2 1000000 1000001 (le_by_compare (1000000 * 16777216 ^ 2) (1000001 * 16777215 ^ 2) tt) t in
       let n = near_within {p = A * w} {q = a * a} 1 1000000 1000001 (le_by_compare (1000000 * 16777216 ^ 1) (1000001 * 16777215 ^ 1) tt) h in
-      let o : Near 3 (y * w * 8192) (f * (2 * b * c)) = near-cancel v U (near-eq scaled moved l) in
+      let o : Near 3 (y * w * 8192) (f * (2 * b * c)) = near_cancel v U (near_eq scaled moved l) in
       let p = near_within {p = y * w * 8192} {q = f * (2 * b * c)} 3 1000000 1000001 (le_by_compare (1000000 * 16777216 ^ 3) (1000001 * 16777215 ^ 3) tt) o in
       let q : a * k * (a * k) ≤ b * c = mul-le-mul near near' in
-      let e = parts-under (k * k) f (b * b + c * c) (b * c) (A * w) (y * w) (a * a) (S * w) (mul-pos some some)
+      let e = parts_under (k * k) f (b * b + c * c) (b * c) (A * w) (y * w) (a * a) (S * w) (mul-pos some some)
       (leb→le _ (2 * 8192 * (k * k) * (1000000 * 1000000)) room) (subst (λ (x : ℕ). x ≤ b * b + c * c) doubled squares) m n
       (subst (λ (x : ℕ). y * w * 8192 * 1000000 ≤ f * x * 1000001) doubled p) (subst (λ (x : ℕ). x ≤ b * c) square q) in
       le_of_mul-le-mul_right (gathered e) (omega arith)
@@ -300,15 +300,15 @@ by_parts x y h = omega arith
 
 -- i and j are roots of X and Y
 module _ (w i j X Y Z : ℕ) (W : 0 < w) where
-  pub edges-near : (K k : ℕ) → K * K * 1000001 ≤ k * 1000000 → Near 3 (i * i) (X * w) → Near 1 (X * (k * w)) (Z * w) → Z ≤ Y → Near 3 (Y * w) (j * j)
+  pub edges_near : (K k : ℕ) → K * K * 1000001 ≤ k * 1000000 → Near 3 (i * i) (X * w) → Near 1 (X * (k * w)) (Z * w) → Z ≤ Y → Near 3 (Y * w) (j * j)
       → i * K ≤ j
   unfolding IsLe
-  edges-near K k f r p l q =
-      let s : Near 7 (i * i * k) (j * j) = near-trans (near-trans (near-trans (near-eq refl moved (near_times k r)) p) (near_le (mul-le-mul_right w l))) q in
+  edges_near K k f r p l q =
+      let s : Near 7 (i * i * k) (j * j) = near_trans (near_trans (near_trans (near_eq refl moved (near_times k r)) p) (near_le (mul-le-mul_right w l))) q in
       let t = near_within {p = i * i * k} {q = j * j} 7 1000000 1000001 (le_by_compare (1000000 * 16777216 ^ 7) (1000001 * 16777215 ^ 7) tt) s in
       let u : i * i * (K * K * 1000001) ≤ i * i * (k * 1000000) = mul-le-mul_left (i * i) f in
       let g : i * K * (i * K) * 1000001 ≤ j * j * 1000001 = whole t u in
-      square-back (i * K) j (le_of_mul-le-mul_right g (omega arith))
+      square_back (i * K) j (le_of_mul-le-mul_right g (omega arith))
     where
       moved : X * w * k ≡ X * (k * w)
       moved = omega arith
@@ -316,13 +316,13 @@ module _ (w i j X Y Z : ℕ) (W : 0 < w) where
       whole : i * i * k * 1000000 ≤ j * j * 1000001 → i * i * (K * K * 1000001) ≤ i * i * (k * 1000000) → i * K * (i * K) * 1000001 ≤ j * j * 1000001
       whole t u = omega arith
 
-  pub edges-far : Near 3 (j * j) (Y * w) → Y ≤ Z → Near 1 (Z * w) (X * (67108864 * w)) → Near 3 (X * w) (i * i) → j ≤ i * 8193
+  pub edges_far : Near 3 (j * j) (Y * w) → Y ≤ Z → Near 1 (Z * w) (X * (67108864 * w)) → Near 3 (X * w) (i * i) → j ≤ i * 8193
   unfolding IsLe
-  edges-far q l p r =
-      let s : Near 7 (j * j) (i * i * 67108864) = near-trans (near-trans (near-trans q (near_le (mul-le-mul_right w l))) (near-eq refl moved p))
+  edges_far q l p r =
+      let s : Near 7 (j * j) (i * i * 67108864) = near_trans (near_trans (near_trans q (near_le (mul-le-mul_right w l))) (near_eq refl moved p))
       (near_times 67108864 r) in
       let t = near_within {p = j * j} {q = i * i * 67108864} 7 1000000 1000001 (le_by_compare (1000000 * 16777216 ^ 7) (1000001 * 16777215 ^ 7) tt) s in
-      square-back j (i * 8193) (subst (λ (x : ℕ). j * j ≤ x) regrouped (by_parts (j * j) (i * i) t))
+      square_back j (i * 8193) (subst (λ (x : ℕ). j * j ≤ x) regrouped (by_parts (j * j) (i * i) t))
     where
       moved : X * (67108864 * w) ≡ X * w * 67108864
       moved = omega arith

@@ -4,7 +4,7 @@ use lib.Dec.{T}
 use lib.Ieee.{neg, add, sub, mul, div, lt, le, is_nan, of_bits}
 use Rattle.numbers.specs.Rounded.{f32}
 use Rattle.numbers.specs.Root.{root}
-use Rattle.needle_angles.proofs.LeftOver.{Step, step, areSteps, last_of, areAll}
+use Rattle.needle_angles.proofs.LeftOver.{Step, step, are_steps, last_of, are_all}
 
 -- edges 10 times as long, an angle of 0.21
 pub first : List Step
@@ -22,9 +22,9 @@ first =
     step 211 0x3dd20000 0x3dd1ffcc 0x3b070d75 0x3b070d53 0x3fb545ae 0x3fc95361 ∷
     []
 
-pub first-all : T (areAll 10 (f32 0x3e570a3d) 0x3f7a7000 (f32 0x3fbbe819) first)
-unfolding first step areSteps last_of root neg add sub mul div lt le is_nan of_bits
-first-all = tt
+pub first_all : T (are_all 10 (f32 0x3e570a3d) 0x3f7a7000 (f32 0x3fbbe819) first)
+unfolding first step are_steps last_of root neg add sub mul div lt le is_nan of_bits
+first_all = tt
 
 -- edges 16 times as long, an angle of 0.13
 pub second : List Step
@@ -50,9 +50,9 @@ second =
     step 130 0x3d830000 0x3d82ffdf 0x3a80326e 0x3a80324e 0x3fbb5f1e 0x3fc92fe7 ∷
     []
 
-pub second-all : T (areAll 16 (f32 0x3e051eb8) 0x3f7de000 (f32 0x3fc0ddf9) second)
-unfolding second step areSteps last_of root neg add sub mul div lt le is_nan of_bits
-second-all = tt
+pub second_all : T (are_all 16 (f32 0x3e051eb8) 0x3f7de000 (f32 0x3fc0ddf9) second)
+unfolding second step are_steps last_of root neg add sub mul div lt le is_nan of_bits
+second_all = tt
 
 -- edges 32 times as long, an angle of 0.07
 pub third : List Step
@@ -97,9 +97,9 @@ third =
     step 70 0x3d0a0000 0x3d09ffde 0x3b000d38 0x3b000d18 0x3fc17e5f 0x3fc94fe1 ∷
     []
 
-pub third-all : T (areAll 32 (f32 0x3d8f5c29) 0x3f7f6000 (f32 0x3fc4bf94) third)
-unfolding third step areSteps last_of root neg add sub mul div lt le is_nan of_bits
-third-all = tt
+pub third_all : T (are_all 32 (f32 0x3d8f5c29) 0x3f7f6000 (f32 0x3fc4bf94) third)
+unfolding third step are_steps last_of root neg add sub mul div lt le is_nan of_bits
+third_all = tt
 
 -- edges 64 times as long, an angle of 0.05
 pub fourth : List Step
@@ -155,9 +155,9 @@ fourth =
     step 64 0x3cc80000 0x3cc7ffce 0x3c0807a7 0x3c080785 0x3fc40f6d 0x3fca1fea ∷
     []
 
-pub fourth-all : T (areAll 64 (f32 0x3d4ccccd) 0x3f7fb000 (f32 0x3fc5efc0) fourth)
-unfolding fourth step areSteps last_of root neg add sub mul div lt le is_nan of_bits
-fourth-all = tt
+pub fourth_all : T (are_all 64 (f32 0x3d4ccccd) 0x3f7fb000 (f32 0x3fc5efc0) fourth)
+unfolding fourth step are_steps last_of root neg add sub mul div lt le is_nan of_bits
+fourth_all = tt
 
 -- edges 128 times as long, an angle of 0.04
 pub fifth : List Step
@@ -222,6 +222,6 @@ fifth =
     step 60 0x3ca00000 0x3c9fffd8 0x3c3804a9 0x3c38047b 0x3fc48789 0x3fca7fe5 ∷
     []
 
-pub fifth-all : T (areAll 128 (f32 0x3d23d70a) 0x3f7fd000 (f32 0x3fc68fcd) fifth)
-unfolding fifth step areSteps last_of root neg add sub mul div lt le is_nan of_bits
-fifth-all = tt
+pub fifth_all : T (are_all 128 (f32 0x3d23d70a) 0x3f7fd000 (f32 0x3fc68fcd) fifth)
+unfolding fifth step are_steps last_of root neg add sub mul div lt le is_nan of_bits
+fifth_all = tt

@@ -1,7 +1,7 @@
 // Needles: triangles with one edge much shorter than the other two. Their least angle is small, however the points are
 // ordered, and this bounds it by the lengths alone: no angle is measured.
 ghost use Rattle.std.specs.Prelude.{◌≡◌};
-ghost use Rattle.needle_angles.specs.Inner.NeedleAngles.{NeedleAngle, NeedleClass, angleOf};
+ghost use Rattle.needle_angles.specs.Inner.NeedleAngles.{NeedleAngle, NeedleClass, angle_of};
 
 // The class of needles, from the squares of the lengths: one edge's from `least` to `most`, the other two edges' from
 // `short` to `long`. It is 10, 16, 32, 64 or 128, and those are at least so many times as long; or 0, with edges less
@@ -43,7 +43,7 @@ pub fn needle_class(least: f32, most: f32, short: f32, long: f32) -> u32
 // with the rounding errors of two cosines and of their arc cosines, whose bounds are not close: so it is 0.05 where the
 // true angle is a 64th.
 fn class_angle(class: u32) -> f32
-    ensures { result ≡ angleOf class }
+    ensures { result ≡ angle_of class }
 {
     if class == 10 {
         return 0.21;

@@ -6,11 +6,11 @@ ghost use Rattle.std.specs.Prelude.{◌≡◌, true, false, not, ◌&&◌, ℕ, 
 ghost use Rattle.lists.specs.Members.{Below};
 ghost use Rattle.grid.specs.Inner.Index.{CellsIndexed};
 ghost use Rattle.sorting.specs.Inner.Rising.{Rising};
-ghost use Rattle.points.specs.Points.{pointAt};
+ghost use Rattle.points.specs.Points.{point_at_lem};
 ghost use Rattle.vector.specs.Inner.Numbers.{Finite};
-ghost use Rattle.regions.specs.Inner.Regions.{neighborsAt, usedAt, leastAt, radiiAt};
-ghost use Rattle.neighbor_squares.specs.Inner.Squares.{isNeighborCell, withinLimit, tenthOf, withSquare};
-ghost use Rattle.neighbor_squares.specs.Inner.Squares.{leastSquares};
+ghost use Rattle.regions.specs.Inner.Regions.{neighbors_at, used_at, least_at_lem, radii_at};
+ghost use Rattle.neighbor_squares.specs.Inner.Squares.{is_neighbor_cell, within_limit, tenth_of, with_square};
+ghost use Rattle.neighbor_squares.specs.Inner.Squares.{least_squares};
 ghost use Rattle.neighbor_squares.specs.Inner.Squares.{Decided};
 ghost use Rattle.neighbor_squares.specs.Inner.Squares.{Prepared, LookedForTen, SquaresFound};
 
@@ -37,8 +37,8 @@ pub struct Guess {
 
 // Whether point j is another neighbour of point i.
 fn is_other(w: &[u32], n: usize, around: Around, i: usize, j: usize) -> bool
-    requires { (j < n) × (n ≤ 4096) × (neighborsAt n ≤ length w.now) }
-    ensures { result ≡ (not (eqb j i) && isNeighborCell around w.now n j) }
+    requires { (j < n) × (n ≤ 4096) × (neighbors_at n ≤ length w.now) }
+    ensures { result ≡ (not (eqb j i) && is_neighbor_cell around w.now n j) }
 {
     if j == i {
         return false;
@@ -61,15 +61,15 @@ fn look_at(
     f: &mut [f32],
     kept: usize,
 ) -> usize
-    requires { (i < n) × (j < n) × (n ≤ 4096) × (3 * n ≤ length points.now) × (neighborsAt n ≤ length w.now)
-        × (radiiAt n ≤ length f.old) × (kept ≤ 10)
-        × Rising (take kept (drop (leastAt n) f.old)) }
-    ensures { (take result (drop (leastAt n) f.new)
-        ≡ withSquare (withinLimit limit (isNeighborCell around w.now n) points.now i)
+    requires { (i < n) × (j < n) × (n ≤ 4096) × (3 * n ≤ length points.now) × (neighbors_at n ≤ length w.now)
+        × (radii_at n ≤ length f.old) × (kept ≤ 10)
+        × Rising (take kept (drop (least_at n) f.old)) }
+    ensures { (take result (drop (least_at n) f.new)
+        ≡ with_square (within_limit limit (is_neighbor_cell around w.now n) points.now i)
         points.now i
-        j (take kept (drop (leastAt n) f.old)))
+        j (take kept (drop (least_at n) f.old)))
         × (result ≤ 10)
-        × (take (leastAt n) f.new ≡ take (leastAt n) f.old) }
+        × (take (least_at n) f.new ≡ take (least_at n) f.old) }
 {
     let p = points::point_at(points, j);
     let q = points::point_at(points, i);
@@ -95,15 +95,15 @@ fn least_squares(
     found: usize,
     f: &mut [f32],
 ) -> usize
-    requires { (i < n) × (n ≤ 4096) × (found ≤ n) × (3 * n ≤ length points.now) × (usedAt n ≤ length w.now)
-        × (radiiAt n ≤ length f.old) × Below n (take found (drop (neighborsAt n) w.now))
-        × ((j : ℕ) → j < n → Finite (pointAt points.now j)) }
-    ensures { (take result (drop (leastAt n) f.new)
-        ≡ leastSquares (withinLimit limit (isNeighborCell around w.now n) points.now i)
+    requires { (i < n) × (n ≤ 4096) × (found ≤ n) × (3 * n ≤ length points.now) × (used_at n ≤ length w.now)
+        × (radii_at n ≤ length f.old) × Below n (take found (drop (neighbors_at n) w.now))
+        × ((j : ℕ) → j < n → Finite (point_at points.now j)) }
+    ensures { (take result (drop (least_at n) f.new)
+        ≡ least_squares (within_limit limit (is_neighbor_cell around w.now n) points.now i)
         points.now
-        i (take found (drop (neighborsAt n) w.now)))
+        i (take found (drop (neighbors_at n) w.now)))
         × (result ≤ 10)
-        × (take (leastAt n) f.new ≡ take (leastAt n) f.old) }
+        × (take (least_at n) f.new ≡ take (least_at n) f.old) }
 {
     let mut kept: usize = 0;
     let mut k: usize = 0;
@@ -147,8 +147,8 @@ fn look_within(
 
 // Where there are ten squares the tenth, beyond which none counts, and no limit else.
 fn tenth(f: &[f32], n: usize, kept: usize) -> f32
-    requires { (n ≤ 4096) × (radiiAt n ≤ length f.now) }
-    ensures { result ≡ tenthOf f.now n kept }
+    requires { (n ≤ 4096) × (radii_at n ≤ length f.now) }
+    ensures { result ≡ tenth_of f.now n kept }
 {
     if kept == 10 { f[n + 9] } else { 1.0 / 0.0 }
 }
@@ -169,12 +169,12 @@ fn look_everywhere(
     w: &[u32],
     f: &mut [f32],
 ) -> usize
-    requires { (i < n) × (n ≤ 4096) × (3 * n ≤ length points.now) × (neighborsAt n ≤ length w.now)
-        × (radiiAt n ≤ length f.old)
-        × ((j : ℕ) → j < n → Finite (pointAt points.now j)) }
+    requires { (i < n) × (n ≤ 4096) × (3 * n ≤ length points.now) × (neighbors_at n ≤ length w.now)
+        × (radii_at n ≤ length f.old)
+        × ((j : ℕ) → j < n → Finite (point_at points.now j)) }
     ensures { Decided around points.now n i w.now f.new result
         × (result ≤ 10)
-        × (take (leastAt n) f.new ≡ take (leastAt n) f.old) }
+        × (take (least_at n) f.new ≡ take (least_at n) f.old) }
 {
     let mut kept: usize = 0;
     let mut j: usize = 0;

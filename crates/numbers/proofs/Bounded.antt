@@ -1,5 +1,5 @@
--- Where v bounds x and w bounds y, the sum of v and w bounds the sum and the difference of x and y (`add-bounded`,
--- `sub-bounded`), and their product the product (`mul-bounded`), all of them f32. The operands of a finite result are
+-- Where v bounds x and w bounds y, the sum of v and w bounds the sum and the difference of x and y (`add_bounded`,
+-- `sub_bounded`), and their product the product (`mul_bounded`), all of them f32. The operands of a finite result are
 -- finite. Assumes nothing.
 use mathlib.Core.Path.{◌≡◌, refl, sym, ap, ◌∙◌, subst}
 use Prim.Native.Nat.{ℕ, ◌+◌, ◌*◌, ◌≤◌, ◌<◌}
@@ -14,81 +14,81 @@ use lib.Ieee.Scale.{finite}
 use lib.Ieee.Positive.{num, den, den_pos}
 use Rattle.numbers.specs.Rounded.{◌⊕◌, ◌⊖◌, ◌⊗◌}
 use Rattle.numbers.specs.Root.{root}
-use Rattle.numbers.proofs.OrderLaws.{plus, minus, le→side, of-finite, le_trans}
+use Rattle.numbers.proofs.OrderLaws.{plus, minus, le→side, of_finite, le_trans}
 use Rattle.numbers.specs.Inner.Bounds.{unsigned, Bounded}
-use Rattle.numbers.proofs.RoundedOrder.{Rounds, above, under, round-neg, round-unsigned, neg-le, rounds-le}
-use Rattle.numbers.proofs.SumOrder.{rounds-add, add-monotone, neg-finite}
+use Rattle.numbers.proofs.RoundedOrder.{Rounds, above, under, round_neg, round_unsigned, neg_le, rounds_le}
+use Rattle.numbers.proofs.SumOrder.{rounds_add, add_monotone, neg_finite}
 
-pub neg-neg : (x : Float) → neg (neg x) ≡ x
+pub neg_neg : (x : Float) → neg (neg x) ≡ x
 unfolding neg
-neg-neg nan = refl
-neg-neg (inf true) = refl
-neg-neg (inf false) = refl
-neg-neg (fin true m e) = refl
-neg-neg (fin false m e) = refl
+neg_neg nan = refl
+neg_neg (inf true) = refl
+neg_neg (inf false) = refl
+neg_neg (fin true m e) = refl
+neg_neg (fin false m e) = refl
 
-pub neg-bounded : {x v : Float} → Bounded x v → Bounded (neg x) v
-neg-bounded {x} {v} b = record {
-  upper = subst (λ (z : Float). T (le (neg x) z)) (neg-neg v) (neg-le (neg v) x b.lower);
-  lower = neg-le x v b.upper;
+pub neg_bounded : {x v : Float} → Bounded x v → Bounded (neg x) v
+neg_bounded {x} {v} b = record {
+  upper = subst (λ (z : Float). T (le (neg x) z)) (neg_neg v) (neg_le (neg v) x b.lower);
+  lower = neg_le x v b.upper;
 }
 
-pub bounded-finite : (x v : Float) → T (finite v) → Bounded x v → T (finite x)
+pub bounded_finite : (x v : Float) → T (finite v) → Bounded x v → T (finite x)
 unfolding le neg
-bounded-finite x nan f b = absurd f
-bounded-finite x (inf s) f b = absurd f
-bounded-finite nan (fin s m e) f b = b.upper
-bounded-finite (inf true) (fin s m e) f b = b.lower
-bounded-finite (inf false) (fin s m e) f b = b.upper
-bounded-finite (fin t n d) (fin s m e) f b = tt
+bounded_finite x nan f b = absurd f
+bounded_finite x (inf s) f b = absurd f
+bounded_finite nan (fin s m e) f b = b.upper
+bounded_finite (inf true) (fin s m e) f b = b.lower
+bounded_finite (inf false) (fin s m e) f b = b.upper
+bounded_finite (fin t n d) (fin s m e) f b = tt
 
 -- ---- a sum
 
-rounds-neg : {x : Float} {p n c : ℕ} → Rounds x p n c → Rounds (neg x) n p c
-rounds-neg {x} {p} {n} {c} (above a e r) = under a e (ap neg r ∙ sym (round-neg binary32 false a c))
-rounds-neg {x} {p} {n} {c} (under a e r) = above a e (ap neg r ∙ sym (round-neg binary32 true a c))
+rounds_neg : {x : Float} {p n c : ℕ} → Rounds x p n c → Rounds (neg x) n p c
+rounds_neg {x} {p} {n} {c} (above a e r) = under a e (ap neg r ∙ sym (round_neg binary32 false a c))
+rounds_neg {x} {p} {n} {c} (under a e r) = above a e (ap neg r ∙ sym (round_neg binary32 true a c))
 
 -- the sum of the opposites; a zero may have the other sign
-rounds-opposite : (v w : Float) → T (finite v) → T (finite w)
+rounds_opposite : (v w : Float) → T (finite v) → T (finite w)
     → Rounds (neg v ⊕ neg w) (minus v * den w + minus w * den v) (plus v * den w + plus w * den v) (den v * den w)
 unfolding neg
-rounds-opposite = of-finite (λ v w. Rounds (neg v ⊕ neg w) (minus v * den w + minus w * den v) (plus v * den w + plus w * den v) (den v * den w)) go
+rounds_opposite = of_finite (λ v w. Rounds (neg v ⊕ neg w) (minus v * den w + minus w * den v) (plus v * den w + plus w * den v) (den v * den w)) go
   where
     go : (s : Bool) (m : ℕ) (e : ℤ) (t : Bool) (n : ℕ) (d : ℤ)
         → Rounds (fin (not s) m e ⊕ fin (not t) n d) (minus (fin s m e) * down d + minus (fin t n d) * down e)
         (plus (fin s m e) * down d + plus (fin t n d) * down e) (down e * down d)
-    go true m e true n d = rounds-add (fin false m e) (fin false n d) tt tt
-    go true m e false n d = rounds-add (fin false m e) (fin true n d) tt tt
-    go false m e true n d = rounds-add (fin true m e) (fin false n d) tt tt
-    go false m e false n d = rounds-add (fin true m e) (fin true n d) tt tt
+    go true m e true n d = rounds_add (fin false m e) (fin false n d) tt tt
+    go true m e false n d = rounds_add (fin false m e) (fin true n d) tt tt
+    go false m e true n d = rounds_add (fin true m e) (fin false n d) tt tt
+    go false m e false n d = rounds_add (fin true m e) (fin true n d) tt tt
 
-neg-add-le : (v w : Float) → T (finite v) → T (finite w) → T (le (neg (v ⊕ w)) (neg v ⊕ neg w))
-neg-add-le v w f g = let C = mul-pos (den_pos v) (den_pos w) in rounds-le C C (rounds-neg (rounds-add v w f g)) (rounds-opposite v w f g) (omega arith)
+neg_add_le : (v w : Float) → T (finite v) → T (finite w) → T (le (neg (v ⊕ w)) (neg v ⊕ neg w))
+neg_add_le v w f g = let C = mul-pos (den_pos v) (den_pos w) in rounds_le C C (rounds_neg (rounds_add v w f g)) (rounds_opposite v w f g) (omega arith)
 
-pub add-bounded : (x y v w : Float) → T (finite v) → T (finite w) → Bounded x v → Bounded y w → Bounded (x ⊕ y) (v ⊕ w)
-add-bounded x y v w f g b c =
-    let k = bounded-finite x v f b in
-    let l = bounded-finite y w g c in
+pub add_bounded : (x y v w : Float) → T (finite v) → T (finite w) → Bounded x v → Bounded y w → Bounded (x ⊕ y) (v ⊕ w)
+add_bounded x y v w f g b c =
+    let k = bounded_finite x v f b in
+    let l = bounded_finite y w g c in
     record {
-      upper = add-monotone x v y w k f l g b.upper c.upper;
-      lower = le_trans (neg (v ⊕ w)) (neg v ⊕ neg w) (x ⊕ y) (neg-add-le v w f g)
-          (add-monotone (neg v) x (neg w) y (neg-finite v f) k (neg-finite w g) l b.lower c.lower);
+      upper = add_monotone x v y w k f l g b.upper c.upper;
+      lower = le_trans (neg (v ⊕ w)) (neg v ⊕ neg w) (x ⊕ y) (neg_add_le v w f g)
+          (add_monotone (neg v) x (neg w) y (neg_finite v f) k (neg_finite w g) l b.lower c.lower);
     }
 
-pub sub-bounded : (x y v w : Float) → T (finite v) → T (finite w) → Bounded x v → Bounded y w → Bounded (x ⊖ y) (v ⊕ w)
+pub sub_bounded : (x y v w : Float) → T (finite v) → T (finite w) → Bounded x v → Bounded y w → Bounded (x ⊖ y) (v ⊕ w)
 unfolding sub
-sub-bounded x y v w f g b c = add-bounded x (neg y) v w f g b (neg-bounded c)
+sub_bounded x y v w f g b c = add_bounded x (neg y) v w f g b (neg_bounded c)
 
 -- ---- a product
 
-round-signed : (s : Bool) (a c : ℕ) → Rounds (round binary32 s a c) (cond s 0 a) (cond s a 0) c
-round-signed true a c = let z : a ≡ 0 + a = omega arith in under a z refl
-round-signed false a c = let z : a ≡ 0 + a = omega arith in above a z refl
+round_signed : (s : Bool) (a c : ℕ) → Rounds (round binary32 s a c) (cond s 0 a) (cond s a 0) c
+round_signed true a c = let z : a ≡ 0 + a = omega arith in under a z refl
+round_signed false a c = let z : a ≡ 0 + a = omega arith in above a z refl
 
-round-bounded : (s : Bool) (a c b d : ℕ) → 0 < c → 0 < d → a * d ≤ b * c → Bounded (round binary32 s a c) (round binary32 false b d)
-round-bounded s a c b d C D h = record {
-  upper = rounds-le C D (round-signed s a c) (round-signed false b d) (one s);
-  lower = rounds-le D C (rounds-neg (round-signed false b d)) (round-signed s a c) (other s);
+round_bounded : (s : Bool) (a c b d : ℕ) → 0 < c → 0 < d → a * d ≤ b * c → Bounded (round binary32 s a c) (round binary32 false b d)
+round_bounded s a c b d C D h = record {
+  upper = rounds_le C D (round_signed s a c) (round_signed false b d) (one s);
+  lower = rounds_le D C (rounds_neg (round_signed false b d)) (round_signed s a c) (other s);
 }
   where
     one : (s : Bool) → cond s 0 a * d + 0 * c ≤ b * c + cond s a 0 * d
@@ -104,92 +104,92 @@ sign nan = false
 sign (inf s) = s
 sign (fin s m e) = s
 
-mul-signed : (x y : Float) → T (finite x) → T (finite y) → x ⊗ y ≡ round binary32 (unlike (sign x) (sign y)) (num x * num y) (den x * den y)
+mul_signed : (x y : Float) → T (finite x) → T (finite y) → x ⊗ y ≡ round binary32 (unlike (sign x) (sign y)) (num x * num y) (den x * den y)
 unfolding mul
-mul-signed = of-finite (λ x y. x ⊗ y ≡ round binary32 (unlike (sign x) (sign y)) (num x * num y) (den x * den y)) (λ s m e t n d. refl)
+mul_signed = of_finite (λ x y. x ⊗ y ≡ round binary32 (unlike (sign x) (sign y)) (num x * num y) (den x * den y)) (λ s m e t n d. refl)
 
-unlike-self : (s : Bool) → unlike s s ≡ false
-unlike-self true = refl
-unlike-self false = refl
+unlike_self : (s : Bool) → unlike s s ≡ false
+unlike_self true = refl
+unlike_self false = refl
 
-unsigned-sign : (x : Float) → T (unsigned x) → sign x ≡ false
-unsigned-sign nan u = absurd u
-unsigned-sign (inf true) u = absurd u
-unsigned-sign (inf false) u = refl
-unsigned-sign (fin true m e) u = absurd u
-unsigned-sign (fin false m e) u = refl
+unsigned_sign : (x : Float) → T (unsigned x) → sign x ≡ false
+unsigned_sign nan u = absurd u
+unsigned_sign (inf true) u = absurd u
+unsigned_sign (inf false) u = refl
+unsigned_sign (fin true m e) u = absurd u
+unsigned_sign (fin false m e) u = refl
 
-pub mul-unsigned : (x y : Float) → T (finite x) → T (finite y) → T (unsigned x) → T (unsigned y) → T (unsigned (x ⊗ y))
-mul-unsigned x y f g u v = rw (mul-signed x y f g, unsigned-sign x u, unsigned-sign y v) (round-unsigned binary32 (num x * num y) (den x * den y))
+pub mul_unsigned : (x y : Float) → T (finite x) → T (finite y) → T (unsigned x) → T (unsigned y) → T (unsigned (x ⊗ y))
+mul_unsigned x y f g u v = rw (mul_signed x y f g, unsigned_sign x u, unsigned_sign y v) (round_unsigned binary32 (num x * num y) (den x * den y))
 
-bounded-size : (x v : Float) → T (finite x) → T (finite v) → T (unsigned v) → Bounded x v → num x * den v ≤ num v * den x
+bounded_size : (x v : Float) → T (finite x) → T (finite v) → T (unsigned v) → Bounded x v → num x * den v ≤ num v * den x
 unfolding neg
-bounded-size = of-finite (λ x v. T (unsigned v) → Bounded x v → num x * den v ≤ num v * den x) go
+bounded_size = of_finite (λ x v. T (unsigned v) → Bounded x v → num x * den v ≤ num v * den x) go
   where
     go : (s : Bool) (m : ℕ) (e : ℤ) (t : Bool) (n : ℕ) (d : ℤ) → T (not t) → Bounded (fin s m e) (fin t n d) → m * up e * down d ≤ n * up d * down e
     go s m e true n d u b = absurd u
     go true m e false n d u b = omega (arith, le→side (fin true n d) (fin true m e) tt tt b.lower)
     go false m e false n d u b = omega (arith, le→side (fin false m e) (fin false n d) tt tt b.upper)
 
-sizes-bounded : (s : Bool) (x y v w : Float) → num x * den v ≤ num v * den x → num y * den w ≤ num w * den y
+sizes_bounded : (s : Bool) (x y v w : Float) → num x * den v ≤ num v * den x → num y * den w ≤ num w * den y
     → Bounded (round binary32 s (num x * num y) (den x * den y)) (round binary32 false (num v * num w) (den v * den w))
-sizes-bounded s x y v w h k =
-    round-bounded s (num x * num y) (den x * den y) (num v * num w) (den v * den w) (mul-pos (den_pos x) (den_pos y)) (mul-pos (den_pos v) (den_pos w))
+sizes_bounded s x y v w h k =
+    round_bounded s (num x * num y) (den x * den y) (num v * num w) (den v * den w) (mul-pos (den_pos x) (den_pos y)) (mul-pos (den_pos v) (den_pos w))
     (rw (mul-mul-mul_comm (num x) (num y) (den v) (den w), mul-mul-mul_comm (num v) (num w) (den x) (den y)) (mul-le-mul h k))
 
-pub mul-bounded : (x y v w : Float) → T (finite v) → T (finite w) → T (unsigned v) → T (unsigned w) → Bounded x v → Bounded y w → Bounded (x ⊗ y) (v ⊗ w)
-mul-bounded x y v w f g i j b c =
-    let k = bounded-finite x v f b in
-    let l = bounded-finite y w g c in
-    rw (mul-signed x y k l, mul-signed v w f g, unsigned-sign v i, unsigned-sign w j)
-    (sizes-bounded (unlike (sign x) (sign y)) x y v w (bounded-size x v k f i b) (bounded-size y w l g j c))
+pub mul_bounded : (x y v w : Float) → T (finite v) → T (finite w) → T (unsigned v) → T (unsigned w) → Bounded x v → Bounded y w → Bounded (x ⊗ y) (v ⊗ w)
+mul_bounded x y v w f g i j b c =
+    let k = bounded_finite x v f b in
+    let l = bounded_finite y w g c in
+    rw (mul_signed x y k l, mul_signed v w f g, unsigned_sign v i, unsigned_sign w j)
+    (sizes_bounded (unlike (sign x) (sign y)) x y v w (bounded_size x v k f i b) (bounded_size y w l g j c))
 
 -- ---- where the operands are finite
 
-pub add-finite : (x y : Float) → T (finite (x ⊕ y)) → T (finite x) × T (finite y)
+pub add_finite : (x y : Float) → T (finite (x ⊕ y)) → T (finite x) × T (finite y)
 unfolding add
-add-finite nan y h = absurd h
-add-finite (inf s) nan h = absurd h
-add-finite (inf true) (inf true) h = absurd h
-add-finite (inf true) (inf false) h = absurd h
-add-finite (inf false) (inf true) h = absurd h
-add-finite (inf false) (inf false) h = absurd h
-add-finite (inf s) (fin t n d) h = absurd h
-add-finite (fin s m e) nan h = absurd h
-add-finite (fin s m e) (inf t) h = absurd h
-add-finite (fin s m e) (fin t n d) h = (tt, tt)
+add_finite nan y h = absurd h
+add_finite (inf s) nan h = absurd h
+add_finite (inf true) (inf true) h = absurd h
+add_finite (inf true) (inf false) h = absurd h
+add_finite (inf false) (inf true) h = absurd h
+add_finite (inf false) (inf false) h = absurd h
+add_finite (inf s) (fin t n d) h = absurd h
+add_finite (fin s m e) nan h = absurd h
+add_finite (fin s m e) (inf t) h = absurd h
+add_finite (fin s m e) (fin t n d) h = (tt, tt)
 
 not_infinite : (b s : Bool) → T (finite (cond b nan (inf s))) → ⊥
 not_infinite true s h = h
 not_infinite false s h = h
 
-pub mul-finite : (x y : Float) → T (finite (x ⊗ y)) → T (finite x) × T (finite y)
+pub mul_finite : (x y : Float) → T (finite (x ⊗ y)) → T (finite x) × T (finite y)
 unfolding mul
-mul-finite nan y h = absurd h
-mul-finite (inf s) nan h = absurd h
-mul-finite (inf s) (inf t) h = absurd h
-mul-finite (inf s) (fin t n d) h = absurd (not_infinite (eqb n 0) (unlike s t) h)
-mul-finite (fin s m e) nan h = absurd h
-mul-finite (fin s m e) (inf t) h = absurd (not_infinite (eqb m 0) (unlike s t) h)
-mul-finite (fin s m e) (fin t n d) h = (tt, tt)
+mul_finite nan y h = absurd h
+mul_finite (inf s) nan h = absurd h
+mul_finite (inf s) (inf t) h = absurd h
+mul_finite (inf s) (fin t n d) h = absurd (not_infinite (eqb n 0) (unlike s t) h)
+mul_finite (fin s m e) nan h = absurd h
+mul_finite (fin s m e) (inf t) h = absurd (not_infinite (eqb m 0) (unlike s t) h)
+mul_finite (fin s m e) (fin t n d) h = (tt, tt)
 
-pub root-finite : (x : Float) → T (finite (root x)) → T (finite x)
+pub root_finite : (x : Float) → T (finite (root x)) → T (finite x)
 unfolding root
-root-finite nan h = h
-root-finite (inf true) h = h
-root-finite (inf false) h = h
-root-finite (fin s m e) h = tt
+root_finite nan h = h
+root_finite (inf true) h = h
+root_finite (inf false) h = h
+root_finite (fin s m e) h = tt
 
 -- the product of two numbers with finite squares is between them
-pub product-finite : (x y : Float) → T (finite (x ⊗ x)) → T (finite (y ⊗ y)) → T (finite (x ⊗ y))
-product-finite x y f g =
-    let i = (mul-finite x x f).0 in
-    let j = (mul-finite y y g).0 in
+pub product_finite : (x y : Float) → T (finite (x ⊗ x)) → T (finite (y ⊗ y)) → T (finite (x ⊗ y))
+product_finite x y f g =
+    let i = (mul_finite x x f).0 in
+    let j = (mul_finite y y g).0 in
     elim (dec_le (num x * den y) (num y * den x)) [
-      | yes h ↦ bounded-finite (x ⊗ y) (y ⊗ y) g (held x y y i j j h (omega arith))
-      | no h ↦ bounded-finite (x ⊗ y) (x ⊗ x) f (held x y x i j i (omega arith) (omega arith))
+      | yes h ↦ bounded_finite (x ⊗ y) (y ⊗ y) g (held x y y i j j h (omega arith))
+      | no h ↦ bounded_finite (x ⊗ y) (x ⊗ x) f (held x y x i j i (omega arith) (omega arith))
     ]
   where
     held : (x y z : Float) → T (finite x) → T (finite y) → T (finite z) → num x * den z ≤ num z * den x → num y * den z ≤ num z * den y
         → Bounded (x ⊗ y) (z ⊗ z)
-    held x y z f g k h i = rw (mul-signed x y f g, mul-signed z z k k, unlike-self (sign z)) (sizes-bounded (unlike (sign x) (sign y)) x y z z h i)
+    held x y z f g k h i = rw (mul_signed x y f g, mul_signed z z k k, unlike_self (sign z)) (sizes_bounded (unlike (sign x) (sign y)) x y z z h i)

@@ -11,17 +11,17 @@ same : (s : Bool) → beq s s ≡ true
 same true = refl
 same false = refl
 
-level-self : (s : Bool) (a : ℕ) → (eqb a a && (beq s s || eqb a 0)) ≡ true
-level-self s a =
+level_self : (s : Bool) (a : ℕ) → (eqb a a && (beq s s || eqb a 0)) ≡ true
+level_self s a =
     let e : eqb a a ≡ true = is_true (eqb a a) (eq→eqb {a = a} refl) in
     rw (e, same s)
 
 -- the code's test `x != x`
-pub is-nan : (x : Float) → is_nan x ≡ ne x x
+pub is_nan : (x : Float) → is_nan x ≡ ne x x
 unfolding is_nan ne eq
-is-nan nan = refl
-is-nan (inf s) = ap not (sym (same s))
-is-nan (fin s m e) = ap not (sym (level-self s (m * up e * down e)))
+is_nan nan = refl
+is_nan (inf s) = ap not (sym (same s))
+is_nan (fin s m e) = ap not (sym (level_self s (m * up e * down e)))
 
 -- the code's infinity
 pub infinite : div binary32 (of_bits binary32 0x3f800000) (of_bits binary32 0) ≡ inf false

@@ -78,55 +78,55 @@ cross→level true a true b h = let e : a ≡ b = omega arith in and_i (eqb a b)
 cross→level false a true b h = let e : a ≡ b = omega arith in let z : a ≡ 0 = omega arith in and_i (eqb a b) (eqb a 0) (eq→eqb e) (eq→eqb z)
 cross→level true a false b h = let e : a ≡ b = omega arith in let z : a ≡ 0 = omega arith in and_i (eqb a b) (eqb a 0) (eq→eqb e) (eq→eqb z)
 
-pub plus-mul : (s : Bool) (a k : ℕ) → cond s 0 (a * k) ≡ cond s 0 a * k
-plus-mul true a k = sym (zero-mul k)
-plus-mul false a k = refl
+pub plus_mul : (s : Bool) (a k : ℕ) → cond s 0 (a * k) ≡ cond s 0 a * k
+plus_mul true a k = sym (zero-mul k)
+plus_mul false a k = refl
 
-pub minus-mul : (s : Bool) (a k : ℕ) → cond s (a * k) 0 ≡ cond s a 0 * k
-minus-mul true a k = refl
-minus-mul false a k = sym (zero-mul k)
+pub minus_mul : (s : Bool) (a k : ℕ) → cond s (a * k) 0 ≡ cond s a 0 * k
+minus_mul true a k = refl
+minus_mul false a k = sym (zero-mul k)
 
 -- a claim about two finite floats
-pub of-finite : (P : Float → Float → Type 0) → ((s : Bool) (m : ℕ) (e : ℤ) (t : Bool) (n : ℕ) (d : ℤ) → P (fin s m e) (fin t n d)) → (x y : Float)
+pub of_finite : (P : Float → Float → Type 0) → ((s : Bool) (m : ℕ) (e : ℤ) (t : Bool) (n : ℕ) (d : ℤ) → P (fin s m e) (fin t n d)) → (x y : Float)
     → T (finite x) → T (finite y) → P x y
-of-finite P h nan y f g = absurd f
-of-finite P h (inf s) y f g = absurd f
-of-finite P h (fin s m e) nan f g = absurd g
-of-finite P h (fin s m e) (inf t) f g = absurd g
-of-finite P h (fin s m e) (fin t n d) f g = h s m e t n d
+of_finite P h nan y f g = absurd f
+of_finite P h (inf s) y f g = absurd f
+of_finite P h (fin s m e) nan f g = absurd g
+of_finite P h (fin s m e) (inf t) f g = absurd g
+of_finite P h (fin s m e) (fin t n d) f g = h s m e t n d
 
 -- x compares with y as `side x y` with `side y x`
 abbrev pub side : Float → Float → ℕ
 side x y = plus x * den y + minus y * den x
 
-side-is : (s : Bool) (m : ℕ) (e : ℤ) (t : Bool) (n : ℕ) (d : ℤ) → cond s 0 (m * up e * down d) + cond t (n * up d * down e) 0 ≡ side (fin s m e) (fin t n d)
-side-is s m e t n d =
-    ap (λ (k : ℕ). k + cond t (n * up d * down e) 0) (plus-mul s (m * up e) (down d)) ∙ ap (λ (k : ℕ). cond s 0 (m * up e) * down d + k)
-    (minus-mul t (n * up d) (down e))
+side_is : (s : Bool) (m : ℕ) (e : ℤ) (t : Bool) (n : ℕ) (d : ℤ) → cond s 0 (m * up e * down d) + cond t (n * up d * down e) 0 ≡ side (fin s m e) (fin t n d)
+side_is s m e t n d =
+    ap (λ (k : ℕ). k + cond t (n * up d * down e) 0) (plus_mul s (m * up e) (down d)) ∙ ap (λ (k : ℕ). cond s 0 (m * up e) * down d + k)
+    (minus_mul t (n * up d) (down e))
 
 pub lt→side : (x y : Float) → T (finite x) → T (finite y) → T (lt x y) → side x y < side y x
 unfolding lt
 lt→side =
-    of-finite (λ x y. T (lt x y) → side x y < side y x)
-    (λ s m e t n d h. let k = below→cross s (m * up e * down d) t (n * up d * down e) h in omega (arith, side-is s m e t n d, side-is t n d s m e))
+    of_finite (λ x y. T (lt x y) → side x y < side y x)
+    (λ s m e t n d h. let k = below→cross s (m * up e * down d) t (n * up d * down e) h in omega (arith, side_is s m e t n d, side_is t n d s m e))
 
 pub side→lt : (x y : Float) → T (finite x) → T (finite y) → side x y < side y x → T (lt x y)
 unfolding lt
 side→lt =
-    of-finite (λ x y. side x y < side y x → T (lt x y))
-    (λ s m e t n d h. cross→below s (m * up e * down d) t (n * up d * down e) (omega (arith, side-is s m e t n d, side-is t n d s m e)))
+    of_finite (λ x y. side x y < side y x → T (lt x y))
+    (λ s m e t n d h. cross→below s (m * up e * down d) t (n * up d * down e) (omega (arith, side_is s m e t n d, side_is t n d s m e)))
 
 eq→side : (x y : Float) → T (finite x) → T (finite y) → T (eq x y) → side x y ≡ side y x
 unfolding eq
 eq→side =
-    of-finite (λ x y. T (eq x y) → side x y ≡ side y x)
-    (λ s m e t n d h. let k = level→cross s (m * up e * down d) t (n * up d * down e) h in omega (arith, side-is s m e t n d, side-is t n d s m e))
+    of_finite (λ x y. T (eq x y) → side x y ≡ side y x)
+    (λ s m e t n d h. let k = level→cross s (m * up e * down d) t (n * up d * down e) h in omega (arith, side_is s m e t n d, side_is t n d s m e))
 
 side→eq : (x y : Float) → T (finite x) → T (finite y) → side x y ≡ side y x → T (eq x y)
 unfolding eq
 side→eq =
-    of-finite (λ x y. side x y ≡ side y x → T (eq x y))
-    (λ s m e t n d h. cross→level s (m * up e * down d) t (n * up d * down e) (omega (arith, side-is s m e t n d, side-is t n d s m e)))
+    of_finite (λ x y. side x y ≡ side y x → T (eq x y))
+    (λ s m e t n d h. cross→level s (m * up e * down d) t (n * up d * down e) (omega (arith, side_is s m e t n d, side_is t n d s m e)))
 
 pub le→side : (x y : Float) → T (finite x) → T (finite y) → T (le x y) → side x y ≤ side y x
 unfolding le
@@ -165,24 +165,24 @@ le_right (fin s m e) (inf t) h = tt
 le_right (inf s) (fin t n d) h = tt
 le_right (fin s m e) (fin t n d) h = tt
 
-pub lt-le : (x y : Float) → T (lt x y) → T (le x y)
+pub lt_le : (x y : Float) → T (lt x y) → T (le x y)
 unfolding le
-lt-le x y t = or_l (lt x y) (eq x y) t
+lt_le x y t = or_l (lt x y) (eq x y) t
 
-pub le-or-lt : (x y : Float) → T (not (is_nan x)) → T (not (is_nan y)) → T (le x y) ⊎ T (lt y x)
+pub le_or_lt : (x y : Float) → T (not (is_nan x)) → T (not (is_nan y)) → T (le x y) ⊎ T (lt y x)
 unfolding le is_nan
-le-or-lt nan y f g = absurd f
-le-or-lt (inf s) nan f g = absurd g
-le-or-lt (fin s m e) nan f g = absurd g
-le-or-lt (inf true) (inf true) f g = inl tt
-le-or-lt (inf true) (inf false) f g = inl tt
-le-or-lt (inf false) (inf true) f g = inr tt
-le-or-lt (inf false) (inf false) f g = inl tt
-le-or-lt (inf true) (fin t n d) f g = inl tt
-le-or-lt (inf false) (fin t n d) f g = inr tt
-le-or-lt (fin s m e) (inf true) f g = inr tt
-le-or-lt (fin s m e) (inf false) f g = inl tt
-le-or-lt (fin s m e) (fin t n d) f g = go (dec_le (side (fin s m e) (fin t n d)) (side (fin t n d) (fin s m e)))
+le_or_lt nan y f g = absurd f
+le_or_lt (inf s) nan f g = absurd g
+le_or_lt (fin s m e) nan f g = absurd g
+le_or_lt (inf true) (inf true) f g = inl tt
+le_or_lt (inf true) (inf false) f g = inl tt
+le_or_lt (inf false) (inf true) f g = inr tt
+le_or_lt (inf false) (inf false) f g = inl tt
+le_or_lt (inf true) (fin t n d) f g = inl tt
+le_or_lt (inf false) (fin t n d) f g = inr tt
+le_or_lt (fin s m e) (inf true) f g = inr tt
+le_or_lt (fin s m e) (inf false) f g = inl tt
+le_or_lt (fin s m e) (fin t n d) f g = go (dec_le (side (fin s m e) (fin t n d)) (side (fin t n d) (fin s m e)))
   where
     go : Dec (side (fin s m e) (fin t n d) ≤ side (fin t n d) (fin s m e)) → T (le (fin s m e) (fin t n d)) ⊎ T (lt (fin t n d) (fin s m e))
     go (yes k) = inl (side→le (fin s m e) (fin t n d) tt tt k)
@@ -203,39 +203,39 @@ le_not_lt (fin s m e) (inf true) h k = h
 le_not_lt (fin s m e) (inf false) h k = k
 le_not_lt (fin s m e) (fin t n d) h k = omega (arith, le→side (fin s m e) (fin t n d) tt tt h, lt→side (fin t n d) (fin s m e) tt tt k)
 
-pub not-le-lt : (x y : Float) → T (not (is_nan x)) → T (not (is_nan y)) → T (not (le x y)) → T (lt y x)
-not-le-lt x y f g h = elim (le-or-lt x y f g) [ inl k ↦ absurd (T_not (le x y) h k) | inr k ↦ k ]
+pub not_le_lt : (x y : Float) → T (not (is_nan x)) → T (not (is_nan y)) → T (not (le x y)) → T (lt y x)
+not_le_lt x y f g h = elim (le_or_lt x y f g) [ inl k ↦ absurd (T_not (le x y) h k) | inr k ↦ k ]
 
-pub not-lt-le : (x y : Float) → T (not (is_nan x)) → T (not (is_nan y)) → T (not (lt x y)) → T (le y x)
-not-lt-le x y f g h = elim (le-or-lt y x g f) [ inl k ↦ k | inr k ↦ absurd (T_not (lt x y) h k) ]
+pub not_lt_le : (x y : Float) → T (not (is_nan x)) → T (not (is_nan y)) → T (not (lt x y)) → T (le y x)
+not_lt_le x y f g h = elim (le_or_lt y x g f) [ inl k ↦ k | inr k ↦ absurd (T_not (lt x y) h k) ]
 
 pub le_refl : (x : Float) → T (not (is_nan x)) → T (le x x)
-le_refl x f = elim (le-or-lt x x f f) [ inl k ↦ k | inr k ↦ lt-le x x k ]
+le_refl x f = elim (le_or_lt x x f f) [ inl k ↦ k | inr k ↦ lt_le x x k ]
 
 -- the infinities are at the ends
-pub bottom-le : (x : Float) → T (not (is_nan x)) → T (le (inf true) x)
+pub bottom_le : (x : Float) → T (not (is_nan x)) → T (le (inf true) x)
 unfolding le is_nan
-bottom-le nan f = f
-bottom-le (inf true) f = tt
-bottom-le (inf false) f = tt
-bottom-le (fin s m e) f = tt
+bottom_le nan f = f
+bottom_le (inf true) f = tt
+bottom_le (inf false) f = tt
+bottom_le (fin s m e) f = tt
 
-pub le-top : (x : Float) → T (not (is_nan x)) → T (le x (inf false))
+pub le_top : (x : Float) → T (not (is_nan x)) → T (le x (inf false))
 unfolding le is_nan
-le-top nan f = f
-le-top (inf true) f = tt
-le-top (inf false) f = tt
-le-top (fin s m e) f = tt
+le_top nan f = f
+le_top (inf true) f = tt
+le_top (inf false) f = tt
+le_top (fin s m e) f = tt
 
-pub top-le : (x : Float) → T (le (inf false) x) → x ≡ inf false
+pub top_le : (x : Float) → T (le (inf false) x) → x ≡ inf false
 unfolding le
-top-le nan h = absurd h
-top-le (inf true) h = absurd h
-top-le (inf false) h = refl
-top-le (fin s m e) h = absurd h
+top_le nan h = absurd h
+top_le (inf true) h = absurd h
+top_le (inf false) h = refl
+top_le (fin s m e) h = absurd h
 
-finite-trans : (x y z : Float) → T (finite x) → T (finite y) → T (finite z) → T (le x y) → T (le y z) → T (le x z)
-finite-trans x y z f g k p q =
+finite_trans : (x y z : Float) → T (finite x) → T (finite y) → T (finite z) → T (le x y) → T (le y z) → T (le x z)
+finite_trans x y z f g k p q =
     side→le x z f k (through (plus x) (minus x) (den x) (plus y) (minus y) (den y) (plus z) (minus z) (den z) (den_pos y) (le→side x y f g p)
     (le→side y z g k q))
   where
@@ -249,48 +249,48 @@ finite-trans x y z f g k p q =
 pub le_trans : (x y z : Float) → T (le x y) → T (le y z) → T (le x z)
 unfolding le
 le_trans nan y z p q = absurd p
-le_trans (inf true) y z p q = bottom-le z (le_right y z q)
-le_trans (inf false) y z p q = subst (λ (w : Float). T (le w z)) (top-le y p) q
+le_trans (inf true) y z p q = bottom_le z (le_right y z q)
+le_trans (inf false) y z p q = subst (λ (w : Float). T (le w z)) (top_le y p) q
 le_trans (fin s m e) nan z p q = absurd p
 le_trans (fin s m e) (inf true) z p q = absurd p
-le_trans (fin s m e) (inf false) z p q = subst (λ (w : Float). T (le (fin s m e) w)) (sym (top-le z q)) tt
+le_trans (fin s m e) (inf false) z p q = subst (λ (w : Float). T (le (fin s m e) w)) (sym (top_le z q)) tt
 le_trans (fin s m e) (fin t n d) nan p q = absurd q
 le_trans (fin s m e) (fin t n d) (inf true) p q = absurd q
 le_trans (fin s m e) (fin t n d) (inf false) p q = tt
-le_trans (fin s m e) (fin t n d) (fin u k c) p q = finite-trans (fin s m e) (fin t n d) (fin u k c) tt tt tt p q
+le_trans (fin s m e) (fin t n d) (fin u k c) p q = finite_trans (fin s m e) (fin t n d) (fin u k c) tt tt tt p q
 
-pub lt-le-trans : (x y z : Float) → T (lt x y) → T (le y z) → T (lt x z)
-lt-le-trans x y z p q = elim (le-or-lt z x (le_right y z q) (le_left x y (lt-le x y p))) [ inl k ↦ absurd (le_not_lt y x (le_trans y z x q k) p) | inr k ↦ k ]
+pub lt_le_trans : (x y z : Float) → T (lt x y) → T (le y z) → T (lt x z)
+lt_le_trans x y z p q = elim (le_or_lt z x (le_right y z q) (le_left x y (lt_le x y p))) [ inl k ↦ absurd (le_not_lt y x (le_trans y z x q k) p) | inr k ↦ k ]
 
 pub le_lt_trans : (x y z : Float) → T (le x y) → T (lt y z) → T (lt x z)
-le_lt_trans x y z p q = elim (le-or-lt z x (le_right y z (lt-le y z q)) (le_left x y p)) [ inl k ↦ absurd (le_not_lt z y (le_trans z x y k p) q) | inr k ↦ k ]
+le_lt_trans x y z p q = elim (le_or_lt z x (le_right y z (lt_le y z q)) (le_left x y p)) [ inl k ↦ absurd (le_not_lt z y (le_trans z x y k p) q) | inr k ↦ k ]
 
 -- ---- +0 and up
 
-pub unsigned-number : (x : Float) → T (unsigned x) → T (not (is_nan x))
+pub unsigned_number_lem : (x : Float) → T (unsigned x) → T (not (is_nan x))
 unfolding is_nan
-unsigned-number nan u = u
-unsigned-number (inf s) u = tt
-unsigned-number (fin s m e) u = tt
+unsigned_number_lem nan u = u
+unsigned_number_lem (inf s) u = tt
+unsigned_number_lem (fin s m e) u = tt
 
-pub unsigned-le : (x : Float) → T (unsigned x) → T (le (f32 0) x)
+pub unsigned_le : (x : Float) → T (unsigned x) → T (le (f32 0) x)
 unfolding le of_bits
-unsigned-le nan u = u
-unsigned-le (inf true) u = u
-unsigned-le (inf false) u = tt
-unsigned-le (fin true m e) u = absurd u
-unsigned-le (fin false m e) u = side→le (fin false 0 (pos 0)) (fin false m e) tt tt (omega arith)
+unsigned_le nan u = u
+unsigned_le (inf true) u = u
+unsigned_le (inf false) u = tt
+unsigned_le (fin true m e) u = absurd u
+unsigned_le (fin false m e) u = side→le (fin false 0 (pos 0)) (fin false m e) tt tt (omega arith)
 
-pub positive-unsigned : (x : Float) → T (lt (f32 0) x) → T (unsigned x)
+pub positive_unsigned : (x : Float) → T (lt (f32 0) x) → T (unsigned x)
 unfolding lt of_bits
-positive-unsigned nan h = h
-positive-unsigned (inf s) h = h
-positive-unsigned (fin true m e) h = h
-positive-unsigned (fin false m e) h = tt
+positive_unsigned nan h = h
+positive_unsigned (inf s) h = h
+positive_unsigned (fin true m e) h = h
+positive_unsigned (fin false m e) h = tt
 
-pub nothing-below : (d : ℤ) → T (lt (f32 0) (fin false 0 d)) → ⊥
+pub nothing_below : (d : ℤ) → T (lt (f32 0) (fin false 0 d)) → ⊥
 unfolding of_bits
-nothing-below d p = omega (arith, lt→side (f32 0) (fin false 0 d) tt tt p)
+nothing_below d p = omega (arith, lt→side (f32 0) (fin false 0 d) tt tt p)
 
 -- ---- a format has one float for a number and a sign: how many of its smallest units it is gives the bits
 
@@ -307,12 +307,12 @@ same_number : (f : Format) (s : Bool) (m : ℕ) (e : ℤ) (n : ℕ) (d : ℤ) �
     → fin s m e ≡ fin s n d
 same_number f s m e n d p q h = sym (of_bits-to_bits f (fin s m e) p) ∙ ap (of_bits f) (same_bits f s m e n d h) ∙ of_bits-to_bits f (fin s n d) q
 
-pub value-unique : (f : Format) (x y : Float) (s : Bool) (a c : ℕ) → 0 < c → T (fits f x) → T (fits f y) → HasValue x s a c → HasValue y s a c → x ≡ y
-value-unique f nan y s a c C p q v w = absurd v
-value-unique f (inf t) y s a c C p q v w = absurd v
-value-unique f (fin t m e) nan s a c C p q v w = absurd w
-value-unique f (fin t m e) (inf u) s a c C p q v w = absurd w
-value-unique f (fin t m e) (fin u n d) s a c C p q v w =
+pub value_unique : (f : Format) (x y : Float) (s : Bool) (a c : ℕ) → 0 < c → T (fits f x) → T (fits f y) → HasValue x s a c → HasValue y s a c → x ≡ y
+value_unique f nan y s a c C p q v w = absurd v
+value_unique f (inf t) y s a c C p q v w = absurd v
+value_unique f (fin t m e) nan s a c C p q v w = absurd w
+value_unique f (fin t m e) (inf u) s a c C p q v w = absurd w
+value_unique f (fin t m e) (fin u n d) s a c C p q v w =
     ap (λ (b : Bool). fin b m e) v.0
     ∙ same_number f s m e n d (subst (λ (b : Bool). T (fits f (fin b m e))) v.0 p) (subst (λ (b : Bool). T (fits f (fin b n d))) w.0 q) cross
     ∙ ap (λ (b : Bool). fin b n d) (sym w.0)
@@ -323,17 +323,17 @@ value-unique f (fin t m e) (fin u n d) s a c C p q v w =
         let j = ap (λ (k : ℕ). k * down e) w.1 in
         eq_of_mul-eq-mul_right c C (m * up e * down d) (n * up d * down e) (omega arith)
 
-pub le-antisymmetric : (f : Format) (x y : Float) → T (fits f x) → T (fits f y) → T (unsigned x) → T (unsigned y) → T (le x y) → T (le y x) → x ≡ y
+pub le_antisymmetric : (f : Format) (x y : Float) → T (fits f x) → T (fits f y) → T (unsigned x) → T (unsigned y) → T (le x y) → T (le y x) → x ≡ y
 unfolding le
-le-antisymmetric f nan y p q u v h k = absurd u
-le-antisymmetric f (inf true) y p q u v h k = absurd u
-le-antisymmetric f (inf false) y p q u v h k = sym (top-le y h)
-le-antisymmetric f (fin true m e) y p q u v h k = absurd u
-le-antisymmetric f (fin false m e) nan p q u v h k = absurd v
-le-antisymmetric f (fin false m e) (inf true) p q u v h k = absurd v
-le-antisymmetric f (fin false m e) (inf false) p q u v h k = absurd k
-le-antisymmetric f (fin false m e) (fin true n d) p q u v h k = absurd v
-le-antisymmetric f (fin false m e) (fin false n d) p q u v h k =
+le_antisymmetric f nan y p q u v h k = absurd u
+le_antisymmetric f (inf true) y p q u v h k = absurd u
+le_antisymmetric f (inf false) y p q u v h k = sym (top_le y h)
+le_antisymmetric f (fin true m e) y p q u v h k = absurd u
+le_antisymmetric f (fin false m e) nan p q u v h k = absurd v
+le_antisymmetric f (fin false m e) (inf true) p q u v h k = absurd v
+le_antisymmetric f (fin false m e) (inf false) p q u v h k = absurd k
+le_antisymmetric f (fin false m e) (fin true n d) p q u v h k = absurd v
+le_antisymmetric f (fin false m e) (fin false n d) p q u v h k =
     let i = le→side (fin false m e) (fin false n d) tt tt h in
     let j = le→side (fin false n d) (fin false m e) tt tt k in
     same_number f false m e n d p q (omega arith)

@@ -5,18 +5,18 @@ use lib.Ieee.{of_bits}
 use Rattle.numbers.specs.Rounded.{f32}
 use Rattle.numbers.specs.Root.{root}
 
-root-of-two : root (f32 0x40000000) ≡ f32 0x3fb504f3
+root_of_two : root (f32 0x40000000) ≡ f32 0x3fb504f3
 unfolding root of_bits
-root-of-two = refl
+root_of_two = refl
 
-root-of-three : root (f32 0x40400000) ≡ f32 0x3fddb3d7
+root_of_three : root (f32 0x40400000) ≡ f32 0x3fddb3d7
 unfolding root of_bits
-root-of-three = refl
+root_of_three = refl
 
-root-of-smallest : root (f32 0x00000001) ≡ f32 0x1a3504f3
+root_of_smallest : root (f32 0x00000001) ≡ f32 0x1a3504f3
 unfolding root of_bits
-root-of-smallest = refl
+root_of_smallest = refl
 
-root-of-largest : root (f32 0x7f7fffff) ≡ f32 0x5f7fffff
+root_of_largest : root (f32 0x7f7fffff) ≡ f32 0x5f7fffff
 unfolding root of_bits
-root-of-largest = refl
+root_of_largest = refl

@@ -1,4 +1,4 @@
--- Every finite f32 is a whole number of units of 2^-149, the smallest f32 (`f32-whole`), of at most 24 significant
+-- Every finite f32 is a whole number of units of 2^-149, the smallest f32 (`f32_whole`), of at most 24 significant
 -- digits (`Grid`). So from 2^(23+h) units on it is a multiple of 2^h units (`coarse`), and for x above zero the root's
 -- argument has the form that it is scaled to (`scaling`).
 use mathlib.Core.Path.{◌≡◌, refl, sym, ap, ◌∙◌, subst}
@@ -14,7 +14,7 @@ use lib.Ieee.{Float, nan, inf, fin, binary32, up, down, size, fits}
 use lib.Ieee.Digits.{back, size-lt, size-le, size_reaches}
 use lib.Ieee.Fits.{and_l, and_r, down_pos}
 use lib.Ieee.Exact.{HasValue}
-use Rattle.numbers.proofs.RootPattern.{pow_lt_back, size-gt, shl-ge}
+use Rattle.numbers.proofs.RootPattern.{pow_lt_back, size_gt, shl_ge}
 
 -- a is q * 2^j, with q of at most 24 digits
 pub record Grid (a : ℕ) : Type 0 where
@@ -48,36 +48,36 @@ held s m e t =
 place : (m : ℕ) (e : ℤ) → down e ≤ 2 ^ 149 → (j : ℕ) × (m * up e * 2 ^ 149 ≡ m * 2 ^ j * down e)
 place m (pos k) h = (k + 149, mul_assoc m (2 ^ k) (2 ^ 149) ∙ ap (λ (x : ℕ). m * x) (sym (pow-add 2 k 149)) ∙ sym (mul-one (m * 2 ^ (k + 149))))
 place m (negsuc k) h =
-    let l : suc k ≤ 149 = le-back (suc k) 149 h in (
+    let l : suc k ≤ 149 = le_back (suc k) 149 h in (
       149 - suc k,
       ap (λ (x : ℕ). x * 2 ^ 149) (mul-one m)
           ∙ ap (λ (x : ℕ). m * x) (ap (λ (i : ℕ). 2 ^ i) (sym (back 149 (suc k) l)) ∙ pow-add 2 (149 - suc k) (suc k))
           ∙ sym (mul_assoc m (2 ^ (149 - suc k)) (2 ^ suc k)),
     )
   where
-    le-back : (a l : ℕ) → 2 ^ a ≤ 2 ^ l → a ≤ l
-    le-back a l h = omega (arith, pow_lt_back a (suc l) (lt_of_le_of_lt h (pow-lt {i = l} {j = suc l} (omega arith))))
+    le_back : (a l : ℕ) → 2 ^ a ≤ 2 ^ l → a ≤ l
+    le_back a l h = omega (arith, pow_lt_back a (suc l) (lt_of_le_of_lt h (pow-lt {i = l} {j = suc l} (omega arith))))
 
 -- a value has one number of units
-one-count : (y : Float) (s t : Bool) (a b c : ℕ) → HasValue y s a c → HasValue y t b c → a ≡ b
-one-count nan s t a b c h k = absurd h
-one-count (inf u) s t a b c h k = absurd h
-one-count (fin u m e) s t a b c h k = eq_of_mul-eq-mul_right (down e) (down_pos e) a b (sym h.1 ∙ k.1)
+one_count : (y : Float) (s t : Bool) (a b c : ℕ) → HasValue y s a c → HasValue y t b c → a ≡ b
+one_count nan s t a b c h k = absurd h
+one_count (inf u) s t a b c h k = absurd h
+one_count (fin u m e) s t a b c h k = eq_of_mul-eq-mul_right (down e) (down_pos e) a b (sym h.1 ∙ k.1)
 
-zero-units : (s : Bool) (e : ℤ) → HasValue (fin s 0 e) s 0 (2 ^ 149)
-zero-units s e = (refl, ap (λ (x : ℕ). x * 2 ^ 149) (zero-mul (up e)) ∙ zero-mul (2 ^ 149) ∙ sym (zero-mul (down e)))
+zero_units : (s : Bool) (e : ℤ) → HasValue (fin s 0 e) s 0 (2 ^ 149)
+zero_units s e = (refl, ap (λ (x : ℕ). x * 2 ^ 149) (zero-mul (up e)) ∙ zero-mul (2 ^ 149) ∙ sym (zero-mul (down e)))
 
-pub f32-whole : (s : Bool) (m : ℕ) (e : ℤ) → T (fits binary32 (fin s m e)) → (a : ℕ) × HasValue (fin s m e) s a (2 ^ 149) × Grid a
-f32-whole s zero e t = (0, zero-units s e, record { q = 0; j = 0; few = omega arith; is = refl })
-f32-whole s (suc m) e t =
+pub f32_whole : (s : Bool) (m : ℕ) (e : ℤ) → T (fits binary32 (fin s m e)) → (a : ℕ) × HasValue (fin s m e) s a (2 ^ 149) × Grid a
+f32_whole s zero e t = (0, zero_units s e, record { q = 0; j = 0; few = omega arith; is = refl })
+f32_whole s (suc m) e t =
     let h = held s m e t in
     let p = place (suc m) e h.fine in
     (suc m * 2 ^ p.0, (refl, p.1), record { q = suc m; j = p.0; few = h.few; is = refl })
 
-pub on-grid : (y : Float) (s : Bool) (a : ℕ) → T (fits binary32 y) → HasValue y s a (2 ^ 149) → Grid a
-on-grid nan s a t h = absurd h
-on-grid (inf u) s a t h = absurd h
-on-grid (fin u m e) s a t h = let w = f32-whole u m e t in subst Grid (one-count (fin u m e) u s w.0 a (2 ^ 149) w.1 h) w.2
+pub on_grid : (y : Float) (s : Bool) (a : ℕ) → T (fits binary32 y) → HasValue y s a (2 ^ 149) → Grid a
+on_grid nan s a t h = absurd h
+on_grid (inf u) s a t h = absurd h
+on_grid (fin u m e) s a t h = let w = f32_whole u m e t in subst Grid (one_count (fin u m e) u s w.0 a (2 ^ 149) w.1 h) w.2
 
 -- ---- far from zero the grid is coarse
 
@@ -115,7 +115,7 @@ halved z j a b c = record { h = (z + 1) / 2 - 24; short = omega arith; above = o
 scale : (q j : ℕ) → q < 2 ^ 24 → 2 ^ 149 ≤ q * 2 ^ j → q * 2 ^ j < 2 ^ 426 → Scaled (q * 2 ^ j)
 scale q j few big small =
     let x = q * 2 ^ j in
-    let t = halved (size x) j (size-gt 149 x big) (size-le x (24 + j) (shl_lt 24 j few)) (size-le x 426 small) in
+    let t = halved (size x) j (size_gt 149 x big) (size-le x (24 + j) (shl_lt 24 j few)) (size-le x 426 small) in
     let h = t.h in
     let is : x ≡ q * 2 ^ (j - 2 * h) * 2 ^ (2 * h) =
     ap (λ (i : ℕ). q * 2 ^ i) (sym (back j (2 * h) t.zeros)) ∙ ap (λ (y : ℕ). q * y) (pow-add 2 (j - 2 * h) (2 * h)) ∙ sym
@@ -137,13 +137,13 @@ scaling a g p b =
     let e : a * 2 ^ 149 ≡ g.q * 2 ^ (g.j + 149) = ap (λ (x : ℕ). x * 2 ^ 149) g.is ∙ mul_assoc g.q (2 ^ g.j) (2 ^ 149) ∙ ap (λ (x : ℕ). g.q * x)
     (sym (pow-add 2 g.j 149)) in
     subst Scaled (sym e)
-    (scale g.q (g.j + 149) g.few (subst (λ (x : ℕ). 2 ^ 149 ≤ x) e (shl-ge 0 149 p)) (subst (λ (x : ℕ). x < 2 ^ 426) e (shl_lt 277 149 b)))
+    (scale g.q (g.j + 149) g.few (subst (λ (x : ℕ). 2 ^ 149 ≤ x) e (shl_ge 0 149 p)) (subst (λ (x : ℕ). x < 2 ^ 426) e (shl_lt 277 149 b)))
 
 -- an f32 is below 2^128, which is 2^277 units
 pub below_top : (y : Float) (s : Bool) (a : ℕ) → T (fits binary32 y) → HasValue y s a (2 ^ 149) → 0 < a → a < 2 ^ 277
 below_top nan s a t h p = absurd h
 below_top (inf u) s a t h p = absurd h
-below_top (fin u zero e) s a t h p = absurd (lt_irrefl 0 (subst (λ (x : ℕ). 0 < x) (one-count (fin u zero e) s u a 0 (2 ^ 149) h (zero-units u e)) p))
+below_top (fin u zero e) s a t h p = absurd (lt_irrefl 0 (subst (λ (x : ℕ). 0 < x) (one_count (fin u zero e) s u a 0 (2 ^ 149) h (zero_units u e)) p))
 below_top (fin u (suc m) e) s a t h p = top (suc m * up e) (2 ^ 128) (2 ^ 149) a (down e) (pow_pos 149) (held u m e t).bounded h.1
   where
     top : (w b l a d : ℕ) → 0 < l → w < b * d → w * l ≡ a * d → a < b * l

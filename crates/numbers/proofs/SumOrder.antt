@@ -1,6 +1,6 @@
--- f32 sums and differences of finite numbers keep the order, in each argument (`add-monotone`, `sub-monotone`,
--- `sub-antitone`), and a sum of f32 that are not below 0, +infinity included, is at least each of them. Infinities
--- included, a sum keeps the order in its first argument unless it is a NaN (`add-monotone-left`). Assumes nothing.
+-- f32 sums and differences of finite numbers keep the order, in each argument (`add_monotone`, `sub_monotone`,
+-- `sub_antitone`), and a sum of f32 that are not below 0, +infinity included, is at least each of them. Infinities
+-- included, a sum keeps the order in its first argument unless it is a NaN (`add_monotone_left`). Assumes nothing.
 use mathlib.Core.Path.{◌≡◌, refl, sym, ap, ◌∙◌, subst}
 use mathlib.Core.Logic.{◌⊎◌, inl, inr}
 use Prim.Native.Nat.{ℕ, ◌+◌, ◌-◌, ◌*◌, ◌≤◌, ◌<◌}
@@ -13,24 +13,24 @@ use lib.Ieee.{Float, nan, inf, fin, binary32, up, down, round, neg, sum, add, su
 use lib.Ieee.Scale.{finite}
 use lib.Ieee.Positive.{den, den_pos}
 use Rattle.numbers.specs.Rounded.{f32, ◌⊕◌, ◌⊖◌}
-use Rattle.numbers.proofs.OrderLaws.{plus, minus, plus-mul, minus-mul, side, le→side, of-finite, le_refl, le_right, le-top, bottom-le, top-le}
+use Rattle.numbers.proofs.OrderLaws.{plus, minus, plus_mul, minus_mul, side, le→side, of_finite, le_refl, le_right, le_top, bottom_le, top_le}
 use Rattle.numbers.proofs.OrderLaws.{finite_number}
 use Rattle.numbers.specs.Inner.Bounds.{unsigned}
-use Rattle.numbers.proofs.RoundedOrder.{Rounds, above, under, round-unsigned, neg-le, rounds-le, rounds-own, rounds-number, nonnegative-minus}
-use Rattle.numbers.proofs.RoundedOrder.{rounds-nonnegative, rounds-nonpositive}
+use Rattle.numbers.proofs.RoundedOrder.{Rounds, above, under, round_unsigned, neg_le, rounds_le, rounds_own, rounds_number, nonnegative_minus}
+use Rattle.numbers.proofs.RoundedOrder.{rounds_nonnegative, rounds_nonpositive}
 
 -- ---- a sum as a rounding
 
-rounds-sum : (s : Bool) (a : ℕ) (t : Bool) (b c : ℕ) → Rounds (sum binary32 s a t b c) (cond s 0 a + cond t 0 b) (cond s a 0 + cond t b 0) c
+rounds_sum : (s : Bool) (a : ℕ) (t : Bool) (b c : ℕ) → Rounds (sum binary32 s a t b c) (cond s 0 a + cond t 0 b) (cond s a 0 + cond t b 0) c
 unfolding sum
-rounds-sum false a false b c = let z : a + b ≡ 0 + 0 + (a + b) = omega arith in above (a + b) z refl
-rounds-sum true a true b c = let z : a + b ≡ 0 + 0 + (a + b) = omega arith in under (a + b) z refl
-rounds-sum false a true b c = go (ltb a b) (ltb→lt a b) (nltb→le a b)
+rounds_sum false a false b c = let z : a + b ≡ 0 + 0 + (a + b) = omega arith in above (a + b) z refl
+rounds_sum true a true b c = let z : a + b ≡ 0 + 0 + (a + b) = omega arith in under (a + b) z refl
+rounds_sum false a true b c = go (ltb a b) (ltb→lt a b) (nltb→le a b)
   where
     go : (l : Bool) → (T l → a < b) → (T (not l) → b ≤ a) → Rounds (cond l (round binary32 true (b - a) c) (round binary32 false (a - b) c)) (a + 0) (0 + b) c
     go true h k = let l = h tt in let z : 0 + b ≡ a + 0 + (b - a) = omega arith in under (b - a) z refl
     go false h k = let l = k tt in let z : a + 0 ≡ 0 + b + (a - b) = omega arith in above (a - b) z refl
-rounds-sum true a false b c = go (ltb a b) (ltb b a) (ltb→lt a b) (nltb→le a b) (ltb→lt b a) (nltb→le b a)
+rounds_sum true a false b c = go (ltb a b) (ltb b a) (ltb→lt a b) (nltb→le a b) (ltb→lt b a) (nltb→le b a)
   where
     go : (l m : Bool) → (T l → a < b) → (T (not l) → b ≤ a) → (T m → b < a) → (T (not m) → a ≤ b)
         → Rounds (cond l (round binary32 false (b - a) c) (round binary32 (true && m) (a - b) c)) (0 + b) (a + 0) c
@@ -38,24 +38,24 @@ rounds-sum true a false b c = go (ltb a b) (ltb b a) (ltb→lt a b) (nltb→le a
     go false true h k i j = let l = k tt in let z : a + 0 ≡ 0 + b + (a - b) = omega arith in under (a - b) z refl
     go false false h k i j = let l = k tt in let r = j tt in let z : 0 + b ≡ a + 0 + (a - b) = omega arith in above (a - b) z refl
 
-pub rounds-add : (x y : Float) → T (finite x) → T (finite y)
+pub rounds_add : (x y : Float) → T (finite x) → T (finite y)
     → Rounds (x ⊕ y) (plus x * den y + plus y * den x) (minus x * den y + minus y * den x) (den x * den y)
 unfolding add
-rounds-add = of-finite (λ x y. Rounds (x ⊕ y) (plus x * den y + plus y * den x) (minus x * den y + minus y * den x) (den x * den y)) (λ s m e t n d.
+rounds_add = of_finite (λ x y. Rounds (x ⊕ y) (plus x * den y + plus y * den x) (minus x * den y + minus y * den x) (den x * den y)) (λ s m e t n d.
     subst (λ (k : ℕ). Rounds (fin s m e ⊕ fin t n d) k (minus (fin s m e) * down d + minus (fin t n d) * down e) (down e * down d))
-    (both (plus-mul s (m * up e) (down d)) (plus-mul t (n * up d) (down e)))
+    (both (plus_mul s (m * up e) (down d)) (plus_mul t (n * up d) (down e)))
     (subst (λ (k : ℕ). Rounds (fin s m e ⊕ fin t n d) (cond s 0 (m * up e * down d) + cond t 0 (n * up d * down e)) k (down e * down d))
-    (both (minus-mul s (m * up e) (down d)) (minus-mul t (n * up d) (down e)))
-    (rounds-sum s (m * up e * down d) t (n * up d * down e) (down e * down d))))
+    (both (minus_mul s (m * up e) (down d)) (minus_mul t (n * up d) (down e)))
+    (rounds_sum s (m * up e * down d) t (n * up d * down e) (down e * down d))))
   where
     both : {a b c d : ℕ} → a ≡ b → c ≡ d → a + c ≡ b + d
     both {a} {b} {c} {d} h k = cc
 
 -- ---- the order
 
-pub add-monotone : (x x' y y' : Float) → T (finite x) → T (finite x') → T (finite y) → T (finite y') → T (le x x') → T (le y y') → T (le (x ⊕ y) (x' ⊕ y'))
-add-monotone x x' y y' f f' g g' h k =
-    rounds-le (mul-pos (den_pos x) (den_pos y)) (mul-pos (den_pos x') (den_pos y')) (rounds-add x y f g) (rounds-add x' y' f' g')
+pub add_monotone : (x x' y y' : Float) → T (finite x) → T (finite x') → T (finite y) → T (finite y') → T (le x x') → T (le y y') → T (le (x ⊕ y) (x' ⊕ y'))
+add_monotone x x' y y' f f' g g' h k =
+    rounds_le (mul-pos (den_pos x) (den_pos y)) (mul-pos (den_pos x') (den_pos y')) (rounds_add x y f g) (rounds_add x' y' f' g')
     (go (plus x) (minus x) (den x) (plus x') (minus x') (den x') (plus y) (minus y) (den y) (plus y') (minus y') (den y') (le→side x x' f f' h)
     (le→side y y' g g' k))
   where
@@ -77,49 +77,49 @@ add-monotone x x' y y' f f' g g' h k =
         (joined (p * d' * (c * c')) (n' * d * (c * c')) (p' * d * (c * c')) (n * d' * (c * c')) (q * c' * (d * d')) (o' * c * (d * d')) (q' * c * (d * d'))
         (o * c' * (d * d')) i j)
 
-pub neg-finite : (x : Float) → T (finite x) → T (finite (neg x))
+pub neg_finite : (x : Float) → T (finite x) → T (finite (neg x))
 unfolding neg
-neg-finite nan f = f
-neg-finite (inf s) f = f
-neg-finite (fin s m e) f = tt
+neg_finite nan f = f
+neg_finite (inf s) f = f
+neg_finite (fin s m e) f = tt
 
-pub sub-monotone : (x y a : Float) → T (finite x) → T (finite y) → T (finite a) → T (le x y) → T (le (x ⊖ a) (y ⊖ a))
+pub sub_monotone : (x y a : Float) → T (finite x) → T (finite y) → T (finite a) → T (le x y) → T (le (x ⊖ a) (y ⊖ a))
 unfolding sub
-sub-monotone x y a f g k h = let n = neg-finite a k in add-monotone x y (neg a) (neg a) f g n n h (le_refl (neg a) (finite_number (neg a) n))
+sub_monotone x y a f g k h = let n = neg_finite a k in add_monotone x y (neg a) (neg a) f g n n h (le_refl (neg a) (finite_number (neg a) n))
 
-pub sub-antitone : (x y a : Float) → T (finite x) → T (finite y) → T (finite a) → T (le x y) → T (le (a ⊖ y) (a ⊖ x))
+pub sub_antitone : (x y a : Float) → T (finite x) → T (finite y) → T (finite a) → T (le x y) → T (le (a ⊖ y) (a ⊖ x))
 unfolding sub
-sub-antitone x y a f g k h = add-monotone a a (neg y) (neg x) k k (neg-finite y g) (neg-finite x f) (le_refl a (finite_number a k)) (neg-le x y h)
+sub_antitone x y a f g k h = add_monotone a a (neg y) (neg x) k k (neg_finite y g) (neg_finite x f) (le_refl a (finite_number a k)) (neg_le x y h)
 
 -- ---- a difference's sign
 
-pub rounds-sub : (x y : Float) → T (finite x) → T (finite y) → Rounds (x ⊖ y) (side x y) (side y x) (den x * den y)
+pub rounds_sub : (x y : Float) → T (finite x) → T (finite y) → Rounds (x ⊖ y) (side x y) (side y x) (den x * den y)
 unfolding sub neg
-rounds-sub = of-finite (λ x y. Rounds (x ⊖ y) (side x y) (side y x) (den x * den y)) go
+rounds_sub = of_finite (λ x y. Rounds (x ⊖ y) (side x y) (side y x) (den x * den y)) go
   where
     turned : (s : Bool) (m : ℕ) (e : ℤ) (u : Bool) (n : ℕ) (d : ℤ)
         → Rounds (fin s m e ⊕ fin u n d) (plus (fin s m e) * down d + plus (fin u n d) * down e) (minus (fin u n d) * down e + minus (fin s m e) * down d)
         (down e * down d)
     turned s m e u n d =
         subst (λ (k : ℕ). Rounds (fin s m e ⊕ fin u n d) (plus (fin s m e) * down d + plus (fin u n d) * down e) k (down e * down d))
-        (add_comm (minus (fin s m e) * down d) (minus (fin u n d) * down e)) (rounds-add (fin s m e) (fin u n d) tt tt)
+        (add_comm (minus (fin s m e) * down d) (minus (fin u n d) * down e)) (rounds_add (fin s m e) (fin u n d) tt tt)
 
     go : (s : Bool) (m : ℕ) (e : ℤ) (t : Bool) (n : ℕ) (d : ℤ)
         → Rounds (fin s m e ⊕ fin (not t) n d) (side (fin s m e) (fin t n d)) (side (fin t n d) (fin s m e)) (down e * down d)
     go s m e true n d = turned s m e false n d
     go s m e false n d = turned s m e true n d
 
-pub sub-nonnegative : (x y : Float) → T (finite x) → T (finite y) → T (le y x) → T (le (f32 0) (x ⊖ y))
-sub-nonnegative x y f g h = rounds-nonnegative (mul-pos (den_pos x) (den_pos y)) (rounds-sub x y f g) (le→side y x g f h)
+pub sub_nonnegative : (x y : Float) → T (finite x) → T (finite y) → T (le y x) → T (le (f32 0) (x ⊖ y))
+sub_nonnegative x y f g h = rounds_nonnegative (mul-pos (den_pos x) (den_pos y)) (rounds_sub x y f g) (le→side y x g f h)
 
-pub sub-nonpositive : (x y : Float) → T (finite x) → T (finite y) → T (le x y) → T (le (x ⊖ y) (f32 0))
-sub-nonpositive x y f g h = rounds-nonpositive (mul-pos (den_pos x) (den_pos y)) (rounds-sub x y f g) (le→side x y f g h)
+pub sub_nonpositive : (x y : Float) → T (finite x) → T (finite y) → T (le x y) → T (le (x ⊖ y) (f32 0))
+sub_nonpositive x y f g h = rounds_nonpositive (mul-pos (den_pos x) (den_pos y)) (rounds_sub x y f g) (le→side x y f g h)
 
 -- ---- a sum of what is not below 0
 
-sum-unlike : (a b c : ℕ) → sum binary32 false a true b c ≡ sum binary32 true b false a c
+sum_unlike : (a b c : ℕ) → sum binary32 false a true b c ≡ sum binary32 true b false a c
 unfolding sum
-sum-unlike a b c = go (ltb a b) (ltb b a) (ltb→lt a b) (nltb→le a b) (ltb→lt b a) (nltb→le b a)
+sum_unlike a b c = go (ltb a b) (ltb b a) (ltb→lt a b) (nltb→le a b) (ltb→lt b a) (nltb→le b a)
   where
     go : (l m : Bool) → (T l → a < b) → (T (not l) → b ≤ a) → (T m → b < a) → (T (not m) → a ≤ b)
         → cond l (round binary32 true (b - a) c) (round binary32 false (a - b) c)
@@ -129,107 +129,107 @@ sum-unlike a b c = go (ltb a b) (ltb b a) (ltb→lt a b) (nltb→le a b) (ltb→
     go false true h k i j = refl
     go false false h k i j = let l = k tt in let r = j tt in let z : a - b ≡ b - a = omega arith in ap (λ (k : ℕ). round binary32 false k c) z
 
-sum-commutative : (s : Bool) (a : ℕ) (t : Bool) (b c : ℕ) → sum binary32 s a t b c ≡ sum binary32 t b s a c
-sum-commutative false a false b c = unfold sum in ap (λ (k : ℕ). round binary32 false k c) (add_comm a b)
-sum-commutative true a true b c = unfold sum in ap (λ (k : ℕ). round binary32 true k c) (add_comm a b)
-sum-commutative false a true b c = sum-unlike a b c
-sum-commutative true a false b c = sym (sum-unlike b a c)
+sum_commutative : (s : Bool) (a : ℕ) (t : Bool) (b c : ℕ) → sum binary32 s a t b c ≡ sum binary32 t b s a c
+sum_commutative false a false b c = unfold sum in ap (λ (k : ℕ). round binary32 false k c) (add_comm a b)
+sum_commutative true a true b c = unfold sum in ap (λ (k : ℕ). round binary32 true k c) (add_comm a b)
+sum_commutative false a true b c = sum_unlike a b c
+sum_commutative true a false b c = sym (sum_unlike b a c)
 
-pub add-commutative : (x y : Float) → x ⊕ y ≡ y ⊕ x
+pub add_commutative : (x y : Float) → x ⊕ y ≡ y ⊕ x
 unfolding add
-add-commutative nan nan = refl
-add-commutative nan (inf t) = refl
-add-commutative nan (fin t n d) = refl
-add-commutative (inf s) nan = refl
-add-commutative (inf true) (inf true) = refl
-add-commutative (inf true) (inf false) = refl
-add-commutative (inf false) (inf true) = refl
-add-commutative (inf false) (inf false) = refl
-add-commutative (inf s) (fin t n d) = refl
-add-commutative (fin s m e) nan = refl
-add-commutative (fin s m e) (inf t) = refl
-add-commutative (fin s m e) (fin t n d) =
-    sum-commutative s (m * up e * down d) t (n * up d * down e) (down e * down d)
+add_commutative nan nan = refl
+add_commutative nan (inf t) = refl
+add_commutative nan (fin t n d) = refl
+add_commutative (inf s) nan = refl
+add_commutative (inf true) (inf true) = refl
+add_commutative (inf true) (inf false) = refl
+add_commutative (inf false) (inf true) = refl
+add_commutative (inf false) (inf false) = refl
+add_commutative (inf s) (fin t n d) = refl
+add_commutative (fin s m e) nan = refl
+add_commutative (fin s m e) (inf t) = refl
+add_commutative (fin s m e) (fin t n d) =
+    sum_commutative s (m * up e * down d) t (n * up d * down e) (down e * down d)
     ∙ ap (λ (k : ℕ). sum binary32 t (n * up d * down e) s (m * up e * down d) k) (mul_comm (down e) (down d))
 
 -- both are finite, or the sum is +infinity
-add-cases : (u v : Float) → T (le (f32 0) u) → T (le (f32 0) v) → (T (finite u) × T (finite v)) ⊎ (u ⊕ v ≡ inf false)
+add_cases : (u v : Float) → T (le (f32 0) u) → T (le (f32 0) v) → (T (finite u) × T (finite v)) ⊎ (u ⊕ v ≡ inf false)
 unfolding le add of_bits
-add-cases nan v h k = absurd h
-add-cases (inf true) v h k = absurd h
-add-cases (inf false) nan h k = absurd k
-add-cases (inf false) (inf true) h k = absurd k
-add-cases (inf false) (inf false) h k = inr refl
-add-cases (inf false) (fin t n d) h k = inr refl
-add-cases (fin s m e) nan h k = absurd k
-add-cases (fin s m e) (inf true) h k = absurd k
-add-cases (fin s m e) (inf false) h k = inr refl
-add-cases (fin s m e) (fin t n d) h k = inl (tt, tt)
+add_cases nan v h k = absurd h
+add_cases (inf true) v h k = absurd h
+add_cases (inf false) nan h k = absurd k
+add_cases (inf false) (inf true) h k = absurd k
+add_cases (inf false) (inf false) h k = inr refl
+add_cases (inf false) (fin t n d) h k = inr refl
+add_cases (fin s m e) nan h k = absurd k
+add_cases (fin s m e) (inf true) h k = absurd k
+add_cases (fin s m e) (inf false) h k = inr refl
+add_cases (fin s m e) (fin t n d) h k = inl (tt, tt)
 
-pub add-unsigned : (u v : Float) → T (unsigned u) → T (unsigned v) → T (unsigned (u ⊕ v))
+pub add_unsigned : (u v : Float) → T (unsigned u) → T (unsigned v) → T (unsigned (u ⊕ v))
 unfolding add
-add-unsigned nan v h k = absurd h
-add-unsigned (inf true) v h k = absurd h
-add-unsigned (inf false) nan h k = absurd k
-add-unsigned (inf false) (inf true) h k = absurd k
-add-unsigned (inf false) (inf false) h k = tt
-add-unsigned (inf false) (fin t n d) h k = tt
-add-unsigned (fin s m e) nan h k = absurd k
-add-unsigned (fin s m e) (inf t) h k = k
-add-unsigned (fin true m e) (fin t n d) h k = absurd h
-add-unsigned (fin false m e) (fin true n d) h k = absurd k
-add-unsigned (fin false m e) (fin false n d) h k = unfold sum in round-unsigned binary32 (m * up e * down d + n * up d * down e) (down e * down d)
+add_unsigned nan v h k = absurd h
+add_unsigned (inf true) v h k = absurd h
+add_unsigned (inf false) nan h k = absurd k
+add_unsigned (inf false) (inf true) h k = absurd k
+add_unsigned (inf false) (inf false) h k = tt
+add_unsigned (inf false) (fin t n d) h k = tt
+add_unsigned (fin s m e) nan h k = absurd k
+add_unsigned (fin s m e) (inf t) h k = k
+add_unsigned (fin true m e) (fin t n d) h k = absurd h
+add_unsigned (fin false m e) (fin true n d) h k = absurd k
+add_unsigned (fin false m e) (fin false n d) h k = unfold sum in round_unsigned binary32 (m * up e * down d + n * up d * down e) (down e * down d)
 
 -- an f32 is at most its sum with what is not below 0; another float might be rounded down
-pub add-above-left : (u v : Float) → T (fits binary32 u) → T (le (f32 0) u) → T (le (f32 0) v) → T (le u (u ⊕ v))
-add-above-left u v b h k = elim (add-cases u v h k) [
+pub add_above_left : (u v : Float) → T (fits binary32 u) → T (le (f32 0) u) → T (le (f32 0) v) → T (le u (u ⊕ v))
+add_above_left u v b h k = elim (add_cases u v h k) [
   | inl f ↦
-      rounds-le (den_pos u) (mul-pos (den_pos u) (den_pos v)) (rounds-own u b f.0) (rounds-add u v f.0 f.1)
-      (go (plus u) (minus u) (den u) (plus v) (minus v) (den v) (nonnegative-minus v f.1 k))
-  | inr e ↦ subst (λ (x : Float). T (le u x)) (sym e) (le-top u (le_right (f32 0) u h))
+      rounds_le (den_pos u) (mul-pos (den_pos u) (den_pos v)) (rounds_own u b f.0) (rounds_add u v f.0 f.1)
+      (go (plus u) (minus u) (den u) (plus v) (minus v) (den v) (nonnegative_minus v f.1 k))
+  | inr e ↦ subst (λ (x : Float). T (le u x)) (sym e) (le_top u (le_right (f32 0) u h))
 ]
   where
     go : (p n d q o c : ℕ) → o ≡ 0 → p * (d * c) + (n * c + o * d) * d ≤ (p * c + q * d) * d + n * (d * c)
     go p n d q o c h = rw h (omega arith)
 
-pub add-above-right : (u v : Float) → T (fits binary32 v) → T (le (f32 0) u) → T (le (f32 0) v) → T (le v (u ⊕ v))
-add-above-right u v b h k = subst (λ (x : Float). T (le v x)) (add-commutative v u) (add-above-left v u b k h)
+pub add_above_right : (u v : Float) → T (fits binary32 v) → T (le (f32 0) u) → T (le (f32 0) v) → T (le v (u ⊕ v))
+add_above_right u v b h k = subst (λ (x : Float). T (le v x)) (add_commutative v u) (add_above_left v u b k h)
 
 -- ---- where there is no NaN
 
 pub sub_number : (x y : Float) → T (finite x) → T (finite y) → T (not (is_nan (x ⊖ y)))
-sub_number x y f g = rounds-number (mul-pos (den_pos x) (den_pos y)) (rounds-sub x y f g)
+sub_number x y f g = rounds_number (mul-pos (den_pos x) (den_pos y)) (rounds_sub x y f g)
 
 -- a sum that is not a NaN is of two that are not
-pub add-number : (u v : Float) → T (not (is_nan (u ⊕ v))) → T (not (is_nan u)) × T (not (is_nan v))
+pub add_number : (u v : Float) → T (not (is_nan (u ⊕ v))) → T (not (is_nan u)) × T (not (is_nan v))
 unfolding add is_nan
-add-number nan v h = absurd h
-add-number (inf s) nan h = absurd h
-add-number (fin s m e) nan h = absurd h
-add-number (inf s) (inf t) h = (tt, tt)
-add-number (inf s) (fin t n d) h = (tt, tt)
-add-number (fin s m e) (inf t) h = (tt, tt)
-add-number (fin s m e) (fin t n d) h = (tt, tt)
+add_number nan v h = absurd h
+add_number (inf s) nan h = absurd h
+add_number (fin s m e) nan h = absurd h
+add_number (inf s) (inf t) h = (tt, tt)
+add_number (inf s) (fin t n d) h = (tt, tt)
+add_number (fin s m e) (inf t) h = (tt, tt)
+add_number (fin s m e) (fin t n d) h = (tt, tt)
 
 -- ---- the order, infinities included
 
-inf-added : (s : Bool) (u : Float) → T (not (is_nan (inf s ⊕ u))) → inf s ⊕ u ≡ inf s
+inf_added : (s : Bool) (u : Float) → T (not (is_nan (inf s ⊕ u))) → inf s ⊕ u ≡ inf s
 unfolding add is_nan
-inf-added s nan h = absurd h
-inf-added true (inf true) h = refl
-inf-added true (inf false) h = absurd h
-inf-added false (inf true) h = absurd h
-inf-added false (inf false) h = refl
-inf-added s (fin t n d) h = refl
+inf_added s nan h = absurd h
+inf_added true (inf true) h = refl
+inf_added true (inf false) h = absurd h
+inf_added false (inf true) h = absurd h
+inf_added false (inf false) h = refl
+inf_added s (fin t n d) h = refl
 
-pub add-monotone-left : (x y u : Float) → T (le x y) → T (not (is_nan (x ⊕ u))) → T (not (is_nan (y ⊕ u))) → T (le (x ⊕ u) (y ⊕ u))
-add-monotone-left nan y u h i j = absurd (unfold le in h)
-add-monotone-left (inf true) y u h i j = rw (inf-added true u i) (bottom-le (y ⊕ u) j)
-add-monotone-left (inf false) y u h i j = subst (λ (w : Float). T (le (inf false ⊕ u) (w ⊕ u))) (sym (top-le y h)) (le_refl (inf false ⊕ u) i)
-add-monotone-left (fin s m e) nan u h i j = absurd (unfold le in h)
-add-monotone-left (fin s m e) (inf true) u h i j = absurd (unfold le in h)
-add-monotone-left (fin s m e) (inf false) u h i j = rw (inf-added false u j) (le-top (fin s m e ⊕ u) i)
-add-monotone-left (fin s m e) (fin t n d) nan h i j = absurd (unfold add is_nan in i)
-add-monotone-left (fin s m e) (fin t n d) (inf r) h i j = unfold add in le_refl (inf r) (unfold is_nan in tt)
-add-monotone-left (fin s m e) (fin t n d) (fin r k c) h i j =
-    add-monotone (fin s m e) (fin t n d) (fin r k c) (fin r k c) tt tt tt tt h (le_refl (fin r k c) (unfold is_nan in tt))
+pub add_monotone_left : (x y u : Float) → T (le x y) → T (not (is_nan (x ⊕ u))) → T (not (is_nan (y ⊕ u))) → T (le (x ⊕ u) (y ⊕ u))
+add_monotone_left nan y u h i j = absurd (unfold le in h)
+add_monotone_left (inf true) y u h i j = rw (inf_added true u i) (bottom_le (y ⊕ u) j)
+add_monotone_left (inf false) y u h i j = subst (λ (w : Float). T (le (inf false ⊕ u) (w ⊕ u))) (sym (top_le y h)) (le_refl (inf false ⊕ u) i)
+add_monotone_left (fin s m e) nan u h i j = absurd (unfold le in h)
+add_monotone_left (fin s m e) (inf true) u h i j = absurd (unfold le in h)
+add_monotone_left (fin s m e) (inf false) u h i j = rw (inf_added false u j) (le_top (fin s m e ⊕ u) i)
+add_monotone_left (fin s m e) (fin t n d) nan h i j = absurd (unfold add is_nan in i)
+add_monotone_left (fin s m e) (fin t n d) (inf r) h i j = unfold add in le_refl (inf r) (unfold is_nan in tt)
+add_monotone_left (fin s m e) (fin t n d) (fin r k c) h i j =
+    add_monotone (fin s m e) (fin t n d) (fin r k c) (fin r k c) tt tt tt tt h (le_refl (fin r k c) (unfold is_nan in tt))

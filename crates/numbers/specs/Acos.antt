@@ -31,36 +31,36 @@ unfoldable pub abs : Float → Float
 abs v = cond (lt v (f32 0)) (neg v) v
 
 -- s with its low 12 bits cleared
-unfoldable pub highPart : Float → Float
-highPart s = cond (is_nan s) s (f32 (to_bits binary32 s - to_bits binary32 s % 4096))
+unfoldable pub high_part : Float → Float
+high_part s = cond (is_nan s) s (f32 (to_bits binary32 s - to_bits binary32 s % 4096))
 
 -- |v| below 0.5
-unfoldable pub acosMiddle : Float → Float
-acosMiddle v = H ⊖ (v ⊖ (L ⊖ v ⊗ R (v ⊗ v)))
+unfoldable pub acos_middle : Float → Float
+acos_middle v = H ⊖ (v ⊖ (L ⊖ v ⊗ R (v ⊗ v)))
 
 -- v at most -0.5
-unfoldable pub acosLow : Float → Float
-acosLow v =
+unfoldable pub acos_low : Float → Float
+acos_low v =
     let z = (one ⊕ v) ⊗ half in
     let s = root z in
     two ⊗ (H ⊖ (s ⊕ (R z ⊗ s ⊖ L)))
 
 -- v at least 0.5
-unfoldable pub acosHigh : Float → Float
-acosHigh v =
+unfoldable pub acos_high : Float → Float
+acos_high v =
     let z = (one ⊖ v) ⊗ half in
     let s = root z in
-    let d = highPart s in
+    let d = high_part s in
     let c = (z ⊖ d ⊗ d) ⊘ (s ⊕ d) in
     two ⊗ (d ⊕ (R z ⊗ s ⊕ c))
 
 -- v neither 1 nor -1; beyond them there is no arc cosine
-unfoldable pub acosInside : Float → Float
-acosInside v =
+unfoldable pub acos_inside : Float → Float
+acos_inside v =
     cond (lt one (abs v)) nan
     (cond (le (abs v) (f32 0x32800000)) H
-    (cond (lt (abs v) half) (acosMiddle v)
-    (cond (le v (neg half)) (acosLow v) (acosHigh v))))
+    (cond (lt (abs v) half) (acos_middle v)
+    (cond (le v (neg half)) (acos_low v) (acos_high v))))
 
 -- the scope's arc cosine
 unfoldable pub acos : Float → Float
@@ -68,4 +68,4 @@ acos v =
     cond (is_nan v) nan
     (cond (eq v one) (f32 0)
     (cond (eq v (neg one)) (two ⊗ H)
-    (acosInside v)))
+    (acos_inside v)))

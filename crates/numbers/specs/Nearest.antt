@@ -1,6 +1,6 @@
 -- That `root` is the square root that IEEE 754 asks for: for every finite f32 x above zero, `root x` is a
 -- finite f32 above zero, strictly nearer to the true root than every other f32, so no tie occurs. It is proved:
--- `root-nearest` in proofs/RootNearest. Definitions only.
+-- `root_nearest` in proofs/RootNearest. Definitions only.
 -- It is said over whole numbers. Let x be X units of
 -- 2^-298, and let `root x` and another f32 y be R and Y units of 2^-149, which every finite f32 of sign + is a
 -- whole number of. Then the true root of x is √X units of 2^-149, and R is nearer to it than Y exactly where

@@ -4,7 +4,7 @@ ghost use Rattle.std.specs.Prelude.{◌≡◌, not, false, ◌+◌, ◌*◌, ◌
 ghost use Rattle.std.specs.Float.{binary32};
 ghost use Rattle.std.specs.Float.Ieee.{of_bits, nan_bits};
 ghost use Rattle.std.specs.Float.Ieee.Exact.{HasValue};
-ghost use Rattle.numbers.specs.Root.{nearestRoot, root};
+ghost use Rattle.numbers.specs.Root.{nearest_root, root};
 
 // A number above zero: q * 2^(k + 23) units of 2^-298, q of 24 digits.
 #[derive(Drop)]
@@ -56,7 +56,7 @@ fn floor_root(n: u64) -> u64
 // The whole number nearest to the root of n: the guess where it is that number, else by halving.
 fn nearest_root(n: u64) -> u64
     requires { (0 < n) × (n < 2 ^ 48) }
-    ensures { result ≡ nearestRoot n }
+    ensures { result ≡ nearest_root n }
 {
     let g = guess(n);
     let p = g * g;
@@ -73,7 +73,7 @@ fn nearest_root(n: u64) -> u64
 // of two is left.
 fn root_of(q: u32, k: u32) -> u32
     requires { (2 ^ 23 ≤ q) × (q < 2 ^ 24) × (k < 400) }
-    ensures { result ≡ k / 2 * 8388608 + nearestRoot (q * 2 ^ (23 + k % 2)) }
+    ensures { result ≡ k / 2 * 8388608 + nearest_root (q * 2 ^ (23 + k % 2)) }
 {
     let n = (q as u64) << (23 + k % 2);
     k / 2 * 8388608 + (nearest_root(n) as u32)

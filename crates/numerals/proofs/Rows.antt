@@ -15,21 +15,21 @@ pub record Run (A L : Type 0) : Type 0 where
   pub failed : L
   pub ahead : A → L → L
   pub lines_none : (fuel : ℕ) → lines fuel [] ≡ none
-  pub lines-some : (fuel b : ℕ) (bs : List ℕ) → lines (suc fuel) (b ∷ bs)
+  pub lines_some : (fuel b : ℕ) (bs : List ℕ) → lines (suc fuel) (b ∷ bs)
       ≡ elim (line (b ∷ bs)) [ parsed a rest ↦ ahead a (lines fuel rest) | malformed ↦ failed ]
   pub shorter : (s : List ℕ) (at next : ℕ) (a : A) → line (drop at s) ≡ parsed a (drop next s) → length s - next < length s - at
 
 module _ {A L : Type 0} (r : Run A L) where
   -- ---- one line of the definition
-  line-good : (fuel : ℕ) (bs : List ℕ) (a : A) (rest : List ℕ) → 0 < length bs → r.line bs ≡ parsed a rest → r.lines (suc fuel) bs
+  line_good : (fuel : ℕ) (bs : List ℕ) (a : A) (rest : List ℕ) → 0 < length bs → r.line bs ≡ parsed a rest → r.lines (suc fuel) bs
       ≡ r.ahead a (r.lines fuel rest)
-  line-good fuel [] a rest h e = absurd (omega arith)
-  line-good fuel (b ∷ bs) a rest h e = r.lines-some fuel b bs ∙ ap
+  line_good fuel [] a rest h e = absurd (omega arith)
+  line_good fuel (b ∷ bs) a rest h e = r.lines_some fuel b bs ∙ ap
       (λ (q : Parsed A). elim q [ parsed a rest ↦ r.ahead a (r.lines fuel rest) | malformed ↦ r.failed ]) e
 
-  line-wrong : (fuel : ℕ) (bs : List ℕ) → 0 < length bs → r.line bs ≡ malformed → r.lines (suc fuel) bs ≡ r.failed
-  line-wrong fuel [] h e = absurd (omega arith)
-  line-wrong fuel (b ∷ bs) h e = r.lines-some fuel b bs ∙ ap
+  line_wrong : (fuel : ℕ) (bs : List ℕ) → 0 < length bs → r.line bs ≡ malformed → r.lines (suc fuel) bs ≡ r.failed
+  line_wrong fuel [] h e = absurd (omega arith)
+  line_wrong fuel (b ∷ bs) h e = r.lines_some fuel b bs ∙ ap
       (λ (q : Parsed A). elim q [ parsed a rest ↦ r.ahead a (r.lines fuel rest) | malformed ↦ r.failed ]) e
 
   -- ---- the lines from a place on, with fuel that lasts
@@ -55,7 +55,7 @@ module _ {A L : Type 0} (r : Run A L) where
       spent (suc n) h = (n, refl)
 
       pub from_wrong : r.line (drop at s) ≡ malformed → all ≡ r.failed
-      from_wrong e = let m = spent f.fuel f.enough in f.same ∙ ap (λ (n : ℕ). r.lines n (drop at s)) m.1 ∙ line-wrong m.0 (drop at s) bytes_left e
+      from_wrong e = let m = spent f.fuel f.enough in f.same ∙ ap (λ (n : ℕ). r.lines n (drop at s)) m.1 ∙ line_wrong m.0 (drop at s) bytes_left e
 
       -- the rest, behind the line that was read
       pub from_next : (a : A) (next : ℕ) → r.line (drop at s) ≡ parsed a (drop next s) → (rest : L) × ((all ≡ r.ahead a rest) × From s next rest)
@@ -65,7 +65,7 @@ module _ {A L : Type 0} (r : Run A L) where
           let en : length s - at ≤ suc m.0 = subst (λ (n : ℕ). length s - at ≤ n) m.1 f.enough in (
             r.lines m.0 (drop next s),
             (
-              f.same ∙ ap (λ (n : ℕ). r.lines n (drop at s)) m.1 ∙ line-good m.0 (drop at s) a (drop next s) bytes_left e,
+              f.same ∙ ap (λ (n : ℕ). r.lines n (drop at s)) m.1 ∙ line_good m.0 (drop at s) a (drop next s) bytes_left e,
               record { fuel = m.0; enough = omega arith; same = refl },
             ),
           )

@@ -18,45 +18,45 @@ starts_with c [] = false
 starts_with c (b ∷ bs) = eqb b c
 
 -- the bytes 48 to 57
-abbrev pub isDigit : ℕ → Bool
-isDigit b = leb 48 b && leb b 57
+abbrev pub is_digit : ℕ → Bool
+is_digit b = leb 48 b && leb b 57
 
-unfoldable pub startsDigit : List ℕ → Bool
-startsDigit [] = false
-startsDigit (b ∷ bs) = isDigit b
+unfoldable pub starts_digit : List ℕ → Bool
+starts_digit [] = false
+starts_digit (b ∷ bs) = is_digit b
 
 -- how many digits stand at the front
 unfoldable pub digits : List ℕ → ℕ
 digits [] = 0
-digits (b ∷ bs) = let more = suc (digits bs) in cond (isDigit b) more 0
+digits (b ∷ bs) = let more = suc (digits bs) in cond (is_digit b) more 0
 
 -- a number of digits that may stand in one place: 1 to most
 unfoldable pub few : ℕ → ℕ → Bool
 few count most = leb 1 count && leb count most
 
 -- the whole number that digits write in decimal, behind digits that write v
-unfoldable pub digitsValue : ℕ → List ℕ → ℕ
-digitsValue v [] = v
-digitsValue v (d ∷ ds) = digitsValue (v * 10 + (d - 48)) ds
+unfoldable pub digits_value : ℕ → List ℕ → ℕ
+digits_value v [] = v
+digits_value v (d ∷ ds) = digits_value (v * 10 + (d - 48)) ds
 
 -- ---- a number
 -- what follows the whole part: a point (byte 46) and 1 to 6 digits, or nothing
 unfoldable pub fraction : Bool → ℕ → List ℕ → Parsed Float
-unfolding starts_with digits few digitsValue decimal
+unfolding starts_with digits few digits_value decimal
 fraction negative units bs =
     let places = digits (drop 1 bs) in
-    let digitsRead = parsed (decimal negative units (digitsValue 0 (take places (drop 1 bs))) places)
+    let digitsRead = parsed (decimal negative units (digits_value 0 (take places (drop 1 bs))) places)
     (drop places (drop 1 bs)) in
     cond (starts_with 46 bs) (cond (few places 6) digitsRead malformed) (parsed (decimal negative units 0 0) bs)
 
 -- 1 to 5 digits, and perhaps a fraction
-unfoldable pub unsignedNumber : Bool → List ℕ → Parsed Float
-unfolding digits few digitsValue fraction
-unsignedNumber negative bs =
+unfoldable pub unsigned_number : Bool → List ℕ → Parsed Float
+unfolding digits few digits_value fraction
+unsigned_number negative bs =
     let count = digits bs in
-    cond (few count 5) (fraction negative (digitsValue 0 (take count bs)) (drop count bs)) malformed
+    cond (few count 5) (fraction negative (digits_value 0 (take count bs)) (drop count bs)) malformed
 
 -- an optional minus (byte 45), and a magnitude
 unfoldable pub number : List ℕ → Parsed Float
-unfolding starts_with unsignedNumber
-number bs = cond (starts_with 45 bs) (unsignedNumber true (drop 1 bs)) (unsignedNumber false bs)
+unfolding starts_with unsigned_number
+number bs = cond (starts_with 45 bs) (unsigned_number true (drop 1 bs)) (unsigned_number false bs)

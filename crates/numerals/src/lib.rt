@@ -1,8 +1,8 @@
 // One number of the file: an optional minus, 1 to 5 digits, and optionally a point and 1 to 6 digits.
 ghost use Rattle.std.specs.Prelude.{◌≡◌, cond, ◌+◌, ◌-◌, ◌^◌, ◌<◌, take, drop};
-ghost use Rattle.numerals.specs.Format.{starts_with, startsDigit, digits, few, digitsValue, fraction};
-ghost use Rattle.numerals.specs.Format.{unsignedNumber, number};
-ghost use Rattle.numerals.specs.Inner.Answers.{numberMeans};
+ghost use Rattle.numerals.specs.Format.{starts_with, starts_digit, digits, few, digits_value, fraction};
+ghost use Rattle.numerals.specs.Format.{unsigned_number, number};
+ghost use Rattle.numerals.specs.Inner.Answers.{number_means};
 ghost use Rattle.numerals.specs.Inner.Ready.{Digits};
 
 use decimals::decimal_value;
@@ -21,7 +21,7 @@ pub fn byte_is(s: &[u8], at: usize, b: u8) -> bool
 }
 
 fn is_digit(s: &[u8], at: usize) -> bool
-    ensures { result ≡ startsDigit (drop at s.now) }
+    ensures { result ≡ starts_digit (drop at s.now) }
 {
     if at < s.len() {
         let b = s[at];
@@ -52,7 +52,7 @@ pub fn is_few(count: usize, most: usize) -> bool
 // The whole number that the digits from at to end write.
 pub fn whole_of(s: &[u8], at: usize, end: usize) -> u32
     requires { Digits s.now at end }
-    ensures { (result ≡ digitsValue 0 (take (end - at) (drop at s.now))) × (result < 10 ^ (end - at)) }
+    ensures { (result ≡ digits_value 0 (take (end - at) (drop at s.now))) × (result < 10 ^ (end - at)) }
 {
     let mut v: u32 = 0;
     let mut i = at;
@@ -67,7 +67,7 @@ pub fn whole_of(s: &[u8], at: usize, end: usize) -> u32
 // What follows a whole part: a point with digits, or nothing.
 fn fraction_at(s: &[u8], at: usize, negative: bool, units: u32) -> NumberRead
     requires { units < 10 ^ 5 }
-    ensures { numberMeans s.now result ≡ fraction negative units (drop at s.now) }
+    ensures { number_means s.now result ≡ fraction negative units (drop at s.now) }
 {
     if byte_is(s, at, b'.') {
         let start = at + 1;
@@ -92,7 +92,7 @@ fn fraction_at(s: &[u8], at: usize, negative: bool, units: u32) -> NumberRead
 
 // A number without its sign.
 fn magnitude_at(s: &[u8], at: usize, negative: bool) -> NumberRead
-    ensures { numberMeans s.now result ≡ unsignedNumber negative (drop at s.now) }
+    ensures { number_means s.now result ≡ unsigned_number negative (drop at s.now) }
 {
     let end = digits_end(s, at);
     let count = end - at;
@@ -112,7 +112,7 @@ pub fn behind_minus(s: &[u8], at: usize) -> usize
 }
 
 pub fn number_at(s: &[u8], at: usize) -> NumberRead
-    ensures { numberMeans s.now result ≡ number (drop at s.now) }
+    ensures { number_means s.now result ≡ number (drop at s.now) }
 {
     magnitude_at(s, behind_minus(s, at), byte_is(s, at, b'-'))
 }

@@ -10,54 +10,54 @@ use lib.ListN.{get_or}
 use borrow.Author.Tests.{eqb-true, eqb-false, eq-eqb, ne_eqb, ltb-true, ltb-false}
 use Rattle.lists.specs.Lists.{bit, up_from}
 use Rattle.lists.proofs.Bools.{either, and_both}
-use Rattle.lists.proofs.Counts.{count-ext}
+use Rattle.lists.proofs.Counts.{count_ext}
 use Rattle.patch.specs.Lay.{edge, Face, face}
 use Rattle.patch.specs.Shape.{has, touches}
 use Rattle.minima.specs.Inner.Minima.{Nodes, leaf, Outside, Renewed}
-use Rattle.corners.specs.Corners.{last_at, faceIn, CornersLinked, Bound}
-use Rattle.corners.proofs.Chain.{last-at, last_none, bound-same}
-use Rattle.regions.specs.Inner.Ordering.{cornersAt, headsAt, treeAt}
+use Rattle.corners.specs.Corners.{last_at, face_in, CornersLinked, Bound}
+use Rattle.corners.proofs.Chain.{last_at_lem, last_none, bound_same}
+use Rattle.regions.specs.Inner.Ordering.{corners_at, heads_at, tree_at}
 use Rattle.offers.specs.Inner.Offers.{offered, Offered, OfferedAt, Faces, Meets}
-use Rattle.offers.proofs.Faces.{has_both, tally, tally-here, tally-last, tally-none, tally-faces, corner-touches, touches-corner}
+use Rattle.offers.proofs.Faces.{has_both, tally, tally_here, tally_last, tally_none, tally_faces, corner_touches, touches_corner}
 
 -- ---- one face
 module _ (faces g v : ℕ) where
-  pub offered-left : v ≡ faces + g → offered true faces g v ≡ g
+  pub offered_left : v ≡ faces + g → offered true faces g v ≡ g
   unfolding offered
-  offered-left e = rw (eq-eqb v (faces + g) e, offered)
+  offered_left e = rw (eq-eqb v (faces + g) e, offered)
 
-  pub offered-kept : v ≢ faces + g → offered true faces g v ≡ v
+  pub offered_kept : v ≢ faces + g → offered true faces g v ≡ v
   unfolding offered
-  offered-kept e = rw (ne_eqb v (faces + g) e, offered)
+  offered_kept e = rw (ne_eqb v (faces + g) e, offered)
 
-pub offered-no : (faces g v : ℕ) → offered false faces g v ≡ v
+pub offered_no : (faces g v : ℕ) → offered false faces g v ≡ v
 unfolding offered
-offered-no faces g v = refl
+offered_no faces g v = refl
 
 -- offered twice is offered once
-offered-again : (test : Bool) (faces g v : ℕ) → 1 ≤ faces → offered true faces g (offered test faces g v) ≡ offered true faces g v
-offered-again true faces g v l = ⊎_elim
+offered_again : (test : Bool) (faces g v : ℕ) → 1 ≤ faces → offered true faces g (offered test faces g v) ≡ offered true faces g v
+offered_again true faces g v l = ⊎_elim
     (λ (t : eqb v (faces + g) ≡ true).
-    let e = offered-left faces g v (eqb-true v (faces + g) t) in
-    ap (offered true faces g) e ∙ offered-kept faces g g (λ (q : g ≡ faces + g). omega arith) ∙ sym e)
-    (λ (t : eqb v (faces + g) ≡ false). ap (offered true faces g) (offered-kept faces g v (eqb-false v (faces + g) t)))
+    let e = offered_left faces g v (eqb-true v (faces + g) t) in
+    ap (offered true faces g) e ∙ offered_kept faces g g (λ (q : g ≡ faces + g). omega arith) ∙ sym e)
+    (λ (t : eqb v (faces + g) ≡ false). ap (offered true faces g) (offered_kept faces g v (eqb-false v (faces + g) t)))
     (either (eqb v (faces + g)))
-offered-again false faces g v l = ap (offered true faces g) (offered-no faces g v)
+offered_again false faces g v l = ap (offered true faces g) (offered_no faces g v)
 
 module _ (n faces g : ℕ) (w : List ℕ) where
-  pub offer-none : (test : Bool) → offered test faces g (leaf (treeAt n) faces w g) ≡ leaf (treeAt n) faces w g → Offered n faces g test w w
-  offer-none test h = record { nodes = λ k. k; offer = sym h; others = λ k l ne. refl; outside = λ k s. refl }
+  pub offer_none : (test : Bool) → offered test faces g (leaf (tree_at n) faces w g) ≡ leaf (tree_at n) faces w g → Offered n faces g test w w
+  offer_none test h = record { nodes = λ k. k; offer = sym h; others = λ k l ne. refl; outside = λ k s. refl }
 
-  pub offer-renewed : (u : List ℕ) → leaf (treeAt n) faces w g ≡ faces + g → Renewed (treeAt n) faces g g w u → Offered n faces g true w u
-  offer-renewed u e r = record {
+  pub offer_renewed : (u : List ℕ) → leaf (tree_at n) faces w g ≡ faces + g → Renewed (tree_at n) faces g g w u → Offered n faces g true w u
+  offer_renewed u e r = record {
     nodes = r.nodes;
-    offer = r.renewed ∙ sym (offered-left faces g (leaf (treeAt n) faces w g) e);
+    offer = r.renewed ∙ sym (offered_left faces g (leaf (tree_at n) faces w g) e);
     others = r.others;
     outside = r.outside;
   }
 
-  pub offer-yes : (u : List ℕ) (test : Bool) → true ≡ test → Offered n faces g true w u → Offered n faces g test w u
-  offer-yes u test e h = subst (λ (b : Bool). Offered n faces g b w u) e h
+  pub offer_yes : (u : List ℕ) (test : Bool) → true ≡ test → Offered n faces g true w u → Offered n faces g test w u
+  offer_yes u test e h = subst (λ (b : Bool). Offered n faces g b w u) e h
 
 -- ---- along the corners
 module _ (n faces x y : ℕ) (start : List ℕ) where
@@ -65,29 +65,29 @@ module _ (n faces x y : ℕ) (start : List ℕ) where
   pub record Going (corner : ℕ → ℕ) (at : ℕ → Face) (w : List ℕ) (met next : ℕ) : Type 0 where
     pub from : ℕ
     pub within : from ≤ 3 * faces
-    pub next-is : next ≡ last_at corner x from
+    pub next_is : next ≡ last_at corner x from
     pub tallied : met + tally corner x (λ g. touches y (at g)) next ≡ tally corner x (λ g. touches y (at g)) (3 * faces)
-    pub seen : (t : ℕ) → next ≤ t → t < 3 * faces → corner t ≡ x → touches y (at (t / 3)) ≡ true → leaf (treeAt n) faces w (t / 3)
-        ≡ offered true faces (t / 3) (leaf (treeAt n) faces start (t / 3))
-    pub again : (g : ℕ) → g < faces → offered true faces g (leaf (treeAt n) faces w g) ≡ offered true faces g (leaf (treeAt n) faces start g)
-    pub others : (g : ℕ) → g < faces → (touches x (at g) && touches y (at g)) ≡ false → leaf (treeAt n) faces w g ≡ leaf (treeAt n) faces start g
+    pub seen : (t : ℕ) → next ≤ t → t < 3 * faces → corner t ≡ x → touches y (at (t / 3)) ≡ true → leaf (tree_at n) faces w (t / 3)
+        ≡ offered true faces (t / 3) (leaf (tree_at n) faces start (t / 3))
+    pub again : (g : ℕ) → g < faces → offered true faces g (leaf (tree_at n) faces w g) ≡ offered true faces g (leaf (tree_at n) faces start g)
+    pub others : (g : ℕ) → g < faces → (touches x (at g) && touches y (at g)) ≡ false → leaf (tree_at n) faces w g ≡ leaf (tree_at n) faces start g
 
   pub record Walked (w : List ℕ) (met next : ℕ) : Type 0 where
-    pub nodes : Nodes (treeAt n) faces start → Nodes (treeAt n) faces w
-    pub outside : Outside (treeAt n) faces start w
+    pub nodes : Nodes (tree_at n) faces start → Nodes (tree_at n) faces w
+    pub outside : Outside (tree_at n) faces start w
     pub going : (corner : ℕ → ℕ) (at : ℕ → Face) → CornersLinked n (3 * faces) corner start → Faces faces corner at → Going corner at w met next
 
-  pub walk_start : x < n → Walked start 0 (get_or start (headsAt n + x) 0)
+  pub walk_start : x < n → Walked start 0 (get_or start (heads_at n + x) 0)
   walk_start l = record {
     nodes = λ h. h;
     outside = λ k s. refl;
     going = λ corner at linked held. record {
       from = 3 * faces;
       within = omega arith;
-      next-is = linked.heads x l;
+      next_is = linked.heads x l;
       tallied =
           let e = ap (tally corner x (λ g. touches y (at g))) (linked.heads x l) in
-          let f = tally-last corner x (λ g. touches y (at g)) (3 * faces) in
+          let f = tally_last corner x (λ g. touches y (at g)) (3 * faces) in
           omega arith;
       seen = λ t a b e q. absurd (last_none corner x (3 * faces) t (subst (λ (k : ℕ). k ≤ t) (linked.heads x l) a) b e);
       again = λ g b. refl;
@@ -96,11 +96,11 @@ module _ (n faces x y : ℕ) (start : List ℕ) where
   }
 
   -- the words in front of the tree are as they were
-  front : (w : List ℕ) → Outside (treeAt n) faces start w → (k : ℕ) → k < 7 * n → get_or w k 0 ≡ get_or start k 0
+  front : (w : List ℕ) → Outside (tree_at n) faces start w → (k : ℕ) → k < 7 * n → get_or w k 0 ≡ get_or start k 0
   front w o k l = o k (inl (omega arith))
 
-  pub walk-bound : (few : faces ≤ n) (w : List ℕ) → Outside (treeAt n) faces start w → Bound n (3 * faces) start → Bound n (3 * faces) w
-  walk-bound few w o h = bound-same n (3 * faces) (omega arith) start w (front w o) h
+  pub walk_bound : (few : faces ≤ n) (w : List ℕ) → Outside (tree_at n) faces start w → Bound n (3 * faces) start → Bound n (3 * faces) w
+  walk_bound few w o h = bound_same n (3 * faces) (omega arith) start w (front w o) h
 
   module _ (few : faces ≤ n) (w u : List ℕ) (met next r : ℕ) (more : 0 < next) (low : next ≤ 3 * faces) (walked : Walked w met next)
       (at-face : OfferedAt n faces ((next - 1) / 3) y r w u) where
@@ -110,22 +110,22 @@ module _ (n faces x y : ℕ) (start : List ℕ) where
     abbrev here : ℕ
     here = (next - 1) / 3
 
-    abbrev step : Offered n faces here (touches y (faceIn w here)) w u
+    abbrev step : Offered n faces here (touches y (face_in w here)) w u
     step = at-face.1
 
     below : here < faces
     below = omega arith
 
-    outside-now : Outside (treeAt n) faces start u
-    outside-now k s = step.outside k s ∙ walked.outside k s
+    outside_now : Outside (tree_at n) faces start u
+    outside_now k s = step.outside k s ∙ walked.outside k s
 
     module _ (corner : ℕ → ℕ) (at : ℕ → Face) (linked : CornersLinked n (3 * faces) corner start) (held : Faces faces corner at) where
-      now-going : Going corner at w met next
-      now-going = walked.going corner at linked held
+      now_going : Going corner at w met next
+      now_going = walked.going corner at linked held
 
       -- the face that was read is the face
-      face-is : faceIn w here ≡ at here
-      face-is =
+      face_is : face_in w here ≡ at here
+      face_is =
           let c0 : get_or w (3 * here) 0
           ≡ corner (3 * here) = front w walked.outside (3 * here) (omega arith) ∙ linked.corners (3 * here) (omega (arith, below)) in
           let c1 : get_or w (3 * here + 1) 0
@@ -136,86 +136,86 @@ module _ (n faces x y : ℕ) (start : List ℕ) where
           (omega (arith, below)) in
           (λ i. face (c0 i) (c1 i) (c2 i)) ∙ sym (held.are here below)
 
-      test-is : touches y (faceIn w here) ≡ touches y (at here)
-      test-is = ap (touches y) face-is
+      test_is : touches y (face_in w here) ≡ touches y (at here)
+      test_is = ap (touches y) face_is
 
       at_x : corner side ≡ x
-      at_x = last-at corner x now-going.from side (sym now-going.next-is ∙ (omega arith))
+      at_x = last_at_lem corner x now_going.from side (sym now_going.next_is ∙ (omega arith))
 
-      next-now : get_or u (cornersAt n + side) 0 ≡ last_at corner x side
-      next-now =
-          outside-now (cornersAt n + side) (inl (omega arith))
+      next_now : get_or u (corners_at n + side) 0 ≡ last_at corner x side
+      next_now =
+          outside_now (corners_at n + side) (inl (omega arith))
           ∙ linked.links side (omega arith)
           ∙ ap (λ (p : ℕ). last_at corner p side) at_x
 
-      has-x : touches x (at here) ≡ true
-      has-x = corner-touches faces corner at held x side (omega arith) at_x
+      has_x : touches x (at here) ≡ true
+      has_x = corner_touches faces corner at held x side (omega arith) at_x
 
-      leaf-now : leaf (treeAt n) faces u here ≡ offered (touches y (at here)) faces here (leaf (treeAt n) faces w here)
-      leaf-now = step.offer ∙ ap (λ (b : Bool). offered b faces here (leaf (treeAt n) faces w here)) test-is
+      leaf_now : leaf (tree_at n) faces u here ≡ offered (touches y (at here)) faces here (leaf (tree_at n) faces w here)
+      leaf_now = step.offer ∙ ap (λ (b : Bool). offered b faces here (leaf (tree_at n) faces w here)) test_is
 
       abbrev q : ℕ → Bool
       q g = touches y (at g)
 
-      tallied-now : met + r + tally corner x q (get_or u (cornersAt n + side) 0) ≡ tally corner x q (3 * faces)
-      tallied-now =
-          let before = now-going.tallied in
+      tallied_now : met + r + tally corner x q (get_or u (corners_at n + side) 0) ≡ tally corner x q (3 * faces)
+      tallied_now =
+          let before = now_going.tallied in
           let one : tally corner x q next ≡ bit (q here) + tally corner x q side =
-          (let e : next ≡ suc side = omega arith in ap (tally corner x q) e ∙ tally-here corner x q side at_x) in
-          let now : tally corner x q (get_or u (cornersAt n + side) 0) ≡ tally corner x q side = ap (tally corner x q) next-now ∙ tally-last corner x q side in
-          let found : r ≡ bit (q here) = at-face.0 ∙ ap bit test-is in
+          (let e : next ≡ suc side = omega arith in ap (tally corner x q) e ∙ tally_here corner x q side at_x) in
+          let now : tally corner x q (get_or u (corners_at n + side) 0) ≡ tally corner x q side = ap (tally corner x q) next_now ∙ tally_last corner x q side in
+          let found : r ≡ bit (q here) = at-face.0 ∙ ap bit test_is in
           omega arith
 
-      seen-now : (t : ℕ) → get_or u (cornersAt n + side) 0 ≤ t → t < 3 * faces → corner t ≡ x → q (t / 3) ≡ true → leaf (treeAt n) faces u (t / 3)
-          ≡ offered true faces (t / 3) (leaf (treeAt n) faces start (t / 3))
-      seen-now t a b e h = ⊎_elim
+      seen_now : (t : ℕ) → get_or u (corners_at n + side) 0 ≤ t → t < 3 * faces → corner t ≡ x → q (t / 3) ≡ true → leaf (tree_at n) faces u (t / 3)
+          ≡ offered true faces (t / 3) (leaf (tree_at n) faces start (t / 3))
+      seen_now t a b e h = ⊎_elim
           (λ (s : eqb (t / 3) here ≡ true).
           let same = eqb-true (t / 3) here s in
-          rw same (leaf-now ∙ ap (λ (z : Bool). offered z faces here (leaf (treeAt n) faces w here)) (ap q (sym same) ∙ h) ∙ now-going.again here below))
+          rw same (leaf_now ∙ ap (λ (z : Bool). offered z faces here (leaf (tree_at n) faces w here)) (ap q (sym same) ∙ h) ∙ now_going.again here below))
           (λ (s : eqb (t / 3) here ≡ false).
           let other = eqb-false (t / 3) here s in
           let not-side : t ≢ side = λ (z : t ≡ side). other (ap (λ (k : ℕ). k / 3) z) in
           ⊎_elim
-          (λ (lt : ltb t side ≡ true). absurd (last_none corner x side t (subst (λ (k : ℕ). k ≤ t) next-now a) (ltb-true t side lt) e))
+          (λ (lt : ltb t side ≡ true). absurd (last_none corner x side t (subst (λ (k : ℕ). k ≤ t) next_now a) (ltb-true t side lt) e))
           (λ (ge : ltb t side ≡ false).
           let g = ltb-false t side ge in
-          step.others (t / 3) (omega arith) other ∙ now-going.seen t (omega arith) b e h)
+          step.others (t / 3) (omega arith) other ∙ now_going.seen t (omega arith) b e h)
           (either (ltb t side)))
           (either (eqb (t / 3) here))
 
-      again-now : (g : ℕ) → g < faces → offered true faces g (leaf (treeAt n) faces u g) ≡ offered true faces g (leaf (treeAt n) faces start g)
-      again-now g b = ⊎_elim
+      again_now : (g : ℕ) → g < faces → offered true faces g (leaf (tree_at n) faces u g) ≡ offered true faces g (leaf (tree_at n) faces start g)
+      again_now g b = ⊎_elim
           (λ (s : eqb g here ≡ true).
           rw (eqb-true g here s)
-          (ap (offered true faces here) leaf-now ∙ offered-again (q here) faces here (leaf (treeAt n) faces w here)
-          (omega arith) ∙ now-going.again here below))
-          (λ (s : eqb g here ≡ false). ap (offered true faces g) (step.others g b (eqb-false g here s)) ∙ now-going.again g b)
+          (ap (offered true faces here) leaf_now ∙ offered_again (q here) faces here (leaf (tree_at n) faces w here)
+          (omega arith) ∙ now_going.again here below))
+          (λ (s : eqb g here ≡ false). ap (offered true faces g) (step.others g b (eqb-false g here s)) ∙ now_going.again g b)
           (either (eqb g here))
 
-      others-now : (g : ℕ) → g < faces → (touches x (at g) && touches y (at g)) ≡ false → leaf (treeAt n) faces u g ≡ leaf (treeAt n) faces start g
-      others-now g b e = ⊎_elim
+      others_now : (g : ℕ) → g < faces → (touches x (at g) && touches y (at g)) ≡ false → leaf (tree_at n) faces u g ≡ leaf (tree_at n) faces start g
+      others_now g b e = ⊎_elim
           (λ (s : eqb g here ≡ true).
           let same = eqb-true g here s in
           let none : (touches x (at here) && q here) ≡ false = rw same at e in
-          let no : q here ≡ false = rw has-x at none in
-          rw same (leaf-now ∙ ap (λ (z : Bool). offered z faces here (leaf (treeAt n) faces w here)) no ∙ offered-no faces here
-          (leaf (treeAt n) faces w here) ∙ now-going.others here below none))
-          (λ (s : eqb g here ≡ false). step.others g b (eqb-false g here s) ∙ now-going.others g b e)
+          let no : q here ≡ false = rw has_x at none in
+          rw same (leaf_now ∙ ap (λ (z : Bool). offered z faces here (leaf (tree_at n) faces w here)) no ∙ offered_no faces here
+          (leaf (tree_at n) faces w here) ∙ now_going.others here below none))
+          (λ (s : eqb g here ≡ false). step.others g b (eqb-false g here s) ∙ now_going.others g b e)
           (either (eqb g here))
 
-      going_on : Going corner at u (met + r) (get_or u (cornersAt n + side) 0)
+      going_on : Going corner at u (met + r) (get_or u (corners_at n + side) 0)
       going_on = record {
         from = side;
         within = omega arith;
-        next-is = next-now;
-        tallied = tallied-now;
-        seen = seen-now;
-        again = again-now;
-        others = others-now;
+        next_is = next_now;
+        tallied = tallied_now;
+        seen = seen_now;
+        again = again_now;
+        others = others_now;
       }
 
-    pub walk_step : Walked u (met + r) (get_or u (cornersAt n + side) 0)
-    walk_step = record { nodes = λ h. step.nodes (walked.nodes h); outside = outside-now; going = going_on }
+    pub walk_step : Walked u (met + r) (get_or u (corners_at n + side) 0)
+    walk_step = record { nodes = λ h. step.nodes (walked.nodes h); outside = outside_now; going = going_on }
 
   pub walk_end : (w : List ℕ) (met next : ℕ) → next ≡ 0 → Walked w met next → Meets n faces x y met start w
   walk_end w met next z walked = record {
@@ -227,20 +227,20 @@ module _ (n faces x y : ℕ) (start : List ℕ) where
           met =
               let t = g.tallied in
               let none : tally corner x (λ h. touches y (at h)) next
-              ≡ 0 = ap (tally corner x (λ h. touches y (at h))) z ∙ tally-none corner x (λ h. touches y (at h)) in
+              ≡ 0 = ap (tally corner x (λ h. touches y (at h))) z ∙ tally_none corner x (λ h. touches y (at h)) in
               let e : met ≡ tally corner x (λ h. touches y (at h)) (3 * faces) = omega arith in
-              e ∙ tally-faces faces corner at held x (λ h. touches y (at h)) faces (omega arith)
-              ∙ count-ext (λ h. touches x (at h) && touches y (at h)) (λ h. has (edge x y) (at h)) (λ h. sym (has_both x y (at h) apart)) (up_from 0 faces);
+              e ∙ tally_faces faces corner at held x (λ h. touches y (at h)) faces (omega arith)
+              ∙ count_ext (λ h. touches x (at h) && touches y (at h)) (λ h. has (edge x y) (at h)) (λ h. sym (has_both x y (at h) apart)) (up_from 0 faces);
           leaves = λ h l. ⊎_elim
               (λ (t : (touches x (at h) && touches y (at h)) ≡ true).
               let b = and_both {p = touches x (at h)} {q = touches y (at h)} t in
-              let c = touches-corner faces corner at held x h l b.0 in
+              let c = touches_corner faces corner at held x h l b.0 in
               let s = g.seen c.0 (omega arith) c.1 c.3 (ap (λ (k : ℕ). touches y (at k)) c.2 ∙ b.1) in
-              (rw c.2 at s) ∙ ap (λ (v : Bool). offered v faces h (leaf (treeAt n) faces start h)) (sym (has_both x y (at h) apart ∙ t)))
+              (rw c.2 at s) ∙ ap (λ (v : Bool). offered v faces h (leaf (tree_at n) faces start h)) (sym (has_both x y (at h) apart ∙ t)))
               (λ (t : (touches x (at h) && touches y (at h)) ≡ false).
               g.others h l t ∙ sym
-              (ap (λ (v : Bool). offered v faces h (leaf (treeAt n) faces start h)) (has_both x y (at h) apart ∙ t) ∙ offered-no faces h
-              (leaf (treeAt n) faces start h)))
+              (ap (λ (v : Bool). offered v faces h (leaf (tree_at n) faces start h)) (has_both x y (at h) apart ∙ t) ∙ offered_no faces h
+              (leaf (tree_at n) faces start h)))
               (either (touches x (at h) && touches y (at h)));
         };
   }

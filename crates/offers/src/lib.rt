@@ -2,12 +2,12 @@
 // found by the links of the corners at one of the edge's points.
 ghost use Rattle.std.specs.Prelude.{true, ◌+◌, ◌*◌, ◌≤◌, ◌<◌, length};
 ghost use Rattle.corners.specs.Corners.{Bound};
-ghost use Rattle.regions.specs.Inner.Ordering.{treeEnd};
+ghost use Rattle.regions.specs.Inner.Ordering.{tree_end};
 ghost use Rattle.offers.specs.Inner.Offers.{Offered, OfferedAt, Meets};
 
 // Offers the face g, if it is left and was not offered before.
 fn offer(n: usize, count: usize, words: &mut [u32], g: usize)
-    requires { (n ≤ 4096) × (count ≤ n) × (g < count) × (treeEnd n ≤ length words.old) }
+    requires { (n ≤ 4096) × (count ≤ n) × (g < count) × (tree_end n ≤ length words.old) }
     ensures { Offered n count g true words.old words.new }
 {
     let value = words[regions::TREE * n + count + g] as usize;
@@ -19,7 +19,7 @@ fn offer(n: usize, count: usize, words: &mut [u32], g: usize)
 
 // Offers the face g if it has the point y; answers 1 if it has, else 0.
 fn offer_with(n: usize, count: usize, words: &mut [u32], g: usize, y: u32) -> usize
-    requires { (n ≤ 4096) × (count ≤ n) × (g < count) × (treeEnd n ≤ length words.old) }
+    requires { (n ≤ 4096) × (count ≤ n) × (g < count) × (tree_end n ≤ length words.old) }
     ensures { OfferedAt n count g y result words.old words.new }
 {
     if corners::has_point(words, g, y) {
@@ -31,7 +31,7 @@ fn offer_with(n: usize, count: usize, words: &mut [u32], g: usize, y: u32) -> us
 
 // Offers every face that has the edge from x to y; answers how many have it.
 pub fn offer_at(n: usize, count: usize, words: &mut [u32], x: usize, y: u32) -> usize
-    requires { (n ≤ 4096) × (count ≤ n) × (x < n) × (treeEnd n ≤ length words.old)
+    requires { (n ≤ 4096) × (count ≤ n) × (x < n) × (tree_end n ≤ length words.old)
         × Bound n (3 * count) words.old }
     ensures { Meets n count x y result words.old words.new }
 {

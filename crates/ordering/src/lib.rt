@@ -3,8 +3,8 @@ ghost use Rattle.std.specs.Prelude.{◌≡◌, List, ◌++◌, not, ◌⊎◌, �
 ghost use Rattle.lists.specs.Lists.{bit};
 ghost use Rattle.patch.specs.Lay.{Face};
 ghost use Rattle.corners.specs.Corners.{Bound};
-ghost use Rattle.regions.specs.Inner.Ordering.{placed_at, placedEnd};
-ghost use Rattle.ordering.specs.Inner.Ordering.{leastFace, FacesInWords, FindsOrder, FacesOrdered};
+ghost use Rattle.regions.specs.Inner.Ordering.{placed_at, placed_end};
+ghost use Rattle.ordering.specs.Inner.Ordering.{least_face, FacesInWords, FindsOrder, FacesOrdered};
 
 // Whether some order is valid, and how many faces of the greedy one share no edge with an earlier one.
 #[derive(Drop)]
@@ -29,7 +29,7 @@ fn clear_part(words: &mut [u32], from: usize, to: usize)
 
 // The face that the least value tells.
 fn face_of(count: usize, root: usize) -> usize
-    ensures { result ≡ leastFace count root }
+    ensures { result ≡ least_face count root }
 {
     if root < count {
         return root;
@@ -49,7 +49,7 @@ fn seed_of(shared: bool) -> u32
 
 // Places the faces in greedy order, until one does not fit or an edge lies in three faces.
 fn place_all(n: usize, count: usize, words: &mut [u32]) -> OrderCheck
-    requires { (n ≤ 4096) × (count ≤ n) × (placedEnd n ≤ length words.old) × Bound n (3 * count) words.old }
+    requires { (n ≤ 4096) × (count ≤ n) × (placed_end n ≤ length words.old) × Bound n (3 * count) words.old }
     ensures { FindsOrder n count result.ok result.seeds words.old words.new }
 {
     let mut seeds: u32 = 0;
@@ -82,7 +82,7 @@ fn place_all(n: usize, count: usize, words: &mut [u32]) -> OrderCheck
 
 // Copies the order out of the words.
 fn copy_order(n: usize, count: usize, order: &mut [u32], words: &[u32])
-    requires { (count ≤ n) × (count ≤ length order.old) × (placedEnd n ≤ length words.now) }
+    requires { (count ≤ n) × (count ≤ length order.old) × (placed_end n ≤ length words.now) }
     ensures { order.new ≡ take count (drop (placed_at n) words.now)
         ++ drop count order.old }
 {
@@ -96,7 +96,7 @@ fn copy_order(n: usize, count: usize, order: &mut [u32], words: &[u32])
 // Decides whether `count` faces over n points, three words each in front of `words`, could be a patch of ours in shape;
 // if so `order` gets the greedy order in front. What `words` holds afterwards is free.
 pub fn order_faces(n: usize, count: usize, order: &mut [u32], words: &mut [u32]) -> OrderCheck
-    requires { (n ≤ 4096) × (count ≤ n) × (count ≤ length order.old) × (placedEnd n ≤ length words.old)
+    requires { (n ≤ 4096) × (count ≤ n) × (count ≤ length order.old) × (placed_end n ≤ length words.old)
         × ((s : ℕ) → s < 3 * count → get_or words.old s 0 < n) }
     ensures { (fs : List Face) → FacesInWords count fs words.old
         → FacesOrdered fs result.ok result.seeds order.old order.new }

@@ -10,24 +10,24 @@ use borrow.Author.Tests.{eqb-true, eqb-false, eq-eqb, ltb-true}
 use lib.ListN.{length}
 use Rattle.lists.specs.Lists.{bit, count}
 use Rattle.lists.proofs.Bools.{either}
-use Rattle.lists.proofs.Counts.{bit_le, bit-true, count-zero}
+use Rattle.lists.proofs.Counts.{bit_le, bit_true, count_zero}
 
 -- f 0 + .. + f (n - 1)
 abbrev pub sum : (ℕ → ℕ) → ℕ → ℕ
 sum f zero = 0
 sum f (suc n) = f n + sum f n
 
-pub sum-ext : (f g : ℕ → ℕ) → ((x : ℕ) → f x ≡ g x) → (n : ℕ) → sum f n ≡ sum g n
-sum-ext f g h zero = refl
-sum-ext f g h (suc n) = let ih = sum-ext f g h n in let e = h n in omega arith
+pub sum_ext : (f g : ℕ → ℕ) → ((x : ℕ) → f x ≡ g x) → (n : ℕ) → sum f n ≡ sum g n
+sum_ext f g h zero = refl
+sum_ext f g h (suc n) = let ih = sum_ext f g h n in let e = h n in omega arith
 
-pub sum-add : (f g : ℕ → ℕ) (n : ℕ) → sum (λ x. f x + g x) n ≡ sum f n + sum g n
-sum-add f g zero = refl
-sum-add f g (suc n) = let ih = sum-add f g n in omega arith
+pub sum_add : (f g : ℕ → ℕ) (n : ℕ) → sum (λ x. f x + g x) n ≡ sum f n + sum g n
+sum_add f g zero = refl
+sum_add f g (suc n) = let ih = sum_add f g n in omega arith
 
-pub sum-zero : (n : ℕ) → ◌≡◌ {A = ℕ} (sum (λ x. 0) n) 0
-sum-zero zero = refl
-sum-zero (suc n) = let ih = sum-zero n in omega arith
+pub sum_zero : (n : ℕ) → ◌≡◌ {A = ℕ} (sum (λ x. 0) n) 0
+sum_zero zero = refl
+sum_zero (suc n) = let ih = sum_zero n in omega arith
 
 both_false : (b : Bool) → bit (b && false) ≡ 0
 both_false true = refl
@@ -40,8 +40,8 @@ hit q p x h = ⊎_elim
     (λ (t : eqb x p ≡ false). rw t (both_false (q x)))
     (either (eqb x p))
 
-hit-self : (q : ℕ → Bool) (p x : ℕ) → x ≡ p → bit (q x && eqb x p) ≡ bit (q p)
-hit-self q p x e = ap (λ (y : ℕ). bit (q y && eqb y p)) e ∙ ap (λ (b : Bool). bit (q p && b)) (eq-eqb p p refl) ∙ both (q p)
+hit_self : (q : ℕ → Bool) (p x : ℕ) → x ≡ p → bit (q x && eqb x p) ≡ bit (q p)
+hit_self q p x e = ap (λ (y : ℕ). bit (q y && eqb y p)) e ∙ ap (λ (b : Bool). bit (q p && b)) (eq-eqb p p refl) ∙ both (q p)
   where
     both : (b : Bool) → bit (b && true) ≡ bit b
     both true = refl
@@ -60,7 +60,7 @@ one_hit q p (suc n) h = ⊎_elim
     (λ (t : eqb n p ≡ true).
     let e = eqb-true n p t in
     let rest = no_hit q p n (omega arith) in
-    let here = hit-self q p n e in
+    let here = hit_self q p n e in
     omega arith)
     (λ (t : eqb n p ≡ false).
     let e = eqb-false n p t in
@@ -89,37 +89,37 @@ module _ {A : Type 0} where
       (either (p y))
 
 -- a number in a list that passes q
-pub member-passes : (q : ℕ → Bool) (i : ℕ) → q i ≡ true → (xs : List ℕ) → 1 ≤ count (eqb i) xs → 1 ≤ count q xs
-member-passes q i h [] m = absurd (omega arith)
-member-passes q i h (x ∷ xs) m = ⊎_elim
+pub member_passes : (q : ℕ → Bool) (i : ℕ) → q i ≡ true → (xs : List ℕ) → 1 ≤ count (eqb i) xs → 1 ≤ count q xs
+member_passes q i h [] m = absurd (omega arith)
+member_passes q i h (x ∷ xs) m = ⊎_elim
     (λ (t : eqb i x ≡ true). let e = eqb-true i x t in let o : bit (q x) ≡ 1 = ap bit (ap q (sym e) ∙ h) in omega arith)
-    (λ (t : eqb i x ≡ false). let z : bit (eqb i x) ≡ 0 = ap bit t in let ih = member-passes q i h xs (omega arith) in omega arith)
+    (λ (t : eqb i x ≡ false). let z : bit (eqb i x) ≡ 0 = ap bit t in let ih = member_passes q i h xs (omega arith) in omega arith)
     (either (eqb i x))
 
-pub count-length : {A : Type 0} (p : A → Bool) (xs : List A) → count p xs ≤ length xs
-count-length p [] = omega arith
-count-length p (x ∷ xs) = let ih = count-length p xs in let b = bit_le (p x) in omega arith
+pub count_length : {A : Type 0} (p : A → Bool) (xs : List A) → count p xs ≤ length xs
+count_length p [] = omega arith
+count_length p (x ∷ xs) = let ih = count_length p xs in let b = bit_le (p x) in omega arith
 
 -- ---- lists that have each number as often: every test is passed as often
-swap-sum : (p : ℕ → Bool) (n : ℕ) (xs : List ℕ) → ((x : ℕ) → 1 ≤ count (eqb x) xs → x < n) → count p xs ≡ sum (λ j. count (λ x. p j && eqb j x) xs) n
-swap-sum p n [] h = sym (sum-zero n)
-swap-sum p n (x ∷ xs) h =
+swap_sum : (p : ℕ → Bool) (n : ℕ) (xs : List ℕ) → ((x : ℕ) → 1 ≤ count (eqb x) xs → x < n) → count p xs ≡ sum (λ j. count (λ x. p j && eqb j x) xs) n
+swap_sum p n [] h = sym (sum_zero n)
+swap_sum p n (x ∷ xs) h =
     let self : bit (eqb x x) ≡ 1 = ap bit (eq-eqb x x refl) in
-    let ih = swap-sum p n xs (λ y m. h y (omega arith)) in
+    let ih = swap_sum p n xs (λ y m. h y (omega arith)) in
     let here = one_hit p x n (h x (omega arith)) in
-    let more = sum-add (λ j. bit (p j && eqb j x)) (λ j. count (λ y. p j && eqb j y) xs) n in
+    let more = sum_add (λ j. bit (p j && eqb j x)) (λ j. count (λ y. p j && eqb j y) xs) n in
     omega arith
 
 either_way : (b : Bool) (j : ℕ) (xs ys : List ℕ) → count (eqb j) xs ≡ count (eqb j) ys → count (λ x. b && eqb j x) xs ≡ count (λ x. b && eqb j x) ys
 either_way true j xs ys h = h
-either_way false j xs ys h = count-zero (λ x. false) (λ x. refl) xs ∙ sym (count-zero (λ x. false) (λ x. refl) ys)
+either_way false j xs ys h = count_zero (λ x. false) (λ x. refl) xs ∙ sym (count_zero (λ x. false) (λ x. refl) ys)
 
 bounded : (n : ℕ) (xs : List ℕ) → ((i : ℕ) → count (eqb i) xs ≡ bit (ltb i n)) → (x : ℕ) → 1 ≤ count (eqb x) xs → x < n
-bounded n xs h x m = let e = h x in ltb-true x n (bit-true {b = ltb x n} (omega arith))
+bounded n xs h x m = let e = h x in ltb-true x n (bit_true {b = ltb x n} (omega arith))
 
 pub recount : (p : ℕ → Bool) (n : ℕ) (xs ys : List ℕ) → ((i : ℕ) → count (eqb i) xs ≡ bit (ltb i n)) → ((i : ℕ) → count (eqb i) ys ≡ bit (ltb i n)) → count p xs
     ≡ count p ys
 recount p n xs ys h k =
-    swap-sum p n xs (bounded n xs h)
-    ∙ sum-ext (λ j. count (λ x. p j && eqb j x) xs) (λ j. count (λ x. p j && eqb j x) ys) (λ j. either_way (p j) j xs ys (h j ∙ sym (k j))) n
-    ∙ sym (swap-sum p n ys (bounded n ys k))
+    swap_sum p n xs (bounded n xs h)
+    ∙ sum_ext (λ j. count (λ x. p j && eqb j x) xs) (λ j. count (λ x. p j && eqb j x) ys) (λ j. either_way (p j) j xs ys (h j ∙ sym (k j))) n
+    ∙ sym (swap_sum p n ys (bounded n ys k))

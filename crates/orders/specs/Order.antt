@@ -2,12 +2,12 @@
 -- is given along. Definitions only.
 use Rattle.std.specs.Prelude.{ℕ, zero, suc, ◌+◌, ◌≤◌, ◌<◌, ◌≡◌, ◌≢◌, ◌⊎◌, Bool, true, false, not, ◌&&◌, ◌||◌, List, [], ◌∷◌, eqb, ltb, length, get_or}
 use Rattle.lists.specs.Lists.{bit, count, any, up_from}
-use Rattle.patch.specs.Lay.{Edge, Face, face, points_of, edgesOf}
-use Rattle.patch.specs.Shape.{touches, has, noFace}
+use Rattle.patch.specs.Lay.{Edge, Face, face, points_of, edges_of}
+use Rattle.patch.specs.Shape.{touches, has, no_face}
 
 -- two faces share an edge, direction aside
 unfoldable pub neighbours : Face → Face → Bool
-neighbours f g = any (λ e. has e g) (edgesOf f)
+neighbours f g = any (λ e. has e g) (edges_of f)
 
 -- the faces by their numbers; an order is a list of face numbers, and `placed` holds those that come earlier
 module _ (at : ℕ → Face) where
@@ -50,23 +50,23 @@ without i (x ∷ xs) = elim (eqb i x) [ true ↦ xs | false ↦ x ∷ without i 
 
 -- m more faces: at each place the lowest face left (`left` rises) that shares an edge with one placed, or where
 -- none does the lowest left
-unfoldable pub greedyFrom : (ℕ → Face) → ℕ → List ℕ → List ℕ → List ℕ
-greedyFrom at zero placed left = []
-greedyFrom at (suc m) placed [] = []
-greedyFrom at (suc m) placed (x ∷ left) =
+unfoldable pub greedy_from : (ℕ → Face) → ℕ → List ℕ → List ℕ → List ℕ
+greedy_from at zero placed left = []
+greedy_from at (suc m) placed [] = []
+greedy_from at (suc m) placed (x ∷ left) =
     let i = first_or (joined at placed) x (x ∷ left) in
-    i ∷ greedyFrom at m (i ∷ placed) (without i (x ∷ left))
+    i ∷ greedy_from at m (i ∷ placed) (without i (x ∷ left))
 
-abbrev pub faceAt : List Face → ℕ → Face
-faceAt fs i = get_or fs i noFace
+abbrev pub face_at : List Face → ℕ → Face
+face_at fs i = get_or fs i no_face
 
 -- the order given along
 unfoldable pub greedy : List Face → List ℕ
-greedy fs = greedyFrom (faceAt fs) (length fs) [] (up_from 0 (length fs))
+greedy fs = greedy_from (face_at fs) (length fs) [] (up_from 0 (length fs))
 
 -- its seeds: the places where none left shared an edge with one placed
 unfoldable pub seeds : List Face → ℕ
-seeds fs = loose (faceAt fs) [] (greedy fs)
+seeds fs = loose (face_at fs) [] (greedy fs)
 
 -- each number below n stands in the order once, and no other does
 abbrev pub Permutes : ℕ → List ℕ → Type 0
@@ -75,7 +75,7 @@ Permutes n order = (i : ℕ) → count (eqb i) order ≡ bit (ltb i n)
 -- an order of the faces in which they could have been laid
 pub record Valid (fs : List Face) (order : List ℕ) : Type 0 where
   pub permutes : Permutes (length fs) order
-  pub fit : all_fit (faceAt fs) [] order ≡ true
+  pub fit : all_fit (face_at fs) [] order ≡ true
   -- no edge lies in more than two faces
   pub few : (e : Edge) → count (has e) fs ≤ 2
 
@@ -83,15 +83,15 @@ pub record Valid (fs : List Face) (order : List ℕ) : Type 0 where
 abbrev pub AllDifferent : List Face → Type 0
 AllDifferent fs =
     (i : ℕ) → i < length fs
-    → ((faceAt fs i).a ≢ (faceAt fs i).b) × ((faceAt fs i).b ≢ (faceAt fs i).c) × ((faceAt fs i).c ≢ (faceAt fs i).a)
+    → ((face_at fs i).a ≢ (face_at fs i).b) × ((face_at fs i).b ≢ (face_at fs i).c) × ((face_at fs i).c ≢ (face_at fs i).a)
 
 -- some edge of a face lies in more than two faces
 unfoldable pub crowded : List Face → Bool
-crowded fs = any (λ f. any (λ e. ltb 2 (count (has e) fs)) (edgesOf f)) fs
+crowded fs = any (λ f. any (λ e. ltb 2 (count (has e) fs)) (edges_of f)) fs
 
 -- the test: no edge is crowded, and the order given along is one in which they could have been laid
-unfoldable pub orderAccepted : List Face → Bool
-orderAccepted fs = not (crowded fs) && all_fit (faceAt fs) [] (greedy fs)
+unfoldable pub order_accepted : List Face → Bool
+order_accepted fs = not (crowded fs) && all_fit (face_at fs) [] (greedy fs)
 
 -- ---- a patch as a file may have it: its faces in any order, the first two points of some swapped
 abbrev pub swapped : Face → Face
@@ -103,4 +103,4 @@ pub record Rearranged (fs hs : List Face) (order : List ℕ) : Type 0 where
   pub permutes : Permutes (length hs) order
   pub each :
       (k : ℕ) → k < length fs
-      → (faceAt hs (get_or order k 0) ≡ faceAt fs k) ⊎ (faceAt hs (get_or order k 0) ≡ swapped (faceAt fs k))
+      → (face_at hs (get_or order k 0) ≡ face_at fs k) ⊎ (face_at hs (get_or order k 0) ≡ swapped (face_at fs k))

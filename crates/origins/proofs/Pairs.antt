@@ -5,52 +5,52 @@ use mathlib.Core.List.{List, [], ◌∷◌, ◌++◌}
 use native.Mathlib.Omega.{arith}
 use lib.ListN.{length, get_or}
 use Rattle.patch.specs.Lay.{Face}
-use Rattle.origins.specs.Origins.{pairs, parentsIn, placesIn}
-use Rattle.origins.specs.Turned.{turnedFrom, turned}
-use Rattle.origins.proofs.Shapes.{turned-congr}
+use Rattle.origins.specs.Origins.{pairs, parents_in, places_in}
+use Rattle.origins.specs.Turned.{turned_from, turned}
+use Rattle.origins.proofs.Shapes.{turned_congr}
 
-pub pairs-length : (parents places : List ℕ) → length parents ≡ length places → length (pairs parents places) ≡ 2 * length parents
+pub pairs_length : (parents places : List ℕ) → length parents ≡ length places → length (pairs parents places) ≡ 2 * length parents
 unfolding pairs
-pairs-length [] places h = refl
-pairs-length (p ∷ parents) [] h = absurd (omega arith)
-pairs-length (p ∷ parents) (q ∷ places) h = let ih = pairs-length parents places (omega arith) in omega arith
+pairs_length [] places h = refl
+pairs_length (p ∷ parents) [] h = absurd (omega arith)
+pairs_length (p ∷ parents) (q ∷ places) h = let ih = pairs_length parents places (omega arith) in omega arith
 
-pub pairs-parent : (parents places : List ℕ) → length parents ≡ length places → (i : ℕ) → i < length parents → get_or (pairs parents places) (2 * i) 0
+pub pairs_parent : (parents places : List ℕ) → length parents ≡ length places → (i : ℕ) → i < length parents → get_or (pairs parents places) (2 * i) 0
     ≡ get_or parents i 0
 unfolding pairs
-pairs-parent [] places h i b = absurd (omega arith)
-pairs-parent (p ∷ parents) [] h i b = absurd (omega arith)
-pairs-parent (p ∷ parents) (q ∷ places) h zero b = refl
-pairs-parent (p ∷ parents) (q ∷ places) h (suc i) b =
+pairs_parent [] places h i b = absurd (omega arith)
+pairs_parent (p ∷ parents) [] h i b = absurd (omega arith)
+pairs_parent (p ∷ parents) (q ∷ places) h zero b = refl
+pairs_parent (p ∷ parents) (q ∷ places) h (suc i) b =
     let e : 2 * suc i ≡ suc (suc (2 * i)) = omega arith in
-    ap (λ (j : ℕ). get_or (p ∷ q ∷ pairs parents places) j 0) e ∙ pairs-parent parents places (omega arith) i (omega arith)
+    ap (λ (j : ℕ). get_or (p ∷ q ∷ pairs parents places) j 0) e ∙ pairs_parent parents places (omega arith) i (omega arith)
 
-pub pairs-place : (parents places : List ℕ) → length parents ≡ length places → (i : ℕ) → i < length parents → get_or (pairs parents places) (2 * i + 1) 0
+pub pairs_place : (parents places : List ℕ) → length parents ≡ length places → (i : ℕ) → i < length parents → get_or (pairs parents places) (2 * i + 1) 0
     ≡ get_or places i 0
 unfolding pairs
-pairs-place [] places h i b = absurd (omega arith)
-pairs-place (p ∷ parents) [] h i b = absurd (omega arith)
-pairs-place (p ∷ parents) (q ∷ places) h zero b = refl
-pairs-place (p ∷ parents) (q ∷ places) h (suc i) b =
+pairs_place [] places h i b = absurd (omega arith)
+pairs_place (p ∷ parents) [] h i b = absurd (omega arith)
+pairs_place (p ∷ parents) (q ∷ places) h zero b = refl
+pairs_place (p ∷ parents) (q ∷ places) h (suc i) b =
     let e : 2 * suc i + 1 ≡ suc (suc (2 * i + 1)) = omega arith in
-    ap (λ (j : ℕ). get_or (p ∷ q ∷ pairs parents places) j 0) e ∙ pairs-place parents places (omega arith) i (omega arith)
+    ap (λ (j : ℕ). get_or (p ∷ q ∷ pairs parents places) j 0) e ∙ pairs_place parents places (omega arith) i (omega arith)
 
 -- read from the front of a slice they are the same
-pub parents-read : (parents places rest : List ℕ) → length parents ≡ length places → parentsIn (length parents) (pairs parents places ++ rest) ≡ parents
-unfolding pairs parentsIn
-parents-read [] places rest h = refl
-parents-read (p ∷ parents) [] rest h = absurd (omega arith)
-parents-read (p ∷ parents) (q ∷ places) rest h = ap (λ (l : List ℕ). p ∷ l) (parents-read parents places rest (omega arith))
+pub parents_read : (parents places rest : List ℕ) → length parents ≡ length places → parents_in (length parents) (pairs parents places ++ rest) ≡ parents
+unfolding pairs parents_in
+parents_read [] places rest h = refl
+parents_read (p ∷ parents) [] rest h = absurd (omega arith)
+parents_read (p ∷ parents) (q ∷ places) rest h = ap (λ (l : List ℕ). p ∷ l) (parents_read parents places rest (omega arith))
 
-pub places-read : (parents places rest : List ℕ) → length parents ≡ length places → placesIn (length parents) (pairs parents places ++ rest) ≡ places
-unfolding pairs placesIn
-places-read [] [] rest h = refl
-places-read [] (q ∷ places) rest h = absurd (omega arith)
-places-read (p ∷ parents) [] rest h = absurd (omega arith)
-places-read (p ∷ parents) (q ∷ places) rest h = ap (λ (l : List ℕ). q ∷ l) (places-read parents places rest (omega arith))
+pub places_read : (parents places rest : List ℕ) → length parents ≡ length places → places_in (length parents) (pairs parents places ++ rest) ≡ places
+unfolding pairs places_in
+places_read [] [] rest h = refl
+places_read [] (q ∷ places) rest h = absurd (omega arith)
+places_read (p ∷ parents) [] rest h = absurd (omega arith)
+places_read (p ∷ parents) (q ∷ places) rest h = ap (λ (l : List ℕ). q ∷ l) (places_read parents places rest (omega arith))
 
 -- the turned patch, by whatever tells the parents of its faces
-pub turned_by : (parent : ℕ → ℕ) (parents : List ℕ) (fs : List Face) → ((i : ℕ) → i < length fs → parent i ≡ get_or parents i 0) → turnedFrom parent 0 fs
+pub turned_by : (parent : ℕ → ℕ) (parents : List ℕ) (fs : List Face) → ((i : ℕ) → i < length fs → parent i ≡ get_or parents i 0) → turned_from parent 0 fs
     ≡ turned parents fs
 unfolding turned
-turned_by parent parents fs h = turned-congr parent (λ i. get_or parents i 0) 0 fs (λ i b. h i (omega arith))
+turned_by parent parents fs h = turned_congr parent (λ i. get_or parents i 0) 0 fs (λ i b. h i (omega arith))

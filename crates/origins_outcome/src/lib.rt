@@ -3,9 +3,9 @@
 ghost use Rattle.std.specs.Prelude.{◌≡◌, cond, ◌*◌, ◌≤◌, length, take};
 ghost use Rattle.std.proofs.lemmas.List.Edits.{sets};
 ghost use Rattle.patch.specs.View.{flat};
-ghost use Rattle.origins.specs.Pass.{originsFrom};
-ghost use Rattle.origins.specs.Turned.{turnedFrom};
-ghost use Rattle.tracing.specs.Inner.Read.{facesFrom};
+ghost use Rattle.origins.specs.Pass.{origins_from};
+ghost use Rattle.origins.specs.Turned.{turned_from};
+ghost use Rattle.tracing.specs.Inner.Read.{faces_from};
 ghost use Rattle.looks.specs.Inner.Looks.{parent_in};
 ghost use Rattle.origins_outcome.specs.Call.{over};
 ghost use Rattle.origins_outcome.specs.Inner.Parts.{FindingHeld, DeliversWithOrigins};
@@ -34,11 +34,11 @@ fn write_laid(
     requires { (found.faces ≤ 10000) × (found.radii.count ≤ 17) × (found.faces ≤ n) × (n ≤ length words.old)
         × (3 * found.faces ≤ length faces.old) × (2 * found.faces ≤ length origins.old) }
     ensures { (origins.new ≡ sets origins.old 0
-        (originsFrom (take found.radii.count found.marks) 0 (take n words.old)
-        (facesFrom faces.old 0 found.faces)))
+        (origins_from (take found.radii.count found.marks) 0 (take n words.old)
+        (faces_from faces.old 0 found.faces)))
         × (faces.new ≡ cond turned
         (sets faces.old 0
-        (flat (turnedFrom (parent_in origins.new) 0 (facesFrom faces.old 0 found.faces))))
+        (flat (turned_from (parent_in origins.new) 0 (faces_from faces.old 0 found.faces))))
         faces.old) }
 {
     let count = found.faces;

@@ -4,7 +4,7 @@ use Rattle.std.specs.Prelude.{ℕ, ◌<◌, ◌≡◌, ◌≢◌, Bool, List, �
 use Rattle.std.proofs.Math.Option.{some}
 use Rattle.lists.specs.Lists.{count}
 use Rattle.lists.specs.Members.{Below}
-use Rattle.patch.specs.Lay.{Edge, State, seedsOf, Rules, Pop}
+use Rattle.patch.specs.Lay.{Edge, State, seeds_of, Rules, Pop}
 use Rattle.patch.specs.Search.{Floats}
 use Rattle.patch.specs.Shape.{Shape}
 
@@ -20,8 +20,8 @@ pub record FreeSeed (n : ℕ) (used : List ℕ) (t : ℕ × ℕ × ℕ) : Type 0
   pub differ : (t.0 ≢ t.1) × (t.1 ≢ t.2) × (t.2 ≢ t.0)
 
 pub record Fair {R : Type 0} (n : ℕ) (rules : Rules R) : Type 0 where
-  pub seeds : (r : R) (used : List ℕ) (t : ℕ × ℕ × ℕ) → rules.seedOf r used ≡ some t → FreeSeed n used t
-  pub pivots : (r : R) (used : List ℕ) (e : Edge) (k : ℕ) → rules.pivotOf r used e ≡ some k → Free n used k
+  pub seeds : (r : R) (used : List ℕ) (t : ℕ × ℕ × ℕ) → rules.seed_of r used ≡ some t → FreeSeed n used t
+  pub pivots : (r : R) (used : List ℕ) (e : Edge) (k : ℕ) → rules.pivot_of r used e ≡ some k → Free n used k
 
 -- ys has the entries of xs, each as often, in some order: as many pass each test
 abbrev pub EntriesReordered : List Edge → List Edge → Type 0
@@ -33,9 +33,9 @@ Keeps pop = (x : Edge) (xs : List Edge) → EntriesReordered (x ∷ xs) ((pop x 
 
 -- neighbours are points of the cloud
 pub record NeighborsWithin {R : Type 0} (n : ℕ) (floats : Floats R) : Type 0 where
-  pub near-below : (r : R) (i : ℕ) → Below n (floats.near r i)
-  pub around-below : (r : R) (e : Edge) → Below n (floats.around r e)
+  pub near_below : (r : R) (i : ℕ) → Below n (floats.near r i)
+  pub around_below : (r : R) (e : Edge) → Below n (floats.around r e)
 
 -- the one claim, of a state's values
 abbrev pub Shaped : State → Type 0
-Shaped s = Shape s.faces s.seedFlags (length s.faces) (seedsOf s) s.looks s.pivots
+Shaped s = Shape s.faces s.seed_flags (length s.faces) (seeds_of s) s.looks s.pivots

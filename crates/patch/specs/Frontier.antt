@@ -18,26 +18,26 @@ module _ {A : Type 0} (d : A) where
       cond (ltb (p + p + 2) (length xs)) right (cond (ltb (p + p + 1) (length xs)) left (set xs p v))
 
   -- what is left once entry 0 is out: nothing, or the last entry in the gap that went down from the top
-  unfoldable pub afterPop : List A → List A
+  unfoldable pub after_pop : List A → List A
   unfolding sift
-  afterPop xs = let m = length xs - 1 in cond (eqb m 0) [] (sift m (take m xs) 0 (get_or xs m d))
+  after_pop xs = let m = length xs - 1 in cond (eqb m 0) [] (sift m (take m xs) 0 (get_or xs m d))
 
   -- the entries that wait once the first is out: under rule 2 the others as they were pushed, under rule 1 the heap's;
   -- a number that is neither rule never gets past the checks
-  unfoldable pub waitingAfter : ℕ → A → List A → List A
-  waitingAfter rule x xs = cond (eqb rule 2) xs (afterPop (x ∷ xs))
+  unfoldable pub waiting_after : ℕ → A → List A → List A
+  waiting_after rule x xs = cond (eqb rule 2) xs (after_pop (x ∷ xs))
 
 abbrev pub no_edge : Edge
 no_edge = edge 0 0
 
 -- rule 1
-abbrev pub heapOf : Pop
-heapOf x xs = (x, afterPop no_edge (x ∷ xs))
+abbrev pub heap_of : Pop
+heap_of x xs = (x, after_pop no_edge (x ∷ xs))
 
 -- rule 2: entries come out in the order in which they were pushed
-abbrev pub queueOf : Pop
-queueOf x xs = (x, xs)
+abbrev pub queue_of : Pop
+queue_of x xs = (x, xs)
 
 -- the rule's order: under both the first entry comes out
 abbrev pub pop_of : ℕ → Pop
-pop_of rule x xs = (x, waitingAfter no_edge rule x xs)
+pop_of rule x xs = (x, waiting_after no_edge rule x xs)

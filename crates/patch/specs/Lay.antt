@@ -28,13 +28,13 @@ abbrev pub points_of : Face → List ℕ
 points_of f = f.a ∷ f.b ∷ f.c ∷ []
 
 -- its edges, in the order in which they are pushed
-abbrev pub edgesOf : Face → List Edge
-edgesOf f = edge f.a f.b ∷ edge f.b f.c ∷ edge f.c f.a ∷ []
+abbrev pub edges_of : Face → List Edge
+edges_of f = edge f.a f.b ∷ edge f.b f.c ∷ edge f.c f.a ∷ []
 
 pub record State : Type 0 where
   -- the faces in the order in which they were laid, and of each whether it is a seed
   pub faces : List Face
-  pub seedFlags : List Bool
+  pub seed_flags : List Bool
   -- of each point whether it is used, 0 or 1
   pub used : List ℕ
   -- the entries that wait, and the edges pivoted over at this radius
@@ -44,15 +44,15 @@ pub record State : Type 0 where
   pub pivots : ℕ
 
 -- S: how many seeds were laid
-abbrev pub seedsOf : State → ℕ
-seedsOf s = count (λ b. b) s.seedFlags
+abbrev pub seeds_of : State → ℕ
+seeds_of s = count (λ b. b) s.seed_flags
 
 -- what the floats decide, R being the radii
 pub record Rules (R : Type 0) : Type 0 where
   -- the seed at a radius, given the used points
-  pub seedOf : R → List ℕ → Option (ℕ × ℕ × ℕ)
+  pub seed_of : R → List ℕ → Option (ℕ × ℕ × ℕ)
   -- the point that the ball meets when it is pivoted over an edge
-  pub pivotOf : R → List ℕ → Edge → Option ℕ
+  pub pivot_of : R → List ℕ → Edge → Option ℕ
 
 -- the order of popping: from a frontier that is not empty, given as its first entry and the others, the entry
 -- popped and the frontier then
@@ -70,12 +70,12 @@ marked used [] = used
 marked used (k ∷ ks) = marked (set used k 1) ks
 
 -- the face f is laid, as a seed or not: it takes the unused points ks, and its edges are pushed
-unfoldable pub withFace : Bool → List ℕ → Face → State → State
-withFace seed ks f s = record {
+unfoldable pub with_face : Bool → List ℕ → Face → State → State
+with_face seed ks f s = record {
   faces = s.faces ++ (f ∷ []);
-  seedFlags = s.seedFlags ++ (seed ∷ []);
+  seed_flags = s.seed_flags ++ (seed ∷ []);
   used = marked s.used ks;
-  frontier = push s.processed s.frontier (edgesOf f);
+  frontier = push s.processed s.frontier (edges_of f);
   processed = s.processed;
   looks = s.looks;
   pivots = s.pivots;
@@ -85,7 +85,7 @@ withFace seed ks f s = record {
 unfoldable pub cleared : State → State
 cleared s = record {
   faces = s.faces;
-  seedFlags = s.seedFlags;
+  seed_flags = s.seed_flags;
   used = s.used;
   frontier = [];
   processed = [];
@@ -94,13 +94,13 @@ cleared s = record {
 }
 
 unfoldable pub seeded : ℕ × ℕ × ℕ → State → State
-seeded t s = withFace true (t.0 ∷ t.1 ∷ t.2 ∷ []) (face t.0 t.1 t.2) s
+seeded t s = with_face true (t.0 ∷ t.1 ∷ t.2 ∷ []) (face t.0 t.1 t.2) s
 
 -- an entry is popped, and the rest wait: a look, whatever comes of it
 unfoldable pub popped : List Edge → State → State
 popped rest s = record {
   faces = s.faces;
-  seedFlags = s.seedFlags;
+  seed_flags = s.seed_flags;
   used = s.used;
   frontier = rest;
   processed = s.processed;
@@ -111,13 +111,13 @@ popped rest s = record {
 -- the pivot over e met no point, or the point k
 unfoldable pub met : Edge → Option ℕ → State → State
 met e none s = s
-met e (some k) s = withFace false (k ∷ []) (face e.v1 e.v2 k) s
+met e (some k) s = with_face false (k ∷ []) (face e.v1 e.v2 k) s
 
 -- the pivot over e is over: only now is e processed, so that its face has pushed it again
 unfoldable pub pivoted : Edge → State → State
 pivoted e s = record {
   faces = s.faces;
-  seedFlags = s.seedFlags;
+  seed_flags = s.seed_flags;
   used = s.used;
   frontier = s.frontier;
   processed = s.processed ++ (e ∷ []);
@@ -127,13 +127,13 @@ pivoted e s = record {
 
 module _ {R : Type 0} (rules : Rules R) (pop : Pop) (r : R) where
   -- e was popped: a processed edge is skipped, any other is pivoted over
-  unfoldable pub lookedAt : Bool → Edge → State → State
-  lookedAt true e s = s
-  lookedAt false e s = pivoted e (met e (rules.pivotOf r s.used e) s)
+  unfoldable pub looked_at : Bool → Edge → State → State
+  looked_at true e s = s
+  looked_at false e s = pivoted e (met e (rules.pivot_of r s.used e) s)
 
   -- one look, at the entry e
   unfoldable pub look : Edge → List Edge → State → State
-  look e rest s = lookedAt (any (same e) s.processed) e (popped rest s)
+  look e rest s = looked_at (any (same e) s.processed) e (popped rest s)
 
   -- a look, if an entry waits
   unfoldable pub next : List Edge → State → State
@@ -151,19 +151,19 @@ module _ {R : Type 0} (rules : Rules R) (pop : Pop) (r : R) where
   begun n (some t) s = run (3 * n) (seeded t s)
 
 -- one radius, over n points
-unfoldable pub layOne : {R : Type 0} → Rules R → Pop → ℕ → R → State → State
-layOne rules pop n r s = begun rules pop r n (rules.seedOf r s.used) (cleared s)
+unfoldable pub lay_one : {R : Type 0} → Rules R → Pop → ℕ → R → State → State
+lay_one rules pop n r s = begun rules pop r n (rules.seed_of r s.used) (cleared s)
 
 -- all radii in turn
-unfoldable pub layAll : {R : Type 0} → Rules R → Pop → ℕ → List R → State → State
-layAll rules pop n [] s = s
-layAll rules pop n (r ∷ rs) s = layAll rules pop n rs (layOne rules pop n r s)
+unfoldable pub lay_all : {R : Type 0} → Rules R → Pop → ℕ → List R → State → State
+lay_all rules pop n [] s = s
+lay_all rules pop n (r ∷ rs) s = lay_all rules pop n rs (lay_one rules pop n r s)
 
 -- before the first radius: no point is used
 abbrev pub blank : ℕ → State
 blank n = record {
   faces = [];
-  seedFlags = [];
+  seed_flags = [];
   used = replicate n 0;
   frontier = [];
   processed = [];
@@ -172,4 +172,4 @@ blank n = record {
 }
 
 unfoldable pub patch : {R : Type 0} → Rules R → Pop → ℕ → List R → State
-patch rules pop n rs = layAll rules pop n rs (blank n)
+patch rules pop n rs = lay_all rules pop n rs (blank n)

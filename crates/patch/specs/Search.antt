@@ -24,30 +24,30 @@ pub record Floats (R : Type 0) : Type 0 where
 
 module _ {R : Type 0} (floats : Floats R) (r : R) (used : List ℕ) where
   -- whether j may be the second point after i, and k the third
-  unfoldable pub isSecond : ℕ → ℕ → Bool
-  isSecond i j = not (eqb i j) && (unused used j && floats.close r i j)
+  unfoldable pub is_second : ℕ → ℕ → Bool
+  is_second i j = not (eqb i j) && (unused used j && floats.close r i j)
 
-  unfoldable pub isThird : ℕ → ℕ → ℕ → Bool
-  isThird i j k =
+  unfoldable pub is_third : ℕ → ℕ → ℕ → Bool
+  is_third i j k =
       not (eqb i k) && (not (eqb j k) && (unused used k
       && (floats.close r i k && (floats.close r j k && floats.fits r i j k))))
 
   -- the first k among ks
-  unfoldable pub thirdOf : ℕ → ℕ → List ℕ → Option (ℕ × ℕ × ℕ)
-  thirdOf i j [] = none
-  thirdOf i j (k ∷ ks) =
-      elim (isThird i j k) [
+  unfoldable pub third_of : ℕ → ℕ → List ℕ → Option (ℕ × ℕ × ℕ)
+  third_of i j [] = none
+  third_of i j (k ∷ ks) =
+      elim (is_third i j k) [
         | true ↦ some (i, j, k)
-        | false ↦ thirdOf i j ks
+        | false ↦ third_of i j ks
       ]
 
   -- the first j among js that has a k among ks
   unfoldable pub second_of : ℕ → List ℕ → List ℕ → Option (ℕ × ℕ × ℕ)
   second_of i ks [] = none
   second_of i ks (j ∷ js) =
-      elim (isSecond i j) [
+      elim (is_second i j) [
         | true ↦
-            elim (thirdOf i j ks) [
+            elim (third_of i j ks) [
               | none ↦ second_of i ks js
               | some t ↦ some t
             ]
@@ -69,33 +69,33 @@ module _ {R : Type 0} (floats : Floats R) (r : R) (used : List ℕ) where
       ]
 
   -- the score of k with e, if k may be met at all
-  unfoldable pub scoreOf : Edge → ℕ → Option Float
-  scoreOf e k =
+  unfoldable pub score_of : Edge → ℕ → Option Float
+  score_of e k =
       elim (not (eqb k e.v1) && (not (eqb k e.v2) && unused used k)) [
         | true ↦ floats.score r e k
         | false ↦ none
       ]
 
   -- the candidate with the highest score above `top`, the first one on equality; `best` if there is none
-  unfoldable pub bestOf : Edge → List ℕ → Float → Option ℕ → Option ℕ
-  bestOf e [] top best = best
-  bestOf e (k ∷ ks) top best =
-      elim (scoreOf e k) [
-        | none ↦ bestOf e ks top best
+  unfoldable pub best_of : Edge → List ℕ → Float → Option ℕ → Option ℕ
+  best_of e [] top best = best
+  best_of e (k ∷ ks) top best =
+      elim (score_of e k) [
+        | none ↦ best_of e ks top best
         | some s ↦
             elim (lt top s) [
-              | true ↦ bestOf e ks s (some k)
-              | false ↦ bestOf e ks top best
+              | true ↦ best_of e ks s (some k)
+              | false ↦ best_of e ks top best
             ]
       ]
 
 -- over n points; a seed is looked for from the first 1,000 unused ones, a pivot's score must be above 0
 unfoldable pub searching : {R : Type 0} → Floats R → ℕ → Rules R
 searching floats n = record {
-  seedOf = λ r used. first_of floats r used (up_from 0 n) 1000;
-  pivotOf = λ r used e.
+  seed_of = λ r used. first_of floats r used (up_from 0 n) 1000;
+  pivot_of = λ r used e.
       elim (floats.pivotable r e) [
-        | true ↦ bestOf floats r used e (floats.around r e) (of_bits binary32 0) none
+        | true ↦ best_of floats r used e (floats.around r e) (of_bits binary32 0) none
         | false ↦ none
       ];
 }

@@ -7,29 +7,29 @@ use lib.ListN.{length, drop, get_or}
 use lib.Seq.{take_all}
 use Rattle.patch.specs.Lay.{Face}
 use Rattle.patch.specs.View.{flat, written}
-use Rattle.orders.specs.Order.{faceAt}
-use Rattle.corners.specs.Corners.{faceIn}
+use Rattle.orders.specs.Order.{face_at}
+use Rattle.corners.specs.Corners.{face_in}
 
-flat-at : (fs : List Face) (rest : List ℕ) (i : ℕ) → i < length fs → faceIn (flat fs ++ rest) i ≡ faceAt fs i
+flat_at : (fs : List Face) (rest : List ℕ) (i : ℕ) → i < length fs → face_in (flat fs ++ rest) i ≡ face_at fs i
 unfolding flat
-flat-at [] rest i h = absurd (omega arith)
-flat-at (f ∷ fs) rest zero h = refl
-flat-at (f ∷ fs) rest (suc i) h =
+flat_at [] rest i h = absurd (omega arith)
+flat_at (f ∷ fs) rest zero h = refl
+flat_at (f ∷ fs) rest (suc i) h =
     let a : 3 * suc i ≡ suc (suc (suc (3 * i))) = omega arith in
     let b : 3 * suc i + 1 ≡ suc (suc (suc (3 * i + 1))) = omega arith in
     let c : 3 * suc i + 2 ≡ suc (suc (suc (3 * i + 2))) = omega arith in
-    rw (b, c, a) (flat-at fs rest i (omega arith))
+    rw (b, c, a) (flat_at fs rest i (omega arith))
 
-pub written_at : (fs : List Face) (words : List ℕ) → 3 * length fs ≤ length words → (i : ℕ) → i < length fs → faceIn (written fs words) i ≡ faceAt fs i
+pub written_at : (fs : List Face) (words : List ℕ) → 3 * length fs ≤ length words → (i : ℕ) → i < length fs → face_in (written fs words) i ≡ face_at fs i
 unfolding written
 written_at fs words room i h =
     let k : length fs ≤ length words / 3 = omega arith in
-    rw (take_all (length words / 3) fs k) (flat-at fs (drop (length (flat fs)) words) i h)
+    rw (take_all (length words / 3) fs k) (flat_at fs (drop (length (flat fs)) words) i h)
 
 -- where every face's points are below n, so is every word of the faces
-pub words-below : (w : List ℕ) (n count : ℕ) → ((i : ℕ) → i < count → ((faceIn w i).a < n) × ((faceIn w i).b < n) × ((faceIn w i).c < n)) → (s : ℕ) → s < 3 * count
+pub words_below : (w : List ℕ) (n count : ℕ) → ((i : ℕ) → i < count → ((face_in w i).a < n) × ((face_in w i).b < n) × ((face_in w i).c < n)) → (s : ℕ) → s < 3 * count
     → get_or w s 0 < n
-words-below w n count below s h = go (s % 3) (omega arith) (omega arith)
+words_below w n count below s h = go (s % 3) (omega arith) (omega arith)
   where
     go : (k : ℕ) → s ≡ 3 * (s / 3) + k → k < 3 → get_or w s 0 < n
     go zero e l = let b = (below (s / 3) (omega arith)).0 in let q : s ≡ 3 * (s / 3) = omega arith in subst (λ (m : ℕ). get_or w m 0 < n) (sym q) b

@@ -11,84 +11,84 @@ use lib.ListN.{length, get_or}
 use borrow.Author.Tests.{ltb-false}
 use Rattle.patch.specs.Lay.{Face}
 use Rattle.patch.specs.View.{written}
-use Rattle.patch.proofs.View.{length-written}
-use Rattle.orders.specs.Order.{orderAccepted}
+use Rattle.patch.proofs.View.{length_written}
+use Rattle.orders.specs.Order.{order_accepted}
 use Rattle.face_lines.specs.Inner.Answers.{Readable, Stored}
-use Rattle.corners.specs.Corners.{faceIn}
+use Rattle.corners.specs.Corners.{face_in}
 use Rattle.ordering.specs.Inner.Ordering.{FacesInWords, FacesOrdered}
-use Rattle.regions.specs.Inner.Ordering.{placedEnd}
-use Rattle.patch_order.specs.Ordering.{refusedWith}
-use Rattle.patch_order.specs.Inner.Ready.{tooMany, Checked, OrderJudged}
+use Rattle.regions.specs.Inner.Ordering.{placed_end}
+use Rattle.patch_order.specs.Ordering.{refused_with}
+use Rattle.patch_order.specs.Inner.Ready.{too_many, Checked, OrderJudged}
 use Rattle.patch_order.specs.declared.Ordered.{Ordered}
-use Rattle.patch_order.proofs.Each.{all-different, all-inside}
-use Rattle.patch_order.proofs.Front.{written_at, words-below}
-use Rattle.patch_order.proofs.Last.{last_none, last-passed, judged-refused, judged-ordered}
+use Rattle.patch_order.proofs.Each.{all_different, all_inside}
+use Rattle.patch_order.proofs.Front.{written_at, words_below}
+use Rattle.patch_order.proofs.Last.{last_none, last_passed, judged_refused, judged_ordered}
 
-few-faces : (n count : ℕ) → tooMany n count ≡ false → (count ≡ 0) ⊎ (count + 2 ≤ n)
-unfolding tooMany
-few-faces n zero e = inl refl
-few-faces n (suc k) e = go (ltb 0 (suc k)) refl e
+few_faces : (n count : ℕ) → too_many n count ≡ false → (count ≡ 0) ⊎ (count + 2 ≤ n)
+unfolding too_many
+few_faces n zero e = inl refl
+few_faces n (suc k) e = go (ltb 0 (suc k)) refl e
   where
     go : (b : Bool) → ltb 0 (suc k) ≡ b → (b && ltb n (suc k + 2)) ≡ false → (suc k ≡ 0) ⊎ (suc k + 2 ≤ n)
     go true p q = inr (ltb-false n (suc k + 2) q)
     go false p q = absurd (omega (arith, ltb-false 0 (suc k) p))
 
-pub few-most : (n count : ℕ) → tooMany n count ≡ false → count ≤ n
-few-most n count e = go (few-faces n count e)
+pub few_most : (n count : ℕ) → too_many n count ≡ false → count ≤ n
+few_most n count e = go (few_faces n count e)
   where
     go : (count ≡ 0) ⊎ (count + 2 ≤ n) → count ≤ n
     go (inl z) = omega arith
     go (inr h) = omega arith
 
-module _ (bytes : List ℕ) (n count : ℕ) (words : List ℕ) (p : Checked bytes n count (length words)) (few : tooMany n count ≡ false) where
+module _ (bytes : List ℕ) (n count : ℕ) (words : List ℕ) (p : Checked bytes n count (length words)) (few : too_many n count ≡ false) where
   pub readable : Readable bytes
-  readable = record { faces = p.faces; good-lines = p.lines; few = omega (arith, p.many, p.points, few-most n count few) }
+  readable = record { faces = p.faces; good_lines = p.lines; few = omega (arith, p.many, p.points, few_most n count few) }
 
   module _ (words' : List ℕ) (stored : Stored bytes words words') where
     holds : words' ≡ written p.faces words
     holds = stored p.faces p.lines
 
     room : 3 * length p.faces ≤ length words
-    room = omega (arith, p.many, p.words-enough, few-most n count few)
+    room = omega (arith, p.many, p.words_enough, few_most n count few)
 
     told : FacesInWords count p.faces words'
     told = record {
       many = p.many;
       each = λ i h. rw holds (sym (written_at p.faces words room i (omega (arith, p.many))));
-      different = all-different p.faces p.different;
+      different = all_different p.faces p.different;
     }
 
-    point-below : (i : ℕ) → i < count → ((faceIn words' i).a < n) × ((faceIn words' i).b < n) × ((faceIn words' i).c < n)
-    point-below i h =
-        let t = all-inside p.faces p.different n p.inside i (omega (arith, p.many)) in
+    point_below : (i : ℕ) → i < count → ((face_in words' i).a < n) × ((face_in words' i).b < n) × ((face_in words' i).c < n)
+    point_below i h =
+        let t = all_inside p.faces p.different n p.inside i (omega (arith, p.many)) in
         let at = told.each i h in
-        subst (λ (f : Face). (f.a < n) × (f.b < n) × (f.c < n)) at (t.a-below, t.b-below, t.c-below)
+        subst (λ (f : Face). (f.a < n) × (f.b < n) × (f.c < n)) at (t.a_below, t.b_below, t.c_below)
 
     module _ (order : List ℕ) (fits : count ≤ length order) where
-      pub between-looks : (n ≤ 4096) × (count ≤ n) × (count ≤ length order) × (placedEnd n ≤ length words') × ((s : ℕ) → s < 3 * count → get_or words' s 0 < n)
-      between-looks = (
+      pub between_looks : (n ≤ 4096) × (count ≤ n) × (count ≤ length order) × (placed_end n ≤ length words') × ((s : ℕ) → s < 3 * count → get_or words' s 0 < n)
+      between_looks = (
         p.points,
-        few-most n count few,
+        few_most n count few,
         fits,
-        omega (arith, p.words-enough, ap length holds, length-written p.faces words),
-        words-below words' n count point-below,
+        omega (arith, p.words_enough, ap length holds, length_written p.faces words),
+        words_below words' n count point_below,
       )
 
-      fits-faces : length p.faces ≤ length order
-      fits-faces = omega (arith, p.many)
+      fits_faces : length p.faces ≤ length order
+      fits_faces = omega (arith, p.many)
 
       module _ (ok : Bool) (number : ℕ) (order' : List ℕ) (f : (fs : List Face) → FacesInWords count fs words' → FacesOrdered fs ok number order order') where
         found : FacesOrdered p.faces ok number order order'
         found = f p.faces told
 
-        pub found-order : ok ≡ true → (r : Ordered) → r ≡ record { answer = 0; detail = 0; faces = count; seeds = number } → OrderJudged bytes order r order'
-        found-order is r h =
-            let e : orderAccepted p.faces ≡ true = sym found.decided ∙ is in
-            judged-ordered bytes order p.faces p.lines (last-passed (length order) p.faces fits-faces e) r order' (h ∙ rw (p.many, found.many is))
+        pub found_order : ok ≡ true → (r : Ordered) → r ≡ record { answer = 0; detail = 0; faces = count; seeds = number } → OrderJudged bytes order r order'
+        found_order is r h =
+            let e : order_accepted p.faces ≡ true = sym found.decided ∙ is in
+            judged_ordered bytes order p.faces p.lines (last_passed (length order) p.faces fits_faces e) r order' (h ∙ rw (p.many, found.many is))
             (found.ordered is)
 
-        pub found_none : ok ≡ false → (r : Ordered) → r ≡ refusedWith 23 0 → OrderJudged bytes order r order'
+        pub found_none : ok ≡ false → (r : Ordered) → r ≡ refused_with 23 0 → OrderJudged bytes order r order'
         found_none is r h =
-            let e : orderAccepted p.faces ≡ false = sym found.decided ∙ is in
+            let e : order_accepted p.faces ≡ false = sym found.decided ∙ is in
             subst (OrderJudged bytes order r) (sym (found.untouched is))
-            (judged-refused bytes order p.faces p.lines 23 refl (last_none (length order) p.faces fits-faces e) r h)
+            (judged_refused bytes order p.faces p.lines 23 refl (last_none (length order) p.faces fits_faces e) r h)

@@ -2,9 +2,9 @@
 //
 // What the call answers and leaves is `OrdersPatch` of specs/Ordering.antt; the order is `greedy` of crate `orders`.
 ghost use Rattle.std.specs.Prelude.{◌≡◌, length};
-ghost use Rattle.domain.specs.Refusals.{firstRefusal};
-ghost use Rattle.patch_order.specs.Ordering.{firstChecks, refusedWith, OrdersPatch};
-ghost use Rattle.patch_order.specs.Inner.Ready.{tooMany, Checked, OrderJudged};
+ghost use Rattle.domain.specs.Refusals.{first_refusal};
+ghost use Rattle.patch_order.specs.Ordering.{first_checks, refused_with, OrdersPatch};
+ghost use Rattle.patch_order.specs.Inner.Ready.{too_many_lem, Checked, OrderJudged};
 
 // The answer's number, 0 where an order was found; the detail, the first malformed line from 1 at refusal 10; how many
 // faces there are, and how many of them share no edge with an earlier one in the order.
@@ -18,7 +18,7 @@ pub struct Ordered {
 }
 
 pub fn refused(answer: u32, detail: usize) -> Ordered
-    ensures { result ≡ refusedWith answer detail }
+    ensures { result ≡ refused_with answer detail }
 {
     Ordered {
         answer,
@@ -30,7 +30,7 @@ pub fn refused(answer: u32, detail: usize) -> Ordered
 
 // The first of the answers 3, 14, 17 and 7 that is asked for, or 0.
 pub fn first_answer(n: usize, outside: bool, twice: bool, words: usize, floats: usize) -> u32
-    ensures { result ≡ (firstRefusal (firstChecks n outside twice words floats)).answer }
+    ensures { result ≡ (first_refusal (first_checks n outside twice words floats)).answer }
 {
     if 4096 < n {
         return answers::TOO_MANY_POINTS;
@@ -52,7 +52,7 @@ pub fn first_answer(n: usize, outside: bool, twice: bool, words: usize, floats: 
 
 // Whether there are faces, and more than n - 2.
 pub fn is_too_many(n: usize, count: usize) -> bool
-    ensures { result ≡ tooMany n count }
+    ensures { result ≡ too_many n count }
 {
     if count == 0 {
         return false;

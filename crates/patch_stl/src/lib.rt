@@ -1,8 +1,8 @@
 // Makes what the program `stl` writes of a cloud file: the patch as binary STL, or a refusal's line, in a lent slice.
 //
-// It is the definition `fileOutput` of specs/Output.antt, for all bytes and all lengths of the slices.
+// It is the definition `file_output` of specs/Output.antt, for all bytes and all lengths of the slices.
 ghost use Rattle.std.specs.Prelude.{length, ◌≤◌};
-ghost use Rattle.patch_stl.specs.Output.{longestLine, outputRefused, writtenOutput, laidOutput, fileOutput};
+ghost use Rattle.patch_stl.specs.Output.{longest_line, output_refused, written_output, laid_output, file_output};
 ghost use Rattle.patch_stl.specs.Output.{Outputs};
 
 use settings::BallPivotingConfig;
@@ -15,8 +15,8 @@ pub struct StlOutput {
 }
 
 fn refuse(answer: u32, detail: usize, out: &mut [u8]) -> StlOutput
-    requires { longestLine ≤ length out.old }
-    ensures { Outputs (outputRefused answer detail) out.old result out.new }
+    requires { longest_line ≤ length out.old }
+    ensures { Outputs (output_refused answer detail) out.old result out.new }
 {
     let length = listing::write_refusal(answer, detail, out);
     StlOutput {
@@ -26,8 +26,8 @@ fn refuse(answer: u32, detail: usize, out: &mut [u8]) -> StlOutput
 }
 
 fn write_faces(points: &[f32], faces: &[u32], out: &mut [u8]) -> StlOutput
-    requires { longestLine ≤ length out.old }
-    ensures { Outputs (writtenOutput points.now faces.now (length out.old))
+    requires { longest_line ≤ length out.old }
+    ensures { Outputs (written_output points.now faces.now (length out.old))
         out.old result out.new }
 {
     let told = stl_file::write_stl(points, faces, out);
@@ -50,9 +50,9 @@ fn write_patch(
     floats: &mut [f32],
     out: &mut [u8],
 ) -> StlOutput
-    requires { longestLine ≤ length out.old }
+    requires { longest_line ≤ length out.old }
     ensures { Outputs
-        (laidOutput radius points.now normals.now (length faces.old)
+        (laid_output radius points.now normals.now (length faces.old)
         (length words.old) (length floats.old) (length out.old)) out.old result
         out.new }
 {
@@ -75,9 +75,9 @@ pub fn lay_stl(
     floats: &mut [f32],
     out: &mut [u8],
 ) -> StlOutput
-    requires { longestLine ≤ length out.old }
+    requires { longest_line ≤ length out.old }
     ensures { Outputs
-        (fileOutput input.now (length points.old) (length normals.old)
+        (file_output input.now (length points.old) (length normals.old)
         (length faces.old) (length words.old) (length floats.old)
         (length out.old)) out.old result out.new }
 {

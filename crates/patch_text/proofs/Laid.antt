@@ -11,89 +11,89 @@ use lib.Seq.{take_all, take-append_seam}
 use lib.Ieee.{Float}
 use borrow.Author.Tests.{eq-eqb, ne_eqb, le-leb}
 use Rattle.settings.specs.Settings.{defaults}
-use Rattle.domain.specs.Refusals.{reconstructRefusal}
+use Rattle.domain.specs.Refusals.{reconstruct_refusal}
 use Rattle.settings.specs.declared.BallPivotingConfig.{BallPivotingConfig}
-use Rattle.domain.proofs.Accepted.{accepted-reconstruct}
+use Rattle.domain.proofs.Accepted.{accepted_reconstruct}
 use Rattle.patch.specs.Lay.{Face}
 use Rattle.patch.specs.View as view
-use Rattle.patch.proofs.View.{length-flat, length-written}
-use Rattle.ball_pivoting.specs.Reconstruct.{found, reconstructed, accepted, facesAfter}
+use Rattle.patch.proofs.View.{length_flat, length_written}
+use Rattle.ball_pivoting.specs.Reconstruct.{found, reconstructed, accepted, faces_after}
 use Rattle.ball_pivoting.specs.Outcome.{Reconstructs}
 use Rattle.ball_pivoting.specs.declared.Patch.{Patch}
-use Rattle.ball_pivoting.proofs.Answered.{answered-zero}
-use Rattle.listing.specs.Listing.{refusalText, listed, writtenLength, filled}
-use Rattle.patch_text.specs.Text.{countsOf, patchText, laidText, Prints}
+use Rattle.ball_pivoting.proofs.Answered.{answered_zero}
+use Rattle.listing.specs.Listing.{refusal_text, listed, written_length, filled}
+use Rattle.patch_text.specs.Text.{counts_of, patch_text, laid_text, Prints}
 
 -- the faces' points stand in front of the slice
-written-front : (fs : List Face) (slice : List ℕ) → 3 * length fs ≤ length slice → take (3 * length fs) (view.written fs slice) ≡ view.flat fs
+written_front : (fs : List Face) (slice : List ℕ) → 3 * length fs ≤ length slice → take (3 * length fs) (view.written fs slice) ≡ view.flat fs
 unfolding view.written
-written-front fs slice h =
+written_front fs slice h =
     let k : length fs ≤ length slice / 3 = omega arith in
     let all : take (length slice / 3) fs ≡ fs = take_all (length slice / 3) fs k in
-    rw (all, sym (length-flat fs)) (take-append_seam (view.flat fs) (drop (length (view.flat fs)) slice))
+    rw (all, sym (length_flat fs)) (take-append_seam (view.flat fs) (drop (length (view.flat fs)) slice))
 
 -- ---- the main call, and what is printed of it
 module _ (points normals : List Float) (c : BallPivotingConfig) (faces words : List ℕ) (floats : List Float) (p : Patch) (faces' words' : List ℕ)
     (floats' : List Float) (h : Reconstructs points normals c faces words floats p faces' words' floats') where
-  accepts : p.answer ≡ 0 → ((reconstructRefusal points normals c (length words) (length floats)).answer ≡ 0)
+  accepts : p.answer ≡ 0 → ((reconstruct_refusal points normals c (length words) (length floats)).answer ≡ 0)
       × ((p.faces ≡ length (found c points).faces) × (3 * length (found c points).faces ≤ length faces))
   unfolding accepted
   accepts z =
-      let a = answered-zero points normals c (length faces) (length words) (length floats) p h.result z in
+      let a = answered_zero points normals c (length faces) (length words) (length floats) p h.result z in
       (a.0, (ap (λ (q : Patch). q.faces) a.1.0, a.1.1))
 
-  pub few-points : p.answer ≡ 0 → length points / 3 ≤ 4096
-  few-points z = (accepted-reconstruct points normals c (length words) (length floats) (accepts z).0).cloud.few
+  pub few_points : p.answer ≡ 0 → length points / 3 ≤ 4096
+  few_points z = (accepted_reconstruct points normals c (length words) (length floats) (accepts z).0).cloud.few
 
-  faces-are : p.answer ≡ 0 → faces' ≡ view.written (found c points).faces faces
-  unfolding facesAfter
-  faces-are z = rw (eq-eqb p.answer 0 z) at h.faces-after
+  faces_are : p.answer ≡ 0 → faces' ≡ view.written (found c points).faces faces
+  unfolding faces_after
+  faces_are z = rw (eq-eqb p.answer 0 z) at h.faces_after_lem
 
-  pub faces-inside : p.answer ≡ 0 → 3 * p.faces ≤ length faces'
-  faces-inside z = omega (arith, (accepts z).1.0, (accepts z).1.1, ap length (faces-are z), length-written (found c points).faces faces)
+  pub faces_inside : p.answer ≡ 0 → 3 * p.faces ≤ length faces'
+  faces_inside z = omega (arith, (accepts z).1.0, (accepts z).1.1, ap length (faces_are z), length_written (found c points).faces faces)
 
-  pub faces-front : p.answer ≡ 0 → take (3 * p.faces) faces' ≡ view.flat (found c points).faces
-  faces-front z =
+  pub faces_front : p.answer ≡ 0 → take (3 * p.faces) faces' ≡ view.flat (found c points).faces
+  faces_front z =
       let a = (accepts z).1 in
-      ap (λ (k : ℕ). take (3 * k) faces') a.0 ∙ ap (take (3 * length (found c points).faces)) (faces-are z) ∙ written-front (found c points).faces faces
+      ap (λ (k : ℕ). take (3 * k) faces') a.0 ∙ ap (take (3 * length (found c points).faces)) (faces_are z) ∙ written_front (found c points).faces faces
       a.1
 
   -- the text of the faces in front is the definition's
-  pub listed-front : p.answer ≡ 0 → listed (countsOf (length points / 3) p) (take (3 * p.faces) faces') ≡ patchText (length points / 3) p (found c points)
-  unfolding listed patchText
-  listed-front z =
-      let e = faces-front z in
+  pub listed_front : p.answer ≡ 0 → listed (counts_of (length points / 3) p) (take (3 * p.faces) faces') ≡ patch_text (length points / 3) p (found c points)
+  unfolding listed patch_text
+  listed_front z =
+      let e = faces_front z in
       let a = (accepts z).1 in
-      let long : 3 * p.faces ≤ length (view.flat (found c points).faces) = omega (arith, a.0, length-flat (found c points).faces) in
+      let long : 3 * p.faces ≤ length (view.flat (found c points).faces) = omega (arith, a.0, length_flat (found c points).faces) in
       rw (e, eq-eqb p.answer 0 z, le-leb (3 * p.faces) (length (view.flat (found c points).faces)) long)
 
-  pub refused-text : (p.answer ≡ 0 → ⊥) → refusalText p.answer p.detail ≡ patchText (length points / 3) p (found c points)
-  unfolding patchText
-  refused-text bad = rw (ne_eqb p.answer 0 bad)
+  pub refused_text : (p.answer ≡ 0 → ⊥) → refusal_text p.answer p.detail ≡ patch_text (length points / 3) p (found c points)
+  unfolding patch_text
+  refused_text bad = rw (ne_eqb p.answer 0 bad)
 
-  pub laid-text : (radius : Float) → c ≡ defaults radius → patchText (length points / 3) p (found c points)
-      ≡ laidText radius (length points / 3) points normals (length faces) (length words) (length floats)
-  unfolding laidText
-  laid-text radius e = ap (λ (q : Patch). patchText (length points / 3) q (found c points)) h.result ∙ ap
-      (λ (d : BallPivotingConfig). patchText (length points / 3) (reconstructed points normals d (length faces) (length words) (length floats))
+  pub laid_text_lem : (radius : Float) → c ≡ defaults radius → patch_text (length points / 3) p (found c points)
+      ≡ laid_text radius (length points / 3) points normals (length faces) (length words) (length floats)
+  unfolding laid_text
+  laid_text_lem radius e = ap (λ (q : Patch). patch_text (length points / 3) q (found c points)) h.result ∙ ap
+      (λ (d : BallPivotingConfig). patch_text (length points / 3) (reconstructed points normals d (length faces) (length words) (length floats))
       (found d points)) e
 
 -- ---- a text written is the text printed
-pub prints-as : {t t' out out' : List ℕ} {r : ℕ} → t ≡ t' → Prints t out r out' → Prints t' out r out'
-prints-as {t} {t'} {out} {out'} {r} e w = subst (λ (u : List ℕ). Prints u out r out') e w
+pub prints_as : {t t' out out' : List ℕ} {r : ℕ} → t ≡ t' → Prints t out r out' → Prints t' out r out'
+prints_as {t} {t'} {out} {out'} {r} e w = subst (λ (u : List ℕ). Prints u out r out') e w
 
-pub prints : {t t' out out' : List ℕ} {r : ℕ} → t ≡ t' → (r ≡ writtenLength t out) × (out' ≡ filled t out) → Prints t' out r out'
-prints e w = prints-as e (record { bytes = w.0; holds = w.1 })
+pub prints : {t t' out out' : List ℕ} {r : ℕ} → t ≡ t' → (r ≡ written_length t out) × (out' ≡ filled t out) → Prints t' out r out'
+prints e w = prints_as e (record { bytes = w.0; holds = w.1 })
 
-written-within : (t out : List ℕ) → writtenLength t out ≤ length (filled t out)
-unfolding writtenLength filled
-written-within t out = go (leb (length t) (length out))
+written_within : (t out : List ℕ) → written_length t out ≤ length (filled t out)
+unfolding written_length filled
+written_within t out = go (leb (length t) (length out))
   where
     go : (fits : Bool) → cond fits (length t) 0 ≤ length (cond fits (t ++ drop (length t) out) out)
     go true = omega (arith, length-append t (drop (length t) out))
     go false = omega arith
 
 -- what is printed is inside the buffer
-pub prints-within : {t out out' : List ℕ} {r : ℕ} → Prints t out r out' → r ≤ length out'
-prints-within {t} {out} {out'} w =
-    subst (λ (k : ℕ). k ≤ length out') (sym w.bytes) (subst (λ (l : List ℕ). writtenLength t out ≤ length l) (sym w.holds) (written-within t out))
+pub prints_within : {t out out' : List ℕ} {r : ℕ} → Prints t out r out' → r ≤ length out'
+prints_within {t} {out} {out'} w =
+    subst (λ (k : ℕ). k ≤ length out') (sym w.bytes) (subst (λ (l : List ℕ). written_length t out ≤ length l) (sym w.holds) (written_within t out))

@@ -1,10 +1,10 @@
 // Makes what the program prints of a cloud file: its bytes in, the listing of the patch or a refusal out, in lent
 // slices.
 //
-// The text is the definition `fileText` of specs/Text.antt, for all bytes and all lengths of the slices; the program's
+// The text is the definition `file_text` of specs/Text.antt, for all bytes and all lengths of the slices; the program's
 // is `printed`.
 ghost use Rattle.std.specs.Prelude.{length, ◌/◌};
-ghost use Rattle.patch_text.specs.Text.{laidText, fileText, Prints, PrintsFile};
+ghost use Rattle.patch_text.specs.Text.{laid_text, file_text, Prints, PrintsFile};
 
 use listing::ListingCounts;
 use settings::BallPivotingConfig;
@@ -22,7 +22,7 @@ fn write_patch(
     floats: &mut [f32],
     out: &mut [u8],
 ) -> usize
-    ensures { Prints (laidText radius (length points.now / 3) points.now
+    ensures { Prints (laid_text radius (length points.now / 3) points.now
         normals.now (length faces.old) (length words.old)
         (length floats.old)) out.old result out.new }
 {
@@ -54,7 +54,7 @@ pub fn lay_text(
     out: &mut [u8],
 ) -> usize
     ensures { Prints
-        (fileText input.now (length points.old) (length normals.old)
+        (file_text input.now (length points.old) (length normals.old)
         (length faces.old) (length words.old) (length floats.old)) out.old
         result out.new }
 {

@@ -8,13 +8,13 @@ use lib.Dec.{eqb}
 use lib.Ieee.{Float, lt}
 use Rattle.numbers.specs.Rounded.{f32}
 use Rattle.patch.specs.Lay.{Edge}
-use Rattle.patch.specs.Search.{Floats, scoreOf, bestOf, searching}
+use Rattle.patch.specs.Search.{Floats, score_of, best_of, searching}
 use Rattle.lists.specs.Lists.{unused}
-use Rattle.decisions.specs.Found.{scoreFound, at_least}
+use Rattle.decisions.specs.Found.{score_found, at_least}
 use Rattle.decisions.specs.declared.Score.TheVariants.{None}
 use Rattle.nearby.proofs.Laws.{chosen, passed}
 use Rattle.pivot.specs.declared.Pivot.TheVariants.{Nowhere}
-use Rattle.pivot.specs.Inner.Found.{pivotFound}
+use Rattle.pivot.specs.Inner.Found.{pivot_found}
 
 -- a score, if it is above `top`
 unfoldable pub above : Float → Option Float → Option Float
@@ -23,51 +23,51 @@ above top (some x) = cond (lt top x) (some x) none
 
 module _ {R : Type 0} (floats : Floats R) (r : R) (used : List ℕ) where
   -- ---- the candidates
-  pub unscored : (e : Edge) (k : ℕ) (top : Float) → scoreOf floats r used e k ≡ none → None ≡ scoreFound (at_least top (scoreOf floats r used e k))
+  pub unscored : (e : Edge) (k : ℕ) (top : Float) → score_of floats r used e k ≡ none → None ≡ score_found (at_least top (score_of floats r used e k))
   unfolding at_least
-  unscored e k top h = ap (λ (o : Option Float). scoreFound (at_least top o)) (sym h)
+  unscored e k top h = ap (λ (o : Option Float). score_found (at_least top o)) (sym h)
 
-  pub not-met : (e : Edge) (k : ℕ) → (not (eqb k e.v1) && (not (eqb k e.v2) && unused used k)) ≡ false → scoreOf floats r used e k ≡ none
-  unfolding scoreOf
-  not-met e k h = passed (not (eqb k e.v1) && (not (eqb k e.v2) && unused used k)) (floats.score r e k) none h
+  pub not_met : (e : Edge) (k : ℕ) → (not (eqb k e.v1) && (not (eqb k e.v2) && unused used k)) ≡ false → score_of floats r used e k ≡ none
+  unfolding score_of
+  not_met e k h = passed (not (eqb k e.v1) && (not (eqb k e.v2) && unused used k)) (floats.score r e k) none h
 
-  pub met : (e : Edge) (k : ℕ) → (not (eqb k e.v1) && (not (eqb k e.v2) && unused used k)) ≡ true → floats.score r e k ≡ scoreOf floats r used e k
-  unfolding scoreOf
+  pub met : (e : Edge) (k : ℕ) → (not (eqb k e.v1) && (not (eqb k e.v2) && unused used k)) ≡ true → floats.score r e k ≡ score_of floats r used e k
+  unfolding score_of
   met e k h = sym (chosen (not (eqb k e.v1) && (not (eqb k e.v2) && unused used k)) (floats.score r e k) none h)
 
   -- what a score above `top`, or none, leads to
   abbrev pub after : Edge → ℕ → List ℕ → Float → Option ℕ → Option Float → Option ℕ
-  after e k ks top best o = elim o as (λ c. Option ℕ) [ none ↦ bestOf floats r used e ks top best | some s ↦ bestOf floats r used e ks s (some k) ]
+  after e k ks top best o = elim o as (λ c. Option ℕ) [ none ↦ best_of floats r used e ks top best | some s ↦ best_of floats r used e ks s (some k) ]
 
-  pub best-step : (e : Edge) (k : ℕ) (ks : List ℕ) (top : Float) (best : Option ℕ) → bestOf floats r used e (k ∷ ks) top best
-      ≡ after e k ks top best (above top (scoreOf floats r used e k))
-  unfolding bestOf above
-  best-step e k ks top best = go (scoreOf floats r used e k)
+  pub best_step : (e : Edge) (k : ℕ) (ks : List ℕ) (top : Float) (best : Option ℕ) → best_of floats r used e (k ∷ ks) top best
+      ≡ after e k ks top best (above top (score_of floats r used e k))
+  unfolding best_of above
+  best_step e k ks top best = go (score_of floats r used e k)
     where
-      turn : (s : Float) (t : Bool) → elim t as (λ c. Option ℕ) [ true ↦ bestOf floats r used e ks s (some k) | false ↦ bestOf floats r used e ks top best ]
+      turn : (s : Float) (t : Bool) → elim t as (λ c. Option ℕ) [ true ↦ best_of floats r used e ks s (some k) | false ↦ best_of floats r used e ks top best ]
           ≡ after e k ks top best (cond t (some s) none)
       turn s true = refl
       turn s false = refl
 
       go : (o : Option Float)
           → elim o as (λ c. Option ℕ) [
-            | none ↦ bestOf floats r used e ks top best
-            | some s ↦ elim (lt top s) as (λ c. Option ℕ) [ true ↦ bestOf floats r used e ks s (some k) | false ↦ bestOf floats r used e ks top best ]
+            | none ↦ best_of floats r used e ks top best
+            | some s ↦ elim (lt top s) as (λ c. Option ℕ) [ true ↦ best_of floats r used e ks s (some k) | false ↦ best_of floats r used e ks top best ]
           ]
           ≡ after e k ks top best (above top o)
       go none = refl
       go (some s) = turn s (lt top s)
 
-  pub best-end : (e : Edge) (top : Float) (best : Option ℕ) → bestOf floats r used e [] top best ≡ best
-  unfolding bestOf
-  best-end e top best = refl
+  pub best_end : (e : Edge) (top : Float) (best : Option ℕ) → best_of floats r used e [] top best ≡ best
+  unfolding best_of
+  best_end e top best = refl
 
   -- ---- the pivot
-  pub pivot-not : (n : ℕ) (e : Edge) → floats.pivotable r e ≡ false → Nowhere ≡ pivotFound ((searching floats n).pivotOf r used e)
+  pub pivot_not : (n : ℕ) (e : Edge) → floats.pivotable r e ≡ false → Nowhere ≡ pivot_found ((searching floats n).pivot_of r used e)
   unfolding searching
-  pivot-not n e h = ap pivotFound (sym (passed (floats.pivotable r e) (bestOf floats r used e (floats.around r e) (f32 0) none) none h))
+  pivot_not n e h = ap pivot_found (sym (passed (floats.pivotable r e) (best_of floats r used e (floats.around r e) (f32 0) none) none h))
 
-  pub pivot-is : (n : ℕ) (e : Edge) → floats.pivotable r e ≡ true → pivotFound (bestOf floats r used e (floats.around r e) (f32 0) none)
-      ≡ pivotFound ((searching floats n).pivotOf r used e)
+  pub pivot_is : (n : ℕ) (e : Edge) → floats.pivotable r e ≡ true → pivot_found (best_of floats r used e (floats.around r e) (f32 0) none)
+      ≡ pivot_found ((searching floats n).pivot_of r used e)
   unfolding searching
-  pivot-is n e h = ap pivotFound (sym (chosen (floats.pivotable r e) (bestOf floats r used e (floats.around r e) (f32 0) none) none h))
+  pivot_is n e h = ap pivot_found (sym (chosen (floats.pivotable r e) (best_of floats r used e (floats.around r e) (f32 0) none) none h))

@@ -3,20 +3,20 @@ ghost use Rattle.std.specs.Prelude.{◌≡◌, not, ◌&&◌, ◌||◌, ◌<◌,
 ghost use Rattle.std.proofs.Math.Option.{none};
 ghost use Rattle.std.specs.Float.Ieee.{lt};
 ghost use Rattle.numbers.specs.Rounded.{f32};
-ghost use Rattle.points.specs.Points.{pointAt};
+ghost use Rattle.points.specs.Points.{point_at_lem};
 ghost use Rattle.grid.specs.Grid.{in_range};
-ghost use Rattle.grid.specs.Inner.Index.{cellIn, Cells, CellsIndexed, earlier};
+ghost use Rattle.grid.specs.Inner.Index.{cell_in, Cells, CellsIndexed, earlier};
 ghost use Rattle.spatial_hash.specs.Inner.Near.{Hashed};
 ghost use Rattle.patch.specs.Lay.{edge};
-ghost use Rattle.patch.specs.Search.{scoreOf, bestOf};
-ghost use Rattle.decisions.specs.Decisions.{floatsOf};
-ghost use Rattle.decisions.specs.Found.{scoreFound, at_least};
-ghost use Rattle.scores.specs.Inner.Over.{edgeSide, Thinned};
-ghost use Rattle.nearby.specs.Inner.Ready.{SceneHeld, NeighborsListed, SceneKept, usedInScene, neighborsListed};
+ghost use Rattle.patch.specs.Search.{score_of, best_of};
+ghost use Rattle.decisions.specs.Decisions.{floats_of};
+ghost use Rattle.decisions.specs.Found.{score_found, at_least};
+ghost use Rattle.scores.specs.Inner.Over.{edge_side, Thinned};
+ghost use Rattle.nearby.specs.Inner.Ready.{SceneHeld, NeighborsListed, SceneKept, used_in_scene, neighbors_listed};
 ghost use Rattle.nearby.specs.Inner.Narrow.{cell_at};
-ghost use Rattle.regions.specs.Inner.Regions.{neighborsAt};
-ghost use Rattle.pivot.specs.Inner.Found.{pivotFound, point_of, MetPoint};
-ghost use Rattle.pivot.specs.Inner.Best.{isBeforeBest, scoreAhead, leader, scoreIn};
+ghost use Rattle.regions.specs.Inner.Regions.{neighbors_at};
+ghost use Rattle.pivot.specs.Inner.Found.{pivot_found, point_of, MetPoint};
+ghost use Rattle.pivot.specs.Inner.Best.{is_before_best, score_ahead, leader, score_in};
 
 use crate::Pivot;
 use decisions::{Scene, Score};
@@ -37,10 +37,10 @@ pub struct Over {
 // The score of point k over an edge, if it may be met and the score is not below `top`.
 fn score_of(s: Scene, points: &[f32], w: &[u32], o: Over, k: usize, top: f32, thin: f32) -> Score
     requires { SceneHeld s points.now w.now × (k < s.n)
-        × (o.side ≡ edgeSide (pointAt points.now o.a) (pointAt points.now o.b)) × Thinned top thin }
+        × (o.side ≡ edge_side (point_at points.now o.a) (point_at points.now o.b)) × Thinned top thin }
     ensures { result
-        ≡ scoreFound
-        (at_least top (scoreOf (floatsOf s points.now) o.radius (usedInScene s w.now)
+        ≡ score_found
+        (at_least top (score_of (floats_of s points.now) o.radius (used_in_scene s w.now)
         (edge o.a o.b) k)) }
 {
     if k == o.a {
@@ -58,8 +58,8 @@ fn score_of(s: Scene, points: &[f32], w: &[u32], o: Over, k: usize, top: f32, th
 
 // Whether point k comes before the best one so far, if there is one.
 fn is_before(s: Scene, w: &[u32], k: usize, best: Pivot) -> bool
-    requires { MetPoint s best × (k < s.n) × (s.n ≤ 4096) × (neighborsAt s.n ≤ length w.now) }
-    ensures { result ≡ isBeforeBest (earlier s.indexed (cellIn w.now s.n)) k (point_of best) }
+    requires { MetPoint s best × (k < s.n) × (s.n ≤ 4096) × (neighbors_at s.n ≤ length w.now) }
+    ensures { result ≡ is_before_best (earlier s.indexed (cell_in w.now s.n)) k (point_of best) }
 {
     if let Pivot::To(j) = best {
         return grid::order::comes_first(w, s.n, s.indexed, k, j);
@@ -69,9 +69,9 @@ fn is_before(s: Scene, w: &[u32], k: usize, best: Pivot) -> bool
 
 // Whether point k, a neighbour if its cell is near enough, becomes the best with a score that is not below `top`.
 fn is_ahead(s: Scene, w: &[u32], f: Filter, k: usize, score: f32, top: f32, best: Pivot) -> bool
-    requires { MetPoint s best × (k < s.n) × (s.n ≤ 4096) × (neighborsAt s.n ≤ length w.now) }
-    ensures { result ≡ ((not s.indexed || in_range f.range f.cell (cellIn w.now s.n k))
-        && (lt top score || isBeforeBest (earlier s.indexed (cellIn w.now s.n)) k (point_of best))) }
+    requires { MetPoint s best × (k < s.n) × (s.n ≤ 4096) × (neighbors_at s.n ≤ length w.now) }
+    ensures { result ≡ ((not s.indexed || in_range f.range f.cell (cell_in w.now s.n k))
+        && (lt top score || is_before_best (earlier s.indexed (cell_in w.now s.n)) k (point_of best))) }
 {
     if !grid::search::is_near(w, s.n, s.indexed, f.range, f.cell, k) {
         return false;
@@ -94,11 +94,11 @@ fn score_ahead(
     best: Pivot,
 ) -> Score
     requires { SceneHeld s points.now w.now × Cells s.grid points.now s.n w.now × (k < s.n)
-        × (o.side ≡ edgeSide (pointAt points.now o.a) (pointAt points.now o.b)) × Thinned top thin
+        × (o.side ≡ edge_side (point_at points.now o.a) (point_at points.now o.b)) × Thinned top thin
         × MetPoint s best }
     ensures { result
-        ≡ scoreFound (scoreAhead (earlier s.indexed (cell_at s.grid points.now)) top (point_of best) k
-        (scoreIn s points.now o.radius (usedInScene s w.now) o.filter (edge o.a o.b)
+        ≡ score_found (score_ahead (earlier s.indexed (cell_at s.grid points.now)) top (point_of best) k
+        (score_in s points.now o.radius (used_in_scene s w.now) o.filter (edge o.a o.b)
         k)) }
 {
     if let Score::Of(x) = score_of(s, points, w, o, k, top, thin) {
@@ -125,9 +125,9 @@ fn best_of(
         × NeighborsListed s w.now count
         × (a < s.n) × (b < s.n) }
     ensures { result
-        ≡ pivotFound (leader (earlier s.indexed (cell_at s.grid points.now))
-        (scoreIn s points.now radius (usedInScene s w.now) f (edge a b))
-        (neighborsListed s w.now count) (f32 0) none) }
+        ≡ pivot_found (leader (earlier s.indexed (cell_at s.grid points.now))
+        (score_in s points.now radius (used_in_scene s w.now) f (edge a b))
+        (neighbors_listed s w.now count) (f32 0) none) }
 {
     let p = points::point_at(points, a);
     let side = scores::side_of(p, points::point_at(points, b));
@@ -167,8 +167,8 @@ pub fn find_best(
     requires { SceneHeld s points.now w.old × CellsIndexed s.grid points.now s.n w.old
         × Hashed hash points.now s.n w.old × (a < s.n) × (b < s.n) }
     ensures { (result
-        ≡ pivotFound (bestOf (floatsOf s points.now) radius (usedInScene s w.old) (edge a b)
-        ((floatsOf s points.now).around radius (edge a b)) (f32 0) none))
+        ≡ pivot_found (best_of (floats_of s points.now) radius (used_in_scene s w.old) (edge a b)
+        ((floats_of s points.now).around radius (edge a b)) (f32 0) none))
         × SceneKept s w.old w.new }
 {
     let p = points::point_at(points, a);

@@ -6,9 +6,9 @@ ghost use Rattle.grid.specs.Inner.Index.{CellsIndexed};
 ghost use Rattle.spatial_hash.specs.Inner.Near.{Hashed};
 ghost use Rattle.patch.specs.Lay.{edge};
 ghost use Rattle.patch.specs.Search.{searching};
-ghost use Rattle.decisions.specs.Decisions.{floatsOf};
-ghost use Rattle.nearby.specs.Inner.Ready.{SceneHeld, usedInScene, SceneKept};
-ghost use Rattle.pivot.specs.Inner.Found.{pivotFound};
+ghost use Rattle.decisions.specs.Decisions.{floats_of};
+ghost use Rattle.nearby.specs.Inner.Ready.{SceneHeld, used_in_scene, SceneKept};
+ghost use Rattle.pivot.specs.Inner.Found.{pivot_found};
 
 use decisions::Scene;
 use spatial_hash::Hash;
@@ -32,8 +32,8 @@ pub fn try_ball_pivot(
     requires { SceneHeld s points.now w.old × CellsIndexed s.grid points.now s.n w.old
         × Hashed hash points.now s.n w.old × (a < s.n) × (b < s.n) }
     ensures { (result
-        ≡ pivotFound ((searching (floatsOf s points.now) s.n).pivotOf radius
-        (usedInScene s w.old)
+        ≡ pivot_found ((searching (floats_of s points.now) s.n).pivot_of radius
+        (used_in_scene s w.old)
         (edge a b))) × SceneKept s w.old w.new }
 {
     if !decisions::is_pivotable(points, radius, a, b) {

@@ -10,26 +10,26 @@ use lib.ListN.{length, set, get_or, length-set}
 use lib.Seq.{get_or-set_same, get_or-set_other}
 use borrow.Author.Tests.{eqb-true, eqb-false, eq-eqb, ne_eqb, leb-true, leb-false}
 use Rattle.lists.specs.Lists.{bit, any, up_from}
-use Rattle.lists.proofs.Bools.{either, not-true, true-not-false, and_both}
-use Rattle.lists.proofs.Counts.{bit_le, false-any, count-ext}
+use Rattle.lists.proofs.Bools.{either, not_true, true_not_false, and_both}
+use Rattle.lists.proofs.Counts.{bit_le, false_any, count_ext}
 use Rattle.patch.specs.Lay.{Edge, edge, same, Face, face}
 use Rattle.patch.specs.Shape.{has, touches}
-use Rattle.patch.proofs.Edges.{has-congr, key-same, has-which}
+use Rattle.patch.proofs.Edges.{has_congr, key_same, has_which}
 use Rattle.orders.specs.Order.{neighbours, reached, joined, fresh, fits}
-use Rattle.orders.proofs.Points.{neighbours-sym, any-cons}
+use Rattle.orders.proofs.Points.{neighbours_sym, any_cons}
 use Rattle.minima.specs.Inner.Minima.{Nodes, leaf, Outside, Renewed}
-use Rattle.minima.proofs.Trees.{nodes-same}
+use Rattle.minima.proofs.Trees.{nodes_same}
 use Rattle.corners.specs.Corners.{CornersLinked, Bound}
-use Rattle.corners.proofs.Chain.{linked-same, bound-same}
+use Rattle.corners.proofs.Chain.{linked_same, bound_same}
 use Rattle.offers.specs.Inner.Offers.{offered, Faces, Meets}
-use Rattle.offers.proofs.Walk.{offered-left, offered-kept, offered-no}
-use Rattle.regions.specs.Inner.Ordering.{reachedWordsAt, treeAt, treeEnd}
+use Rattle.offers.proofs.Walk.{offered_left, offered_kept, offered_no}
+use Rattle.regions.specs.Inner.Ordering.{reached_words_at, tree_at, tree_end}
 use Rattle.placing.specs.Inner.Placing.{lies, is_placed, opens, known, fitting, Opens, AllSidesOpened, Arounds, value, PlacedKept, Placed, Places}
-use Rattle.placing.proofs.Sides.{or-either, or_left, or_right, own-edge, own-ab, own-bc, own-ca, neighbours-which, laid-joined, old-ab, old-bc, old-ca}
+use Rattle.placing.proofs.Sides.{or_either, or_left, or_right, own_edge, own_ab, own_bc, own_ca, neighbours_which, laid_joined, old_ab, old_bc, old_ca}
 
 -- ---- one side
-flip-has : (x y : ℕ) (f : Face) → has (edge y x) f ≡ has (edge x y) f
-flip-has x y f = has-congr (edge y x) (edge x y) (key-same (edge y x) (edge x y) (record { low = omega arith; high = omega arith })) f
+flip_has : (x y : ℕ) (f : Face) → has (edge y x) f ≡ has (edge x y) f
+flip_has x y f = has_congr (edge y x) (edge x y) (key_same (edge y x) (edge x y) (record { low = omega arith; high = omega arith })) f
 
 module _ (n faces x y : ℕ) (w : List ℕ) where
   pub open_none : (new : Bool) → new ≡ false → Opens n faces x y new true w w
@@ -37,36 +37,36 @@ module _ (n faces x y : ℕ) (w : List ℕ) where
     nodes = λ h. h;
     outside = λ k s. refl;
     side = λ corner at linked held apart. record {
-      leaves = λ g l. sym (ap (λ (b : Bool). offered (b && has (edge x y) (at g)) faces g (leaf (treeAt n) faces w g)) e ∙ offered-no faces g
-          (leaf (treeAt n) faces w g));
-      few = λ _ h. absurd (true-not-false h e);
-      crowd = λ h. absurd (true-not-false refl h);
+      leaves = λ g l. sym (ap (λ (b : Bool). offered (b && has (edge x y) (at g)) faces g (leaf (tree_at n) faces w g)) e ∙ offered_no faces g
+          (leaf (tree_at n) faces w g));
+      few = λ _ h. absurd (true_not_false h e);
+      crowd = λ h. absurd (true_not_false refl h);
     };
   }
 
-  pub open-met : (u : List ℕ) (m : ℕ) (new : Bool) → new ≡ true → Meets n faces x y m w u → Opens n faces x y new (leb m 2) w u
-  open-met u m new e meets = record {
+  pub open_met : (u : List ℕ) (m : ℕ) (new : Bool) → new ≡ true → Meets n faces x y m w u → Opens n faces x y new (leb m 2) w u
+  open_met u m new e meets = record {
     nodes = meets.nodes;
     outside = meets.outside;
     side = λ corner at linked held apart.
         let h = meets.meets corner at linked held apart in
         record {
-          leaves = λ g l. h.leaves g l ∙ sym (ap (λ (b : Bool). offered (b && has (edge x y) (at g)) faces g (leaf (treeAt n) faces w g)) e);
+          leaves = λ g l. h.leaves g l ∙ sym (ap (λ (b : Bool). offered (b && has (edge x y) (at g)) faces g (leaf (tree_at n) faces w g)) e);
           few = λ t _. let a = leb-true m 2 t in let b = h.met in omega arith;
           crowd = λ t. let a = leb-false m 2 t in let b = h.met in omega arith;
         };
   }
 
-  pub open-flip : (u : List ℕ) (new r : Bool) → Opens n faces y x new r w u → Opens n faces x y new r w u
-  open-flip u new r o = record {
+  pub open_flip : (u : List ℕ) (new r : Bool) → Opens n faces y x new r w u → Opens n faces x y new r w u
+  open_flip u new r o = record {
     nodes = o.nodes;
     outside = o.outside;
     side = λ corner at linked held apart.
         let h = o.side corner at linked held (λ (q : y ≡ x). apart (sym q)) in
         let many : lies faces at (edge y x)
-        ≡ lies faces at (edge x y) = count-ext (λ g. has (edge y x) (at g)) (λ g. has (edge x y) (at g)) (λ g. flip-has x y (at g)) (up_from 0 faces) in
+        ≡ lies faces at (edge x y) = count_ext (λ g. has (edge y x) (at g)) (λ g. has (edge x y) (at g)) (λ g. flip_has x y (at g)) (up_from 0 faces) in
         record {
-          leaves = λ g l. h.leaves g l ∙ ap (λ (b : Bool). offered (new && b) faces g (leaf (treeAt n) faces w g)) (flip-has x y (at g));
+          leaves = λ g l. h.leaves g l ∙ ap (λ (b : Bool). offered (new && b) faces g (leaf (tree_at n) faces w g)) (flip_has x y (at g));
           few = λ t s. let a = h.few t s in omega arith;
           crowd = λ t. let a = h.crowd t in omega arith;
         };
@@ -77,134 +77,134 @@ module _ (n faces x y : ℕ) (w : List ℕ) where
 
 -- ---- three sides
 -- the words in front of the tree
-pub front_same : (n faces : ℕ) (v w : List ℕ) → Outside (treeAt n) faces v w → (k : ℕ) → k < 7 * n → get_or w k 0 ≡ get_or v k 0
+pub front_same : (n faces : ℕ) (v w : List ℕ) → Outside (tree_at n) faces v w → (k : ℕ) → k < 7 * n → get_or w k 0 ≡ get_or v k 0
 front_same n faces v w o k l = o k (inl (omega arith))
 
 module _ (n faces a b c : ℕ) (ab bc ca : Bool) (few : faces ≤ n) (w u : List ℕ) where
-  pub around-first : Opens n faces a b ab false w u → Arounds n faces a b c ab bc ca false w u
-  around-first o = record {
+  pub around_first : Opens n faces a b ab false w u → Arounds n faces a b c ab bc ca false w u
+  around_first o = record {
     nodes = o.nodes;
     outside = o.outside;
     sides = λ corner at linked held p q r.
         let h = o.side corner at linked held p in
         record {
-          leaves = λ t. absurd (true-not-false t refl);
-          few-ab = λ t. absurd (true-not-false t refl);
-          few-bc = λ t. absurd (true-not-false t refl);
-          few-ca = λ t. absurd (true-not-false t refl);
+          leaves = λ t. absurd (true_not_false t refl);
+          few_ab = λ t. absurd (true_not_false t refl);
+          few_bc = λ t. absurd (true_not_false t refl);
+          few_ca = λ t. absurd (true_not_false t refl);
           crowd = λ _. (edge a b, h.crowd refl);
         };
   }
 
   module _ (v : List ℕ) (one : Opens n faces a b ab true w u) where
     keep : (corner : ℕ → ℕ) → CornersLinked n (3 * faces) corner w → CornersLinked n (3 * faces) corner u
-    keep corner = linked-same n (3 * faces) (omega arith) w u (front_same n faces w u one.outside) corner
+    keep corner = linked_same n (3 * faces) (omega arith) w u (front_same n faces w u one.outside) corner
 
-    pub around-second : Opens n faces b c bc false u v → Arounds n faces a b c ab bc ca false w v
-    around-second o = record {
+    pub around_second : Opens n faces b c bc false u v → Arounds n faces a b c ab bc ca false w v
+    around_second o = record {
       nodes = λ h. o.nodes (one.nodes h);
       outside = λ k s. o.outside k s ∙ one.outside k s;
       sides = λ corner at linked held p q r.
           let h = o.side corner at (keep corner linked) held q in
           record {
-            leaves = λ t. absurd (true-not-false t refl);
-            few-ab = λ t. absurd (true-not-false t refl);
-            few-bc = λ t. absurd (true-not-false t refl);
-            few-ca = λ t. absurd (true-not-false t refl);
+            leaves = λ t. absurd (true_not_false t refl);
+            few_ab = λ t. absurd (true_not_false t refl);
+            few_bc = λ t. absurd (true_not_false t refl);
+            few_ca = λ t. absurd (true_not_false t refl);
             crowd = λ _. (edge b c, h.crowd refl);
           };
     }
 
-    pub around-third : (z : List ℕ) (r : Bool) → Opens n faces b c bc true u v → Opens n faces c a ca r v z → Arounds n faces a b c ab bc ca r w z
-    around-third z r two o = record {
+    pub around_third : (z : List ℕ) (r : Bool) → Opens n faces b c bc true u v → Opens n faces c a ca r v z → Arounds n faces a b c ab bc ca r w z
+    around_third z r two o = record {
       nodes = λ h. o.nodes (two.nodes (one.nodes h));
       outside = λ k s. o.outside k s ∙ two.outside k s ∙ one.outside k s;
       sides = λ corner at linked held p q s.
           let x = one.side corner at linked held p in
           let y = two.side corner at (keep corner linked) held q in
-          let h = o.side corner at (linked-same n (3 * faces) (omega arith) u v (front_same n faces u v two.outside) corner (keep corner linked)) held s in
+          let h = o.side corner at (linked_same n (3 * faces) (omega arith) u v (front_same n faces u v two.outside) corner (keep corner linked)) held s in
           record {
             leaves = λ t g l.
                 h.leaves g l
                 ∙ ap (offered (ca && has (edge c a) (at g)) faces g) (y.leaves g l ∙ ap (offered (bc && has (edge b c) (at g)) faces g) (x.leaves g l));
-            few-ab = λ t e. x.few refl e;
-            few-bc = λ t e. y.few refl e;
-            few-ca = λ t e. h.few t e;
+            few_ab = λ t e. x.few refl e;
+            few_bc = λ t e. y.few refl e;
+            few_ca = λ t e. h.few t e;
             crowd = λ t. (edge c a, h.crowd t);
           };
     }
 
 -- ---- whether it fits
-pub fitting-fits : (p q r s : Bool) → fitting (bit p + bit q + bit r) s
+pub fitting_fits : (p q r s : Bool) → fitting (bit p + bit q + bit r) s
     ≡ (eqb (bit (not p) + (bit (not q) + (bit (not r) + 0))) 3 || (s && eqb (bit (not p) + (bit (not q) + (bit (not r) + 0))) 1))
 unfolding fitting
-fitting-fits true true true true = refl
-fitting-fits true true true false = refl
-fitting-fits true true false true = refl
-fitting-fits true true false false = refl
-fitting-fits true false true true = refl
-fitting-fits true false true false = refl
-fitting-fits true false false true = refl
-fitting-fits true false false false = refl
-fitting-fits false true true true = refl
-fitting-fits false true true false = refl
-fitting-fits false true false true = refl
-fitting-fits false true false false = refl
-fitting-fits false false true true = refl
-fitting-fits false false true false = refl
-fitting-fits false false false true = refl
-fitting-fits false false false false = refl
+fitting_fits true true true true = refl
+fitting_fits true true true false = refl
+fitting_fits true true false true = refl
+fitting_fits true true false false = refl
+fitting_fits true false true true = refl
+fitting_fits true false true false = refl
+fitting_fits true false false true = refl
+fitting_fits true false false false = refl
+fitting_fits false true true true = refl
+fitting_fits false true true false = refl
+fitting_fits false true false true = refl
+fitting_fits false true false false = refl
+fitting_fits false false true true = refl
+fitting_fits false false true false = refl
+fitting_fits false false false true = refl
+fitting_fits false false false false = refl
 
-known-bit : (b : Bool) → known (bit b) ≡ bit b
+known_bit : (b : Bool) → known (bit b) ≡ bit b
 unfolding known
-known-bit true = refl
-known-bit false = refl
+known_bit true = refl
+known_bit false = refl
 
-opens-bits : (p q : Bool) → opens (bit p) (bit q) ≡ not (p && q)
-opens-bits true true = refl
-opens-bits true false = refl
-opens-bits false true = refl
-opens-bits false false = refl
+opens_bits : (p q : Bool) → opens (bit p) (bit q) ≡ not (p && q)
+opens_bits true true = refl
+opens_bits true false = refl
+opens_bits false true = refl
+opens_bits false false = refl
 
 -- ---- values
 module _ (at : ℕ → Face) (faces : ℕ) (placed : List ℕ) (g : ℕ) where
-  pub value-placed : any (eqb g) placed ≡ true → value at faces placed g ≡ 2 * faces
+  pub value_placed : any (eqb g) placed ≡ true → value at faces placed g ≡ 2 * faces
   unfolding value
-  value-placed h = rw (h, value)
+  value_placed h = rw (h, value)
 
-  pub value-joined : any (eqb g) placed ≡ false → joined at placed g ≡ true → value at faces placed g ≡ g
+  pub value_joined : any (eqb g) placed ≡ false → joined at placed g ≡ true → value at faces placed g ≡ g
   unfolding value
-  value-joined h k = rw (h, k, value)
+  value_joined h k = rw (h, k, value)
 
-  pub value-left : any (eqb g) placed ≡ false → joined at placed g ≡ false → value at faces placed g ≡ faces + g
+  pub value_left : any (eqb g) placed ≡ false → joined at placed g ≡ false → value at faces placed g ≡ faces + g
   unfolding value
-  value-left h k = rw (h, k, value)
+  value_left h k = rw (h, k, value)
 
 module _ (faces g : ℕ) (some : 1 ≤ faces) where
   kept_any : (t : Bool) (v : ℕ) → v ≢ faces + g → offered t faces g v ≡ v
-  kept_any true v h = offered-kept faces g v h
-  kept_any false v h = offered-no faces g v
+  kept_any true v h = offered_kept faces g v h
+  kept_any false v h = offered_no faces g v
 
-  kept-three : (p q r : Bool) (v : ℕ) → v ≢ faces + g → offered r faces g (offered q faces g (offered p faces g v)) ≡ v
-  kept-three p q r v h = ap (offered r faces g) (ap (offered q faces g) (kept_any p v h) ∙ kept_any q v h) ∙ kept_any r v h
+  kept_three : (p q r : Bool) (v : ℕ) → v ≢ faces + g → offered r faces g (offered q faces g (offered p faces g v)) ≡ v
+  kept_three p q r v h = ap (offered r faces g) (ap (offered q faces g) (kept_any p v h) ∙ kept_any q v h) ∙ kept_any r v h
 
   self : g ≢ faces + g
   self e = omega arith
 
-  some-three : (p q r : Bool) → (p || (q || r)) ≡ true → offered r faces g (offered q faces g (offered p faces g (faces + g))) ≡ g
-  some-three true q r h = ap (offered r faces g) (ap (offered q faces g) (offered-left faces g (faces + g) refl) ∙ kept_any q g self) ∙ kept_any r g self
-  some-three false true r h = ap (offered r faces g)
-      (ap (offered true faces g) (offered-no faces g (faces + g)) ∙ offered-left faces g (faces + g) refl) ∙ kept_any r g self
-  some-three false false r h =
-      ap (offered r faces g) (ap (offered false faces g) (offered-no faces g (faces + g)) ∙ offered-no faces g (faces + g))
-      ∙ ap (λ (b : Bool). offered b faces g (faces + g)) h ∙ offered-left faces g (faces + g) refl
+  some_three : (p q r : Bool) → (p || (q || r)) ≡ true → offered r faces g (offered q faces g (offered p faces g (faces + g))) ≡ g
+  some_three true q r h = ap (offered r faces g) (ap (offered q faces g) (offered_left faces g (faces + g) refl) ∙ kept_any q g self) ∙ kept_any r g self
+  some_three false true r h = ap (offered r faces g)
+      (ap (offered true faces g) (offered_no faces g (faces + g)) ∙ offered_left faces g (faces + g) refl) ∙ kept_any r g self
+  some_three false false r h =
+      ap (offered r faces g) (ap (offered false faces g) (offered_no faces g (faces + g)) ∙ offered_no faces g (faces + g))
+      ∙ ap (λ (b : Bool). offered b faces g (faces + g)) h ∙ offered_left faces g (faces + g) refl
 
-  none-three : (p q r : Bool) → (p || (q || r)) ≡ false → offered r faces g (offered q faces g (offered p faces g (faces + g))) ≡ faces + g
-  none-three true q r h = absurd (true-not-false refl h)
-  none-three false true r h = absurd (true-not-false refl h)
-  none-three false false r h =
-      ap (offered r faces g) (ap (offered false faces g) (offered-no faces g (faces + g)) ∙ offered-no faces g (faces + g))
-      ∙ ap (λ (b : Bool). offered b faces g (faces + g)) h ∙ offered-no faces g (faces + g)
+  none_three : (p q r : Bool) → (p || (q || r)) ≡ false → offered r faces g (offered q faces g (offered p faces g (faces + g))) ≡ faces + g
+  none_three true q r h = absurd (true_not_false refl h)
+  none_three false true r h = absurd (true_not_false refl h)
+  none_three false false r h =
+      ap (offered r faces g) (ap (offered false faces g) (offered_no faces g (faces + g)) ∙ offered_no faces g (faces + g))
+      ∙ ap (λ (b : Bool). offered b faces g (faces + g)) h ∙ offered_no faces g (faces + g)
 
 -- ---- flags
 flag : (base : ℕ) (u : List ℕ) (p x : ℕ) (before : Bool) → base + p < length u → get_or u (base + x) 0 ≡ bit before → get_or (set u (base + p) 1) (base + x) 0
@@ -228,19 +228,19 @@ turned false true false s = refl
 turned false false true s = refl
 turned false false false s = refl
 
-touches-or : (x : ℕ) (f : Face) → touches x f ≡ (eqb x f.a || (eqb x f.b || (eqb x f.c || false)))
+touches_or : (x : ℕ) (f : Face) → touches x f ≡ (eqb x f.a || (eqb x f.b || (eqb x f.c || false)))
 unfolding touches
-touches-or x f =
-    any-cons (eqb x) f.a (f.b ∷ f.c ∷ [])
+touches_or x f =
+    any_cons (eqb x) f.a (f.b ∷ f.c ∷ [])
     ∙ ap (λ (b : Bool). eqb x f.a || b)
-    (any-cons (eqb x) f.b (f.c ∷ []) ∙ ap (λ (b : Bool). eqb x f.b || b)
-    (any-cons (eqb x) f.c [] ∙ ap (λ (b : Bool). eqb x f.c || b) (false-any (eqb x) [] refl)))
+    (any_cons (eqb x) f.b (f.c ∷ []) ∙ ap (λ (b : Bool). eqb x f.b || b)
+    (any_cons (eqb x) f.c [] ∙ ap (λ (b : Bool). eqb x f.c || b) (false_any (eqb x) [] refl)))
 
 -- the flags of a face's points set
-three-used : (base : ℕ) (u : List ℕ) (f : Face) (x : ℕ) (before : Bool) → base + f.a < length u → base + f.b < length u → base + f.c < length u
+three_used : (base : ℕ) (u : List ℕ) (f : Face) (x : ℕ) (before : Bool) → base + f.a < length u → base + f.b < length u → base + f.c < length u
     → get_or u (base + x) 0 ≡ bit before
     → get_or (set (set (set u (base + f.a) 1) (base + f.b) 1) (base + f.c) 1) (base + x) 0 ≡ bit (touches x f || before)
-three-used base u f x before la lb lc h =
+three_used base u f x before la lb lc h =
     let u1 = set u (base + f.a) 1 in
     let u2 = set u1 (base + f.b) 1 in
     let l1 = length-set u (base + f.a) 1 in
@@ -248,12 +248,12 @@ three-used base u f x before la lb lc h =
     let one = flag base u f.a x before la h in
     let two = flag base u1 f.b x (eqb x f.a || before) (omega arith) one in
     let three = flag base u2 f.c x (eqb x f.b || (eqb x f.a || before)) (omega arith) two in
-    three ∙ ap bit (turned (eqb x f.a) (eqb x f.b) (eqb x f.c) before ∙ ap (λ (b : Bool). b || before) (sym (touches-or x f)))
+    three ∙ ap bit (turned (eqb x f.a) (eqb x f.b) (eqb x f.c) before ∙ ap (λ (b : Bool). b || before) (sym (touches_or x f)))
 
 -- no word but those flags has changed
-three-else : (base : ℕ) (u : List ℕ) (f : Face) (k : ℕ) → k ≢ base + f.a → k ≢ base + f.b → k ≢ base + f.c
+three_else : (base : ℕ) (u : List ℕ) (f : Face) (k : ℕ) → k ≢ base + f.a → k ≢ base + f.b → k ≢ base + f.c
     → get_or (set (set (set u (base + f.a) 1) (base + f.b) 1) (base + f.c) 1) k 0 ≡ get_or u k 0
-three-else base u f k a b c =
+three_else base u f k a b c =
     get_or-set_other (set (set u (base + f.a) 1) (base + f.b) 1) (base + f.c) k 1 0 c
     ∙ get_or-set_other (set u (base + f.a) 1) (base + f.b) k 1 0 b
     ∙ get_or-set_other u (base + f.a) k 1 0 a
@@ -271,47 +271,47 @@ module _ (n faces i : ℕ) (corner : ℕ → ℕ) (at : ℕ → Face) (placed : 
   rc = reached at placed (at i).c
 
   module _ (w u z : List ℕ) (held : Faces faces corner at) (kept : PlacedKept n faces corner at placed w) (fit : fits at placed i ≡ true)
-      (renewed : Renewed (treeAt n) faces i (2 * faces) w u) (long : treeEnd n ≤ length u) where
+      (renewed : Renewed (tree_at n) faces i (2 * faces) w u) (long : tree_end n ≤ length u) where
     abbrev v : List ℕ
-    v = set (set (set u (reachedWordsAt n + (at i).a) 1) (reachedWordsAt n + (at i).b) 1) (reachedWordsAt n + (at i).c) 1
+    v = set (set (set u (reached_words_at n + (at i).a) 1) (reached_words_at n + (at i).b) 1) (reached_words_at n + (at i).c) 1
 
-    beside : (k : ℕ) → (k < reachedWordsAt n) ⊎ (treeAt n ≤ k) → get_or v k 0 ≡ get_or u k 0
+    beside : (k : ℕ) → (k < reached_words_at n) ⊎ (tree_at n ≤ k) → get_or v k 0 ≡ get_or u k 0
     beside k s =
         let p = points in
         ⊎_elim
-        (λ (l : k < reachedWordsAt n). three-else (reachedWordsAt n) u (at i) k (λ (q : k ≡ reachedWordsAt n + (at i).a). omega arith)
-        (λ (q : k ≡ reachedWordsAt n + (at i).b). omega arith) (λ (q : k ≡ reachedWordsAt n + (at i).c). omega arith))
-        (λ (l : treeAt n ≤ k). three-else (reachedWordsAt n) u (at i) k (λ (q : k ≡ reachedWordsAt n + (at i).a). omega (arith, p.0))
-        (λ (q : k ≡ reachedWordsAt n + (at i).b). omega (arith, p.1)) (λ (q : k ≡ reachedWordsAt n + (at i).c). omega (arith, p.2)))
+        (λ (l : k < reached_words_at n). three_else (reached_words_at n) u (at i) k (λ (q : k ≡ reached_words_at n + (at i).a). omega arith)
+        (λ (q : k ≡ reached_words_at n + (at i).b). omega arith) (λ (q : k ≡ reached_words_at n + (at i).c). omega arith))
+        (λ (l : tree_at n ≤ k). three_else (reached_words_at n) u (at i) k (λ (q : k ≡ reached_words_at n + (at i).a). omega (arith, p.0))
+        (λ (q : k ≡ reached_words_at n + (at i).b). omega (arith, p.1)) (λ (q : k ≡ reached_words_at n + (at i).c). omega (arith, p.2)))
         s
 
-    pub linked-v : CornersLinked n (3 * faces) corner v
-    linked-v = linked-same n (3 * faces) (omega arith) w v (λ k l. beside k (inl l) ∙ renewed.outside k (inl (omega arith))) corner kept.linked
+    pub linked_v : CornersLinked n (3 * faces) corner v
+    linked_v = linked_same n (3 * faces) (omega arith) w v (λ k l. beside k (inl l) ∙ renewed.outside k (inl (omega arith))) corner kept.linked
 
     module _ (around : Arounds n faces (at i).a (at i).b (at i).c (not (ra && rb)) (not (rb && rc)) (not (rc && ra)) true v z) where
-      linked-z : CornersLinked n (3 * faces) corner z
-      linked-z = linked-same n (3 * faces) (omega arith) v z (front_same n faces v z around.outside) corner linked-v
+      linked_z : CornersLinked n (3 * faces) corner z
+      linked_z = linked_same n (3 * faces) (omega arith) v z (front_same n faces v z around.outside) corner linked_v
 
       sides : AllSidesOpened n faces (at i).a (at i).b (at i).c (not (ra && rb)) (not (rb && rc)) (not (rc && ra)) true at v z
-      sides = let d = held.different i below in around.sides corner at linked-v held d.0 d.1 d.2
+      sides = let d = held.different i below in around.sides corner at linked_v held d.0 d.1 d.2
 
-      used-z : (x : ℕ) → x < n → get_or z (reachedWordsAt n + x) 0 ≡ bit (reached at (i ∷ placed) x)
+      used_z : (x : ℕ) → x < n → get_or z (reached_words_at n + x) 0 ≡ bit (reached at (i ∷ placed) x)
       unfolding reached
-      used-z x l =
+      used_z x l =
           let p = points in
-          around.outside (reachedWordsAt n + x) (inl (omega arith))
-          ∙ three-used (reachedWordsAt n) u (at i) x (reached at placed x) (omega (arith, p.0)) (omega (arith, p.1)) (omega (arith, p.2))
-          (renewed.outside (reachedWordsAt n + x) (inl (omega arith)) ∙ kept.used x l)
-          ∙ ap bit (sym (any-cons (λ j. touches x (at j)) i placed))
+          around.outside (reached_words_at n + x) (inl (omega arith))
+          ∙ three_used (reached_words_at n) u (at i) x (reached at placed x) (omega (arith, p.0)) (omega (arith, p.1)) (omega (arith, p.2))
+          (renewed.outside (reached_words_at n + x) (inl (omega arith)) ∙ kept.used x l)
+          ∙ ap bit (sym (any_cons (λ j. touches x (at j)) i placed))
 
-      nodes-z : Nodes (treeAt n) faces z
-      nodes-z = around.nodes (nodes-same (treeAt n) faces v u (λ k l. beside k (inr l)) (renewed.nodes kept.nodes))
+      nodes_z : Nodes (tree_at n) faces z
+      nodes_z = around.nodes (nodes_same (tree_at n) faces v u (λ k l. beside k (inr l)) (renewed.nodes kept.nodes))
 
       -- an edge of the face: new, or laid before
       closed : (p q : Bool) → not (p && q) ≡ false → (p ≡ true) × (q ≡ true)
       closed true true h = (refl, refl)
-      closed true false h = absurd (true-not-false refl h)
-      closed false q h = absurd (true-not-false refl h)
+      closed true false h = absurd (true_not_false refl h)
+      closed false q h = absurd (true_not_false refl h)
 
       abbrev eab : Edge
       eab = edge (at i).a (at i).b
@@ -322,38 +322,38 @@ module _ (n faces i : ℕ) (corner : ℕ → ℕ) (at : ℕ → Face) (placed : 
       abbrev eca : Edge
       eca = edge (at i).c (at i).a
 
-      old-1 : not (ra && rb) ≡ false → is_placed at placed eab ≡ true
-      old-1 h = let s = closed ra rb h in old-ab at placed i fit s.0 s.1
+      old_1 : not (ra && rb) ≡ false → is_placed at placed eab ≡ true
+      old_1 h = let s = closed ra rb h in old_ab at placed i fit s.0 s.1
 
-      old-2 : not (rb && rc) ≡ false → is_placed at placed ebc ≡ true
-      old-2 h = let s = closed rb rc h in old-bc at placed i fit s.0 s.1
+      old_2 : not (rb && rc) ≡ false → is_placed at placed ebc ≡ true
+      old_2 h = let s = closed rb rc h in old_bc at placed i fit s.0 s.1
 
-      old-3 : not (rc && ra) ≡ false → is_placed at placed eca ≡ true
-      old-3 h = let s = closed rc ra h in old-ca at placed i fit s.0 s.1
+      old_3 : not (rc && ra) ≡ false → is_placed at placed eca ≡ true
+      old_3 h = let s = closed rc ra h in old_ca at placed i fit s.0 s.1
 
       -- no edge of it lies in three faces
-      few-edge : (new : Bool) (e : Edge) → (new ≡ true → lies faces at e ≤ 2) → (new ≡ false → is_placed at placed e ≡ true) → lies faces at e ≤ 2
-      few-edge true e h k = h refl
-      few-edge false e h k = kept.few e (k refl)
+      few_edge : (new : Bool) (e : Edge) → (new ≡ true → lies faces at e ≤ 2) → (new ≡ false → is_placed at placed e ≡ true) → lies faces at e ≤ 2
+      few_edge true e h k = h refl
+      few_edge false e h k = kept.few e (k refl)
 
       alike : (d e : Edge) → same e d ≡ true → lies faces at d ≤ 2 → lies faces at e ≤ 2
       alike d e h k =
-          let many : lies faces at e ≡ lies faces at d = count-ext (λ g. has e (at g)) (λ g. has d (at g)) (λ g. has-congr e d h (at g)) (up_from 0 faces) in
+          let many : lies faces at e ≡ lies faces at d = count_ext (λ g. has e (at g)) (λ g. has d (at g)) (λ g. has_congr e d h (at g)) (up_from 0 faces) in
           omega arith
 
-      few-z : (e : Edge) → is_placed at (i ∷ placed) e ≡ true → lies faces at e ≤ 2
-      few-z e h = ⊎_elim
+      few_z : (e : Edge) → is_placed at (i ∷ placed) e ≡ true → lies faces at e ≤ 2
+      few_z e h = ⊎_elim
           (λ (k : has e (at i) ≡ true). ⊎_elim
-          (λ (s : same e eab ≡ true). alike eab e s (few-edge (not (ra && rb)) eab (sides.few-ab refl) old-1))
+          (λ (s : same e eab ≡ true). alike eab e s (few_edge (not (ra && rb)) eab (sides.few_ab refl) old_1))
           (⊎_elim
-          (λ (s : same e ebc ≡ true). alike ebc e s (few-edge (not (rb && rc)) ebc (sides.few-bc refl) old-2))
-          (λ (s : same e eca ≡ true). alike eca e s (few-edge (not (rc && ra)) eca (sides.few-ca refl) old-3)))
-          (has-which e (at i) k))
+          (λ (s : same e ebc ≡ true). alike ebc e s (few_edge (not (rb && rc)) ebc (sides.few_bc refl) old_2))
+          (λ (s : same e eca ≡ true). alike eca e s (few_edge (not (rc && ra)) eca (sides.few_ca refl) old_3)))
+          (has_which e (at i) k))
           (λ (k : is_placed at placed e ≡ true). kept.few e k)
-          (or-either (has e (at i)) (is_placed at placed e) (sym (any-cons (λ j. has e (at j)) i placed) ∙ h))
+          (or_either (has e (at i)) (is_placed at placed e) (sym (any_cons (λ j. has e (at j)) i placed) ∙ h))
 
       -- which faces are offered
-      module _ (g : ℕ) (in-range : g < faces) where
+      module _ (g : ℕ) (in_range_lem : g < faces) where
         abbrev t1 : Bool
         t1 = not (ra && rb) && has eab (at g)
 
@@ -363,92 +363,92 @@ module _ (n faces i : ℕ) (corner : ℕ → ℕ) (at : ℕ → Face) (placed : 
         abbrev t3 : Bool
         t3 = not (rc && ra) && has eca (at g)
 
-        joined-more : joined at (i ∷ placed) g ≡ (neighbours (at g) (at i) || joined at placed g)
+        joined_more : joined at (i ∷ placed) g ≡ (neighbours (at g) (at i) || joined at placed g)
         unfolding joined
-        joined-more = any-cons (λ j. neighbours (at g) (at j)) i placed
+        joined_more = any_cons (λ j. neighbours (at g) (at j)) i placed
 
-        offered-joined : (t1 || (t2 || t3)) ≡ true → joined at (i ∷ placed) g ≡ true
-        offered-joined h = joined-more ∙ or_left (neighbours (at g) (at i)) (joined at placed g) (neighbours-sym (at i) (at g) shares)
+        offered_joined : (t1 || (t2 || t3)) ≡ true → joined at (i ∷ placed) g ≡ true
+        offered_joined h = joined_more ∙ or_left (neighbours (at g) (at i)) (joined at placed g) (neighbours_sym (at i) (at g) shares)
           where
             shares : neighbours (at i) (at g) ≡ true
             shares = ⊎_elim
-                (λ (s : t1 ≡ true). by-edge eab (own-ab (at i)) (and_both {p = not (ra && rb)} {q = has eab (at g)} s).1)
+                (λ (s : t1 ≡ true). by_edge eab (own_ab (at i)) (and_both {p = not (ra && rb)} {q = has eab (at g)} s).1)
                 (λ (s : (t2 || t3) ≡ true). ⊎_elim
-                (λ (q : t2 ≡ true). by-edge ebc (own-bc (at i)) (and_both {p = not (rb && rc)} {q = has ebc (at g)} q).1)
-                (λ (q : t3 ≡ true). by-edge eca (own-ca (at i)) (and_both {p = not (rc && ra)} {q = has eca (at g)} q).1)
-                (or-either t2 t3 s))
-                (or-either t1 (t2 || t3) h)
+                (λ (q : t2 ≡ true). by_edge ebc (own_bc (at i)) (and_both {p = not (rb && rc)} {q = has ebc (at g)} q).1)
+                (λ (q : t3 ≡ true). by_edge eca (own_ca (at i)) (and_both {p = not (rc && ra)} {q = has eca (at g)} q).1)
+                (or_either t2 t3 s))
+                (or_either t1 (t2 || t3) h)
               where
-                by-edge : (e : Edge) → has e (at i) ≡ true → has e (at g) ≡ true → neighbours (at i) (at g) ≡ true
-                by-edge e = own-edge e (at i) (at g)
+                by_edge : (e : Edge) → has e (at i) ≡ true → has e (at g) ≡ true → neighbours (at i) (at g) ≡ true
+                by_edge e = own_edge e (at i) (at g)
 
         covers : (new : Bool) (e : Edge) → (new ≡ false → is_placed at placed e ≡ true) → joined at placed g ≡ false → has e (at g) ≡ true
             → (new && has e (at g)) ≡ true
         covers true e h none k = k
-        covers false e h none k = absurd (true-not-false (laid-joined at placed e g (h refl) k) none)
+        covers false e h none k = absurd (true_not_false (laid_joined at placed e g (h refl) k) none)
 
-        joined-offered : joined at placed g ≡ false → joined at (i ∷ placed) g ≡ true → (t1 || (t2 || t3)) ≡ true
-        joined-offered none h = ⊎_elim
+        joined_offered : joined at placed g ≡ false → joined at (i ∷ placed) g ≡ true → (t1 || (t2 || t3)) ≡ true
+        joined_offered none h = ⊎_elim
             (λ (s : neighbours (at g) (at i) ≡ true). ⊎_elim
-            (λ (k : has eab (at g) ≡ true). or_left t1 (t2 || t3) (covers (not (ra && rb)) eab old-1 none k))
+            (λ (k : has eab (at g) ≡ true). or_left t1 (t2 || t3) (covers (not (ra && rb)) eab old_1 none k))
             (⊎_elim
-            (λ (k : has ebc (at g) ≡ true). or_right t1 (t2 || t3) (or_left t2 t3 (covers (not (rb && rc)) ebc old-2 none k)))
-            (λ (k : has eca (at g) ≡ true). or_right t1 (t2 || t3) (or_right t2 t3 (covers (not (rc && ra)) eca old-3 none k))))
-            (neighbours-which (at i) (at g) (neighbours-sym (at g) (at i) s)))
-            (λ (s : joined at placed g ≡ true). absurd (true-not-false s none))
-            (or-either (neighbours (at g) (at i)) (joined at placed g) (sym joined-more ∙ h))
+            (λ (k : has ebc (at g) ≡ true). or_right t1 (t2 || t3) (or_left t2 t3 (covers (not (rb && rc)) ebc old_2 none k)))
+            (λ (k : has eca (at g) ≡ true). or_right t1 (t2 || t3) (or_right t2 t3 (covers (not (rc && ra)) eca old_3 none k))))
+            (neighbours_which (at i) (at g) (neighbours_sym (at g) (at i) s)))
+            (λ (s : joined at placed g ≡ true). absurd (true_not_false s none))
+            (or_either (neighbours (at g) (at i)) (joined at placed g) (sym joined_more ∙ h))
 
-        leaf-v : leaf (treeAt n) faces v g ≡ leaf (treeAt n) faces u g
-        leaf-v = beside (treeAt n + faces + g) (inr (omega arith))
+        leaf_v : leaf (tree_at n) faces v g ≡ leaf (tree_at n) faces u g
+        leaf_v = beside (tree_at n + faces + g) (inr (omega arith))
 
-        leaf-z : leaf (treeAt n) faces z g ≡ offered t3 faces g (offered t2 faces g (offered t1 faces g (leaf (treeAt n) faces u g)))
-        leaf-z = sides.leaves refl g in-range ∙ ap (λ (x : ℕ). offered t3 faces g (offered t2 faces g (offered t1 faces g x))) leaf-v
+        leaf_z : leaf (tree_at n) faces z g ≡ offered t3 faces g (offered t2 faces g (offered t1 faces g (leaf (tree_at n) faces u g)))
+        leaf_z = sides.leaves refl g in_range_lem ∙ ap (λ (x : ℕ). offered t3 faces g (offered t2 faces g (offered t1 faces g x))) leaf_v
 
-        in-placed : any (eqb g) (i ∷ placed) ≡ (eqb g i || any (eqb g) placed)
-        in-placed = any-cons (eqb g) i placed
+        in_placed : any (eqb g) (i ∷ placed) ≡ (eqb g i || any (eqb g) placed)
+        in_placed = any_cons (eqb g) i placed
 
-        stays : leaf (treeAt n) faces u g ≡ 2 * faces → any (eqb g) (i ∷ placed) ≡ true → leaf (treeAt n) faces z g ≡ value at faces (i ∷ placed) g
+        stays : leaf (tree_at n) faces u g ≡ 2 * faces → any (eqb g) (i ∷ placed) ≡ true → leaf (tree_at n) faces z g ≡ value at faces (i ∷ placed) g
         stays is placed-now =
-            leaf-z ∙ ap (λ (x : ℕ). offered t3 faces g (offered t2 faces g (offered t1 faces g x))) is
-            ∙ kept-three faces g (omega arith) t1 t2 t3 (2 * faces) (λ (q : 2 * faces ≡ faces + g). omega arith)
-            ∙ sym (value-placed at faces (i ∷ placed) g placed-now)
+            leaf_z ∙ ap (λ (x : ℕ). offered t3 faces g (offered t2 faces g (offered t1 faces g x))) is
+            ∙ kept_three faces g (omega arith) t1 t2 t3 (2 * faces) (λ (q : 2 * faces ≡ faces + g). omega arith)
+            ∙ sym (value_placed at faces (i ∷ placed) g placed-now)
 
-        left-value : (g ≢ i) → any (eqb g) placed ≡ false → leaf (treeAt n) faces z g ≡ value at faces (i ∷ placed) g
-        left-value other out =
-            let before : leaf (treeAt n) faces u g ≡ value at faces placed g = renewed.others g in-range other ∙ kept.values g in-range in
-            let out-now : any (eqb g) (i ∷ placed) ≡ false = in-placed ∙ ap (λ (b : Bool). b || any (eqb g) placed) (ne_eqb g i other) ∙ out in
+        left_value : (g ≢ i) → any (eqb g) placed ≡ false → leaf (tree_at n) faces z g ≡ value at faces (i ∷ placed) g
+        left_value other out =
+            let before : leaf (tree_at n) faces u g ≡ value at faces placed g = renewed.others g in_range_lem other ∙ kept.values g in_range_lem in
+            let out-now : any (eqb g) (i ∷ placed) ≡ false = in_placed ∙ ap (λ (b : Bool). b || any (eqb g) placed) (ne_eqb g i other) ∙ out in
             ⊎_elim
             (λ (j : joined at placed g ≡ true).
-            leaf-z ∙ ap (λ (x : ℕ). offered t3 faces g (offered t2 faces g (offered t1 faces g x))) (before ∙ value-joined at faces placed g out j)
-            ∙ kept-three faces g (omega arith) t1 t2 t3 g (self faces g (omega arith))
-            ∙ sym (value-joined at faces (i ∷ placed) g out-now (joined-more ∙ or_right (neighbours (at g) (at i)) (joined at placed g) j)))
+            leaf_z ∙ ap (λ (x : ℕ). offered t3 faces g (offered t2 faces g (offered t1 faces g x))) (before ∙ value_joined at faces placed g out j)
+            ∙ kept_three faces g (omega arith) t1 t2 t3 g (self faces g (omega arith))
+            ∙ sym (value_joined at faces (i ∷ placed) g out-now (joined_more ∙ or_right (neighbours (at g) (at i)) (joined at placed g) j)))
             (λ (j : joined at placed g ≡ false).
-            leaf-z ∙ ap (λ (x : ℕ). offered t3 faces g (offered t2 faces g (offered t1 faces g x))) (before ∙ value-left at faces placed g out j)
+            leaf_z ∙ ap (λ (x : ℕ). offered t3 faces g (offered t2 faces g (offered t1 faces g x))) (before ∙ value_left at faces placed g out j)
             ∙ ⊎_elim
-            (λ (t : (t1 || (t2 || t3)) ≡ true). some-three faces g (omega arith) t1 t2 t3 t ∙ sym
-            (value-joined at faces (i ∷ placed) g out-now (offered-joined t)))
+            (λ (t : (t1 || (t2 || t3)) ≡ true). some_three faces g (omega arith) t1 t2 t3 t ∙ sym
+            (value_joined at faces (i ∷ placed) g out-now (offered_joined t)))
             (λ (t : (t1 || (t2 || t3)) ≡ false).
-            none-three faces g (omega arith) t1 t2 t3 t
-            ∙ sym (value-left at faces (i ∷ placed) g out-now (not-true (λ (h : joined at (i ∷ placed) g ≡ true). true-not-false (joined-offered j h) t))))
+            none_three faces g (omega arith) t1 t2 t3 t
+            ∙ sym (value_left at faces (i ∷ placed) g out-now (not_true (λ (h : joined at (i ∷ placed) g ≡ true). true_not_false (joined_offered j h) t))))
             (either (t1 || (t2 || t3))))
             (either (joined at placed g))
 
-        values-z : leaf (treeAt n) faces z g ≡ value at faces (i ∷ placed) g
-        values-z = ⊎_elim
+        values_z : leaf (tree_at n) faces z g ≡ value at faces (i ∷ placed) g
+        values_z = ⊎_elim
             (λ (s : eqb g i ≡ true).
             let e = eqb-true g i s in
-            stays (ap (leaf (treeAt n) faces u) e ∙ renewed.renewed) (in-placed ∙ or_left (eqb g i) (any (eqb g) placed) s))
+            stays (ap (leaf (tree_at n) faces u) e ∙ renewed.renewed) (in_placed ∙ or_left (eqb g i) (any (eqb g) placed) s))
             (λ (s : eqb g i ≡ false).
             let other = eqb-false g i s in
             ⊎_elim
-            (λ (p : any (eqb g) placed ≡ true). stays (renewed.others g in-range other ∙ kept.values g in-range ∙ value-placed at faces placed g p)
-            (in-placed ∙ or_right (eqb g i) (any (eqb g) placed) p))
-            (λ (p : any (eqb g) placed ≡ false). left-value other p)
+            (λ (p : any (eqb g) placed ≡ true). stays (renewed.others g in_range_lem other ∙ kept.values g in_range_lem ∙ value_placed at faces placed g p)
+            (in_placed ∙ or_right (eqb g i) (any (eqb g) placed) p))
+            (λ (p : any (eqb g) placed ≡ false). left_value other p)
             (either (any (eqb g) placed)))
             (either (eqb g i))
 
       pub kept_more : PlacedKept n faces corner at (i ∷ placed) z
-      kept_more = record { linked = linked-z; used = used-z; nodes = nodes-z; values = values-z; few = few-z }
+      kept_more = record { linked = linked_z; used = used_z; nodes = nodes_z; values = values_z; few = few_z }
 
 -- ---- what the words tell of a face
 module _ (n faces i : ℕ) (few : faces ≤ n) (below : i < faces) (w : List ℕ) (bound : Bound n (3 * faces) w) where
@@ -462,20 +462,20 @@ module _ (n faces i : ℕ) (few : faces ≤ n) (below : i < faces) (w : List ℕ
   c = get_or w (3 * i + 2) 0
 
   abbrev ua : ℕ
-  ua = get_or w (reachedWordsAt n + a) 0
+  ua = get_or w (reached_words_at n + a) 0
 
   abbrev ub : ℕ
-  ub = get_or w (reachedWordsAt n + b) 0
+  ub = get_or w (reached_words_at n + b) 0
 
   abbrev uc : ℕ
-  uc = get_or w (reachedWordsAt n + c) 0
+  uc = get_or w (reached_words_at n + c) 0
 
-  pub points-below : (a < n) × (b < n) × (c < n)
-  points-below = (bound.points (3 * i) (omega arith), bound.points (3 * i + 1) (omega arith), bound.points (3 * i + 2) (omega arith))
+  pub points_below : (a < n) × (b < n) × (c < n)
+  points_below = (bound.points (3 * i) (omega arith), bound.points (3 * i + 1) (omega arith), bound.points (3 * i + 2) (omega arith))
 
   module _ (corner : ℕ → ℕ) (at : ℕ → Face) (placed : List ℕ) (held : Faces faces corner at) (kept : PlacedKept n faces corner at placed w) where
-    face-is : face a b c ≡ at i
-    face-is =
+    face_is : face a b c ≡ at i
+    face_is =
         let l = kept.linked in
         let ea = l.corners (3 * i) (omega arith) in
         let eb = l.corners (3 * i + 1) (omega arith) in
@@ -483,59 +483,59 @@ module _ (n faces i : ℕ) (few : faces ≤ n) (below : i < faces) (w : List ℕ
         (λ k. face (ea k) (eb k) (ec k)) ∙ sym (held.are i below)
 
     inside : ((at i).a < n) × ((at i).b < n) × ((at i).c < n)
-    inside = subst (λ (f : Face). (f.a < n) × (f.b < n) × (f.c < n)) face-is points-below
+    inside = subst (λ (f : Face). (f.a < n) × (f.b < n) × (f.c < n)) face_is points_below
 
-    flag-of : (x y : ℕ) → x ≡ y → x < n → get_or w (reachedWordsAt n + x) 0 ≡ bit (reached at placed y)
-    flag-of x y e l = kept.used x l ∙ ap (λ (k : ℕ). bit (reached at placed k)) e
+    flag_of : (x y : ℕ) → x ≡ y → x < n → get_or w (reached_words_at n + x) 0 ≡ bit (reached at placed y)
+    flag_of x y e l = kept.used x l ∙ ap (λ (k : ℕ). bit (reached at placed k)) e
 
-    ua-is : ua ≡ bit (reached at placed (at i).a)
-    ua-is = flag-of a (at i).a (ap (λ (f : Face). f.a) face-is) points-below.0
+    ua_is : ua ≡ bit (reached at placed (at i).a)
+    ua_is = flag_of a (at i).a (ap (λ (f : Face). f.a) face_is) points_below.0
 
-    ub-is : ub ≡ bit (reached at placed (at i).b)
-    ub-is = flag-of b (at i).b (ap (λ (f : Face). f.b) face-is) points-below.1
+    ub_is : ub ≡ bit (reached at placed (at i).b)
+    ub_is = flag_of b (at i).b (ap (λ (f : Face). f.b) face_is) points_below.1
 
-    uc-is : uc ≡ bit (reached at placed (at i).c)
-    uc-is = flag-of c (at i).c (ap (λ (f : Face). f.c) face-is) points-below.2
+    uc_is : uc ≡ bit (reached at placed (at i).c)
+    uc_is = flag_of c (at i).c (ap (λ (f : Face). f.c) face_is) points_below.2
 
-    fits-is : (shared : Bool) → shared ≡ joined at placed i → fitting (known ua + known ub + known uc) shared ≡ fits at placed i
+    fits_is : (shared : Bool) → shared ≡ joined at placed i → fitting (known ua + known ub + known uc) shared ≡ fits at placed i
     unfolding fits fresh
-    fits-is shared s =
-        let ka = ap known ua-is ∙ known-bit (reached at placed (at i).a) in
-        let kb = ap known ub-is ∙ known-bit (reached at placed (at i).b) in
-        let kc = ap known uc-is ∙ known-bit (reached at placed (at i).c) in
+    fits_is shared s =
+        let ka = ap known ua_is ∙ known_bit (reached at placed (at i).a) in
+        let kb = ap known ub_is ∙ known_bit (reached at placed (at i).b) in
+        let kc = ap known uc_is ∙ known_bit (reached at placed (at i).c) in
         (λ k. fitting (ka k + kb k + kc k) (s k))
-        ∙ fitting-fits (reached at placed (at i).a) (reached at placed (at i).b) (reached at placed (at i).c) (joined at placed i)
+        ∙ fitting_fits (reached at placed (at i).a) (reached at placed (at i).b) (reached at placed (at i).c) (joined at placed i)
 
-    opens-is : (x y : ℕ) (p q : Bool) → x ≡ bit p → y ≡ bit q → opens x y ≡ not (p && q)
-    opens-is x y p q e f = (λ k. opens (e k) (f k)) ∙ opens-bits p q
+    opens_is : (x y : ℕ) (p q : Bool) → x ≡ bit p → y ≡ bit q → opens x y ≡ not (p && q)
+    opens_is x y p q e f = (λ k. opens (e k) (f k)) ∙ opens_bits p q
 
   -- with its points reached no head or link has changed
-  pub marked-bound : (u m : List ℕ) → Renewed (treeAt n) faces i (2 * faces) w u → m
-      ≡ set (set (set u (reachedWordsAt n + a) 1) (reachedWordsAt n + b) 1) (reachedWordsAt n + c) 1 → Bound n (3 * faces) m
-  marked-bound u m r is =
-      bound-same n (3 * faces) (omega arith) w m
+  pub marked_bound : (u m : List ℕ) → Renewed (tree_at n) faces i (2 * faces) w u → m
+      ≡ set (set (set u (reached_words_at n + a) 1) (reached_words_at n + b) 1) (reached_words_at n + c) 1 → Bound n (3 * faces) m
+  marked_bound u m r is =
+      bound_same n (3 * faces) (omega arith) w m
       (λ k l.
       ap (λ (z : List ℕ). get_or z k 0) is
-      ∙ three-else (reachedWordsAt n) u (face a b c) k (λ (q : k ≡ reachedWordsAt n + a). omega arith) (λ (q : k ≡ reachedWordsAt n + b). omega arith)
-      (λ (q : k ≡ reachedWordsAt n + c). omega arith)
+      ∙ three_else (reached_words_at n) u (face a b c) k (λ (q : k ≡ reached_words_at n + a). omega arith) (λ (q : k ≡ reached_words_at n + b). omega arith)
+      (λ (q : k ≡ reached_words_at n + c). omega arith)
       ∙ r.outside k (inl (omega arith)))
       bound
 
   module _ (shared : Bool) where
-    pub place-unfit : fitting (known ua + known ub + known uc) shared ≡ false → Places n faces i shared false w w
-    place-unfit h = record {
+    pub place_unfit : fitting (known ua + known ub + known uc) shared ≡ false → Places n faces i shared false w w
+    place_unfit h = record {
       outside = λ k s. refl;
       places = λ corner at placed held kept s. record {
-        kept = λ t. absurd (true-not-false t refl);
-        fit = λ t. absurd (true-not-false t refl);
-        unfit = λ _. inl (sym (fits-is corner at placed held kept shared s) ∙ h);
+        kept = λ t. absurd (true_not_false t refl);
+        fit = λ t. absurd (true_not_false t refl);
+        unfit = λ _. inl (sym (fits_is corner at placed held kept shared s) ∙ h);
       };
     }
 
-    module _ (u z : List ℕ) (r : Bool) (fitted : fitting (known ua + known ub + known uc) shared ≡ true) (renewed : Renewed (treeAt n) faces i (2 * faces) w u)
-        (long : treeEnd n ≤ length u) where
+    module _ (u z : List ℕ) (r : Bool) (fitted : fitting (known ua + known ub + known uc) shared ≡ true) (renewed : Renewed (tree_at n) faces i (2 * faces) w u)
+        (long : tree_end n ≤ length u) where
       abbrev marked : Face → List ℕ
-      marked f = set (set (set u (reachedWordsAt n + f.a) 1) (reachedWordsAt n + f.b) 1) (reachedWordsAt n + f.c) 1
+      marked f = set (set (set u (reached_words_at n + f.a) 1) (reached_words_at n + f.b) 1) (reached_words_at n + f.c) 1
 
       module _ (m : List ℕ) (is : m ≡ marked (face a b c)) (around-m : Arounds n faces a b c (opens ua ub) (opens ub uc) (opens uc ua) r m z) where
         around : Arounds n faces a b c (opens ua ub) (opens ub uc) (opens uc ua) r (marked (face a b c)) z
@@ -545,72 +545,72 @@ module _ (n faces i : ℕ) (few : faces ≤ n) (below : i < faces) (w : List ℕ
           abbrev R : ℕ → Bool
           R x = reached at placed x
 
-          around-at : Arounds n faces (at i).a (at i).b (at i).c (not (R (at i).a && R (at i).b)) (not (R (at i).b && R (at i).c))
+          around_at : Arounds n faces (at i).a (at i).b (at i).c (not (R (at i).a && R (at i).b)) (not (R (at i).b && R (at i).c))
               (not (R (at i).c && R (at i).a)) r (marked (at i)) z
-          around-at =
-              let f = face-is corner at placed held kept in
-              let pa = ua-is corner at placed held kept in
-              let pb = ub-is corner at placed held kept in
-              let pc = uc-is corner at placed held kept in
-              let e1 = opens-is corner at placed held kept ua ub (R (at i).a) (R (at i).b) pa pb in
-              let e2 = opens-is corner at placed held kept ub uc (R (at i).b) (R (at i).c) pb pc in
-              let e3 = opens-is corner at placed held kept uc ua (R (at i).c) (R (at i).a) pc pa in
+          around_at =
+              let f = face_is corner at placed held kept in
+              let pa = ua_is corner at placed held kept in
+              let pb = ub_is corner at placed held kept in
+              let pc = uc_is corner at placed held kept in
+              let e1 = opens_is corner at placed held kept ua ub (R (at i).a) (R (at i).b) pa pb in
+              let e2 = opens_is corner at placed held kept ub uc (R (at i).b) (R (at i).c) pb pc in
+              let e3 = opens_is corner at placed held kept uc ua (R (at i).c) (R (at i).a) pc pa in
               transport (λ k. Arounds n faces (f k).a (f k).b (f k).c (e1 k) (e2 k) (e3 k) r (marked (f k)) z) around
 
           fit_at : (shared ≡ joined at placed i) → fits at placed i ≡ true
-          fit_at s = sym (fits-is corner at placed held kept shared s) ∙ fitted
+          fit_at s = sym (fits_is corner at placed held kept shared s) ∙ fitted
 
           placed_at : (shared ≡ joined at placed i) → Placed n faces i r corner at placed z
           placed_at s = record {
             kept = λ t. kept_more n faces i corner at placed few below (inside corner at placed held kept) w u z held kept (fit_at s) renewed long
                 (subst (λ (q : Bool). Arounds n faces (at i).a (at i).b (at i).c (not (R (at i).a && R (at i).b)) (not (R (at i).b && R (at i).c))
-                (not (R (at i).c && R (at i).a)) q (marked (at i)) z) t around-at);
+                (not (R (at i).c && R (at i).a)) q (marked (at i)) z) t around_at);
             fit = λ _. fit_at s;
             unfit = λ t.
                 let d = held.different i below in
-                let l = linked-v n faces i corner at placed few below (inside corner at placed held kept) w u z held kept (fit_at s) renewed long in
-                inr ((around-at.sides corner at l held d.0 d.1 d.2).crowd t);
+                let l = linked_v n faces i corner at placed few below (inside corner at placed held kept) w u z held kept (fit_at s) renewed long in
+                inr ((around_at.sides corner at l held d.0 d.1 d.2).crowd t);
           }
 
-        pub place-done : Places n faces i shared r w z
-        place-done = record {
+        pub place_done : Places n faces i shared r w z
+        place_done = record {
           outside = λ k s.
-              let p = points-below in
-              let m = marked-else k s in
+              let p = points_below in
+              let m = marked_else k s in
               ⊎_elim
-              (λ (l : k < reachedWordsAt n). around.outside k (inl (omega arith)) ∙ m ∙ renewed.outside k (inl (omega arith)))
-              (λ (l : treeEnd n ≤ k). around.outside k (inr (omega arith)) ∙ m ∙ renewed.outside k (inr (omega arith)))
+              (λ (l : k < reached_words_at n). around.outside k (inl (omega arith)) ∙ m ∙ renewed.outside k (inl (omega arith)))
+              (λ (l : tree_end n ≤ k). around.outside k (inr (omega arith)) ∙ m ∙ renewed.outside k (inr (omega arith)))
               s;
           places = λ corner at placed held kept s. placed_at corner at placed held kept s;
         }
           where
-            marked-else : (k : ℕ) → (k < reachedWordsAt n) ⊎ (treeEnd n ≤ k) → get_or (marked (face a b c)) k 0 ≡ get_or u k 0
-            marked-else k s =
-                let p = points-below in
+            marked_else : (k : ℕ) → (k < reached_words_at n) ⊎ (tree_end n ≤ k) → get_or (marked (face a b c)) k 0 ≡ get_or u k 0
+            marked_else k s =
+                let p = points_below in
                 ⊎_elim
-                (λ (l : k < reachedWordsAt n). three-else (reachedWordsAt n) u (face a b c) k (λ (q : k ≡ reachedWordsAt n + a). omega arith)
-                (λ (q : k ≡ reachedWordsAt n + b). omega arith) (λ (q : k ≡ reachedWordsAt n + c). omega arith))
-                (λ (l : treeEnd n ≤ k). three-else (reachedWordsAt n) u (face a b c) k (λ (q : k ≡ reachedWordsAt n + a). omega (arith, p.0))
-                (λ (q : k ≡ reachedWordsAt n + b). omega (arith, p.1)) (λ (q : k ≡ reachedWordsAt n + c). omega (arith, p.2)))
+                (λ (l : k < reached_words_at n). three_else (reached_words_at n) u (face a b c) k (λ (q : k ≡ reached_words_at n + a). omega arith)
+                (λ (q : k ≡ reached_words_at n + b). omega arith) (λ (q : k ≡ reached_words_at n + c). omega arith))
+                (λ (l : tree_end n ≤ k). three_else (reached_words_at n) u (face a b c) k (λ (q : k ≡ reached_words_at n + a). omega (arith, p.0))
+                (λ (q : k ≡ reached_words_at n + b). omega (arith, p.1)) (λ (q : k ≡ reached_words_at n + c). omega (arith, p.2)))
                 s
 
-pub known-le : (u : ℕ) → known u ≤ 1
+pub known_le : (u : ℕ) → known u ≤ 1
 unfolding known
-known-le u = bit_le (not (eqb u 0))
+known_le u = bit_le (not (eqb u 0))
 
 -- the three ways out of the question whether it fits
 module _ (x y z s t v : ℕ) (shared : Bool) (p : s ≡ known x) (q : t ≡ known y) (r : v ≡ known z) where
   all : known x + known y + known z ≡ s + t + v
   all = omega arith
 
-  pub fitting-none : s + t + v ≡ 0 → true ≡ fitting (known x + known y + known z) shared
+  pub fitting_none : s + t + v ≡ 0 → true ≡ fitting (known x + known y + known z) shared
   unfolding fitting
-  fitting-none e = rw (all, eq-eqb (s + t + v) 0 e)
+  fitting_none e = rw (all, eq-eqb (s + t + v) 0 e)
 
-  pub fitting-shared : s + t + v ≢ 0 → shared ≡ true → eqb (s + t + v) 2 ≡ fitting (known x + known y + known z) shared
+  pub fitting_shared : s + t + v ≢ 0 → shared ≡ true → eqb (s + t + v) 2 ≡ fitting (known x + known y + known z) shared
   unfolding fitting
-  fitting-shared e h = rw (all, ne_eqb (s + t + v) 0 e, h)
+  fitting_shared e h = rw (all, ne_eqb (s + t + v) 0 e, h)
 
-  pub fitting-apart : s + t + v ≢ 0 → shared ≡ false → false ≡ fitting (known x + known y + known z) shared
+  pub fitting_apart : s + t + v ≢ 0 → shared ≡ false → false ≡ fitting (known x + known y + known z) shared
   unfolding fitting
-  fitting-apart e h = rw (all, ne_eqb (s + t + v) 0 e, h)
+  fitting_apart e h = rw (all, ne_eqb (s + t + v) 0 e, h)

@@ -2,12 +2,12 @@
 // edges is offered.
 ghost use Rattle.std.specs.Prelude.{◌≡◌, ◌+◌, ◌*◌, ◌≤◌, ◌<◌, length, set};
 ghost use Rattle.corners.specs.Corners.{Bound};
-ghost use Rattle.regions.specs.Inner.Ordering.{reachedWordsAt, treeEnd};
+ghost use Rattle.regions.specs.Inner.Ordering.{reached_words_at, tree_end};
 ghost use Rattle.placing.specs.Inner.Placing.{opens, known, fitting, Opens, Arounds, Places};
 
 // The side from x to y of a face that is placed, ux and uy 0 where the point was not reached before.
 fn open_side(n: usize, count: usize, words: &mut [u32], x: u32, y: u32, ux: u32, uy: u32) -> bool
-    requires { (n ≤ 4096) × (count ≤ n) × (x < n) × (y < n) × (treeEnd n ≤ length words.old)
+    requires { (n ≤ 4096) × (count ≤ n) × (x < n) × (y < n) × (tree_end n ≤ length words.old)
         × Bound n (3 * count) words.old }
     ensures { Opens n count x y (opens ux uy) result words.old words.new }
 {
@@ -32,7 +32,7 @@ fn open_sides(
     ub: u32,
     uc: u32,
 ) -> bool
-    requires { (n ≤ 4096) × (count ≤ n) × (a < n) × (b < n) × (c < n) × (treeEnd n ≤ length words.old)
+    requires { (n ≤ 4096) × (count ≤ n) × (a < n) × (b < n) × (c < n) × (tree_end n ≤ length words.old)
         × Bound n (3 * count) words.old }
     ensures { Arounds n count a b c (opens ua ub) (opens ub uc) (opens uc ua) result words.old
         words.new }
@@ -48,10 +48,10 @@ fn open_sides(
 
 // Three points are reached.
 fn reach(n: usize, words: &mut [u32], a: usize, b: usize, c: usize)
-    requires { (n ≤ 4096) × (a < n) × (b < n) × (c < n) × (treeEnd n ≤ length words.old) }
+    requires { (n ≤ 4096) × (a < n) × (b < n) × (c < n) × (tree_end n ≤ length words.old) }
     ensures { words.new
-        ≡ set (set (set words.old (reachedWordsAt n + a) 1) (reachedWordsAt n + b) 1)
-        (reachedWordsAt n + c) 1 }
+        ≡ set (set (set words.old (reached_words_at n + a) 1) (reached_words_at n + b) 1)
+        (reached_words_at n + c) 1 }
 {
     words[regions::REACHED * n + a] = 1;
     words[regions::REACHED * n + b] = 1;
@@ -82,7 +82,7 @@ fn may_place(ua: u32, ub: u32, uc: u32, shared: bool) -> bool
 // Places the face i, which shares an edge with a placed one or not; answers whether it fits, and none of its edges lies
 // in three faces.
 pub fn place(n: usize, count: usize, words: &mut [u32], i: usize, shared: bool) -> bool
-    requires { (n ≤ 4096) × (count ≤ n) × (i < count) × (treeEnd n ≤ length words.old)
+    requires { (n ≤ 4096) × (count ≤ n) × (i < count) × (tree_end n ≤ length words.old)
         × Bound n (3 * count) words.old }
     ensures { Places n count i shared result words.old words.new }
 {

@@ -21,8 +21,8 @@ held : {fs gs : List Face} {lent slice : List ℕ} {count : ℕ} → fs ≡ gs �
 held {lent = lent} {slice = slice} {count = count} e h = subst (λ (l : List Face). HoldsFaces l lent slice count) e h
 
 module _ (slice : List ℕ) (count : ℕ) (few : count ≤ 10000) where
-  pub lays-full : (more : List Face) → 10000 ≤ count → LaysFaces more slice count slice count
-  lays-full more full = record {
+  pub lays_full : (more : List Face) → 10000 ≤ count → LaysFaces more slice count slice count
+  lays_full more full = record {
     most = few;
     laid = λ lent fs h.
         let long : 10000 ≤ length fs = omega (arith, h.counted) in
@@ -30,8 +30,8 @@ module _ (slice : List ℕ) (count : ℕ) (few : count ≤ 10000) where
         held (sym (take-append-le 10000 fs more long ∙ take_all 10000 fs short)) h;
   }
 
-  pub lays-none : LaysFaces [] slice count slice count
-  lays-none = record {
+  pub lays_none : LaysFaces [] slice count slice count
+  lays_none = record {
     most = few;
     laid = λ lent fs h.
         let short : length fs ≤ 10000 = omega (arith, h.counted) in
@@ -49,21 +49,21 @@ lays_one slice back count f few wrote = record {
 }
 
 module _ {xs ys : List Face} {slice : List ℕ} {count : ℕ} {mid : List ℕ} {laid : ℕ} {back : List ℕ} {r : ℕ} where
-  pub lays-then : LaysFaces xs slice count mid laid → LaysFaces ys mid laid back r → LaysFaces (xs ++ ys) slice count back r
-  lays-then p q = record {
+  pub lays_then : LaysFaces xs slice count mid laid → LaysFaces ys mid laid back r → LaysFaces (xs ++ ys) slice count back r
+  lays_then p q = record {
     most = q.most;
     laid = λ lent fs h.
         held (take_again 10000 (fs ++ xs) ys ∙ ap (take 10000) (append_assoc fs xs ys)) (q.laid lent (take 10000 (fs ++ xs)) (p.laid lent fs h));
   }
 
-pub lays-as : {xs ys : List Face} {slice : List ℕ} {count : ℕ} {back : List ℕ} {r : ℕ} → xs ≡ ys → LaysFaces xs slice count back r
+pub lays_as : {xs ys : List Face} {slice : List ℕ} {count : ℕ} {back : List ℕ} {r : ℕ} → xs ≡ ys → LaysFaces xs slice count back r
     → LaysFaces ys slice count back r
-lays-as {slice = slice} {count = count} {back = back} {r = r} e p = subst (λ (l : List Face). LaysFaces l slice count back r) e p
+lays_as {slice = slice} {count = count} {back = back} {r = r} e p = subst (λ (l : List Face). LaysFaces l slice count back r) e p
 
 -- all of it, from nothing
-pub lays-whole : {more : List Face} {lent back : List ℕ} {r : ℕ} → LaysFaces more lent 0 back r → (r ≡ length (take 10000 more))
+pub lays_whole : {more : List Face} {lent back : List ℕ} {r : ℕ} → LaysFaces more lent 0 back r → (r ≡ length (take 10000 more))
     × (back ≡ written (take 10000 more) lent)
-lays-whole {lent = lent} p =
+lays_whole {lent = lent} p =
     let h = p.laid lent [] (record { counted = refl; stored = sym (written_none lent) }) in
     (h.counted, h.stored)
 
@@ -72,12 +72,12 @@ abbrev pub Leads : List Face → List ℕ → ℕ → List Face → List ℕ →
 Leads whole lent start rest slice count = (back : List ℕ) (r : ℕ) → LaysFaces rest slice count back r → LaysFaces whole lent start back r
 
 module _ {whole : List Face} {lent : List ℕ} {start : ℕ} {rest : List Face} {slice : List ℕ} {count : ℕ} where
-  pub leads-step : {xs next : List Face} {mid : List ℕ} {laid : ℕ} → Leads whole lent start rest slice count → rest ≡ xs ++ next
+  pub leads_step : {xs next : List Face} {mid : List ℕ} {laid : ℕ} → Leads whole lent start rest slice count → rest ≡ xs ++ next
       → LaysFaces xs slice count mid laid → Leads whole lent start next mid laid
-  leads-step l e step back r p = l back r (lays-as (sym e) (lays-then step p))
+  leads_step l e step back r p = l back r (lays_as (sym e) (lays_then step p))
 
-  pub leads-end : Leads whole lent start rest slice count → rest ≡ [] → count ≤ 10000 → LaysFaces whole lent start slice count
-  leads-end l e few = l slice count (lays-as (sym e) (lays-none slice count few))
+  pub leads_end : Leads whole lent start rest slice count → rest ≡ [] → count ≤ 10000 → LaysFaces whole lent start slice count
+  leads_end l e few = l slice count (lays_as (sym e) (lays_none slice count few))
 
-pub leads-start : {whole rest : List Face} (lent : List ℕ) (start : ℕ) → whole ≡ rest → Leads whole lent start rest lent start
-leads-start lent start e back r p = lays-as (sym e) p
+pub leads_start : {whole rest : List Face} (lent : List ℕ) (start : ℕ) → whole ≡ rest → Leads whole lent start rest lent start
+leads_start lent start e back r p = lays_as (sym e) p

@@ -1,5 +1,5 @@
--- A number whose square, rounded, is below s is at most the root of s (`root-least`), and one whose square is above it
--- at least that (`root-most`): rounding keeps the order, so the true squares compare as the rounded ones do. Assumes
+-- A number whose square, rounded, is below s is at most the root of s (`root_least`), and one whose square is above it
+-- at least that (`root_most`): rounding keeps the order, so the true squares compare as the rounded ones do. Assumes
 -- nothing.
 use mathlib.Core.Path.{◌≡◌, ap, ◌∙◌}
 use Prim.Native.Nat.{ℕ, ◌+◌, ◌*◌, ◌^◌, ◌≤◌, ◌<◌}
@@ -18,18 +18,18 @@ use lib.Ieee.Positive.{positive, mul_at}
 use Rattle.numbers.specs.Rounded.{◌⊗◌}
 use Rattle.numbers.specs.Root.{root}
 use Rattle.numbers.proofs.OrderLaws.{le_not_lt}
-use Rattle.numbers.proofs.RoundedOrder.{Rounds, above, under, rounds-own}
-use Rattle.numbers.proofs.RootGrid.{f32-whole}
-use Rattle.numbers.proofs.RootNearest.{root-nearest}
+use Rattle.numbers.proofs.RoundedOrder.{Rounds, above, under, rounds_own}
+use Rattle.numbers.proofs.RootGrid.{f32_whole}
+use Rattle.numbers.proofs.RootNearest.{root_nearest}
 
 -- ---- as fractions
 
 -- an f32 is its own rounding, by any fraction that it equals
-pub own-rounded : (x : Float) (a c : ℕ) → T (fits binary32 x) → T (positive x) → 0 < c → HasValue x false a c → x ≡ round binary32 false a c
-own-rounded nan a c f p C v = absurd p
-own-rounded (inf s) a c f p C v = absurd p
-own-rounded (fin true m e) a c f p C v = absurd p
-own-rounded (fin false m e) a c f p C v = go (rounds-own (fin false m e) f tt)
+pub own_rounded : (x : Float) (a c : ℕ) → T (fits binary32 x) → T (positive x) → 0 < c → HasValue x false a c → x ≡ round binary32 false a c
+own_rounded nan a c f p C v = absurd p
+own_rounded (inf s) a c f p C v = absurd p
+own_rounded (fin true m e) a c f p C v = absurd p
+own_rounded (fin false m e) a c f p C v = go (rounds_own (fin false m e) f tt)
   where
     go : Rounds (fin false m e) (m * up e) 0 (down e) → fin false m e ≡ round binary32 false a c
     go (above k h r) = let z : k ≡ m * up e = omega arith in r ∙ round_same binary32 false k (down e) a c (down_pos e) C (ap (λ (n : ℕ). n * c) z ∙ v.1)
@@ -39,21 +39,21 @@ whole : (g : Float) → T (fits binary32 g) → T (positive g) → (a : ℕ) × 
 whole nan f p = absurd p
 whole (inf s) f p = absurd p
 whole (fin true m e) f p = absurd p
-whole (fin false m e) f p = let w = f32-whole false m e f in (w.0, w.1)
+whole (fin false m e) f p = let w = f32_whole false m e f in (w.0, w.1)
 
 -- ---- the true squares
 
 module _ (g s : Float) (G X : ℕ) (f : T (fits binary32 s)) (p : T (positive g)) (q : T (positive s)) (v : HasValue g false G (2 ^ 149))
     (w : HasValue s false X (2 ^ 298)) where
-  square-is : g ⊗ g ≡ round binary32 false (G * G) (2 ^ 298)
-  square-is = mul_at binary32 g g G (2 ^ 149) G (2 ^ 149) p p (pow_pos 149) (pow_pos 149) v v
+  square_is : g ⊗ g ≡ round binary32 false (G * G) (2 ^ 298)
+  square_is = mul_at binary32 g g G (2 ^ 149) G (2 ^ 149) p p (pow_pos 149) (pow_pos 149) v v
 
-  square-below : T (lt (g ⊗ g) s) → G * G < X
-  square-below h = go (dec_le X (G * G))
+  square_below : T (lt (g ⊗ g) s) → G * G < X
+  square_below h = go (dec_le X (G * G))
     where
       go : Dec (X ≤ G * G) → G * G < X
       go (yes k) = absurd (le_not_lt s (g ⊗ g)
-          (rw (own-rounded s X (2 ^ 298) f q (pow_pos 298) w, square-is)
+          (rw (own_rounded s X (2 ^ 298) f q (pow_pos 298) w, square_is)
           (round_mono binary32 X (2 ^ 298) (G * G) (2 ^ 298) (pow_pos 298) (pow_pos 298) (mul-le-mul_right (2 ^ 298) k))) h)
       go (no k) = omega arith
 
@@ -62,14 +62,14 @@ module _ (g s : Float) (G X : ℕ) (f : T (fits binary32 s)) (p : T (positive g)
     where
       go : Dec (G * G ≤ X) → X < G * G
       go (yes k) = absurd (le_not_lt (g ⊗ g) s
-          (rw (own-rounded s X (2 ^ 298) f q (pow_pos 298) w, square-is)
+          (rw (own_rounded s X (2 ^ 298) f q (pow_pos 298) w, square_is)
           (round_mono binary32 (G * G) (2 ^ 298) X (2 ^ 298) (pow_pos 298) (pow_pos 298) (mul-le-mul_right (2 ^ 298) k))) h)
       go (no k) = omega arith
 
 -- ---- the nearest to the root is on the same side
 
-at-least : (X R G : ℕ) → G * G < X → (R < G → 4 * X < (R + G) * (R + G)) → G ≤ R
-at-least X R G h n = go (dec_le G R)
+at_least_lem : (X R G : ℕ) → G * G < X → (R < G → 4 * X < (R + G) * (R + G)) → G ≤ R
+at_least_lem X R G h n = go (dec_le G R)
   where
     go : Dec (G ≤ R) → G ≤ R
     go (yes k) = k
@@ -93,16 +93,16 @@ at_most X R G h n = go (dec_le R G)
         absurd (omega arith)
 
 module _ (g s : Float) (f : T (fits binary32 g)) (h : T (fits binary32 s)) (p : T (positive g)) (q : T (positive s)) where
-  pub root-least : T (lt (g ⊗ g) s) → T (le g (root s))
-  root-least k =
+  pub root_least : T (lt (g ⊗ g) s) → T (le g (root s))
+  root_least k =
       let w = whole g f p in
-      let r = root-nearest s h q in
-      let l = at-least r.X r.R w.0 (square-below g s w.0 r.X h p q w.1 r.argument k) (r.nearest g w.0 f w.1).1 in
+      let r = root_nearest s h q in
+      let l = at_least_lem r.X r.R w.0 (square_below g s w.0 r.X h p q w.1 r.argument k) (r.nearest g w.0 f w.1).1 in
       le_of_values g (root s) w.0 (2 ^ 149) r.R (2 ^ 149) (pow_pos 149) (pow_pos 149) w.1 r.result (mul-le-mul_right (2 ^ 149) l)
 
-  pub root-most : T (lt s (g ⊗ g)) → T (le (root s) g)
-  root-most k =
+  pub root_most : T (lt s (g ⊗ g)) → T (le (root s) g)
+  root_most k =
       let w = whole g f p in
-      let r = root-nearest s h q in
+      let r = root_nearest s h q in
       let l = at_most r.X r.R w.0 (square_above g s w.0 r.X h p q w.1 r.argument k) (r.nearest g w.0 f w.1).0 in
       le_of_values (root s) g r.R (2 ^ 149) w.0 (2 ^ 149) (pow_pos 149) (pow_pos 149) r.result w.1 (mul-le-mul_right (2 ^ 149) l)

@@ -9,13 +9,13 @@ use Rattle.numbers.specs.Rounded.{f32, ◌⊗◌}
 use Rattle.vector.specs.Vector.{difference, magnitude, cross, distance}
 use Rattle.triangle.specs.Quality.{circumradius}
 use Rattle.vector.specs.declared.Point3f.{Point3f}
-use Rattle.points.specs.Points.{pointAt}
+use Rattle.points.specs.Points.{point_at}
 use Rattle.lists.specs.Lists.{up_from}
 use Rattle.patch.specs.Lay.{Face, face}
 
 -- whether j is a candidate of i: no farther than twice the radius
 unfoldable pub candidate : List Float → Float → ℕ → ℕ → Bool
-candidate points radius i j = le (distance (pointAt points i) (pointAt points j)) (radius ⊗ f32 0x40000000)
+candidate points radius i j = le (distance (point_at points i) (point_at points j)) (radius ⊗ f32 0x40000000)
 
 -- the candidates of i among some numbers
 unfoldable pub candidates : List Float → Float → ℕ → List ℕ → List ℕ
@@ -31,25 +31,25 @@ sound p1 p2 p3 radius =
     && le (circumradius p1 p2 p3) (radius ⊗ f32 0x3fc00000)
 
 unfoldable pub valid : List Float → Float → ℕ → ℕ → ℕ → Bool
-valid points radius i a b = sound (pointAt points i) (pointAt points a) (pointAt points b) radius
+valid points radius i a b = sound (point_at points i) (point_at points a) (point_at points b) radius
 
 -- the faces (i, a, b) with b among some candidates, in their order
-unfoldable pub facesOver : List Float → Float → ℕ → ℕ → List ℕ → List Face
-facesOver points radius i a [] = []
-facesOver points radius i a (b ∷ bs) =
-    let rest = facesOver points radius i a bs in
+unfoldable pub faces_over : List Float → Float → ℕ → ℕ → List ℕ → List Face
+faces_over points radius i a [] = []
+faces_over points radius i a (b ∷ bs) =
+    let rest = faces_over points radius i a bs in
     cond (valid points radius i a b) (face i a b ∷ rest) rest
 
 -- the faces (i, a, b) with a before b among some candidates
-unfoldable pub facesAt : List Float → Float → ℕ → List ℕ → List Face
-facesAt points radius i [] = []
-facesAt points radius i (a ∷ bs) = facesOver points radius i a bs ++ facesAt points radius i bs
+unfoldable pub faces_at : List Float → Float → ℕ → List ℕ → List Face
+faces_at points radius i [] = []
+faces_at points radius i (a ∷ bs) = faces_over points radius i a bs ++ faces_at points radius i bs
 
 -- those of some points i, in their order
-unfoldable pub plainFacesFrom : List Float → Float → List ℕ → List Face
-plainFacesFrom points radius [] = []
-plainFacesFrom points radius (i ∷ is) =
-    facesAt points radius i (candidates points radius i (up_from 0 i)) ++ plainFacesFrom points radius is
+unfoldable pub plain_faces_from : List Float → Float → List ℕ → List Face
+plain_faces_from points radius [] = []
+plain_faces_from points radius (i ∷ is) =
+    faces_at points radius i (candidates points radius i (up_from 0 i)) ++ plain_faces_from points radius is
 
-unfoldable pub plainFaces : List Float → Float → List Face
-plainFaces points radius = take 10000 (plainFacesFrom points radius (up_from 0 (length points / 3)))
+unfoldable pub plain_faces : List Float → Float → List Face
+plain_faces points radius = take 10000 (plain_faces_from points radius (up_from 0 (length points / 3)))

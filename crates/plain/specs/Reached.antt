@@ -9,5 +9,5 @@ unfoldable pub paired : List Float → Float → ℕ → Bool
 paired points radius i = ltb 1 (length (candidates points radius i (up_from 0 i)))
 
 -- some point of the cloud has
-unfoldable pub plainReached : List Float → Float → Bool
-plainReached points radius = any (paired points radius) (up_from 0 (length points / 3))
+unfoldable pub plain_reached : List Float → Float → Bool
+plain_reached points radius = any (paired points radius) (up_from 0 (length points / 3))

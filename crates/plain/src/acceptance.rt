@@ -5,10 +5,10 @@ ghost use Rattle.std.specs.Float.{binary32};
 ghost use Rattle.std.specs.Float.Ieee.{le, fits};
 ghost use Rattle.numbers.specs.Rounded.{◌⊗◌};
 ghost use Rattle.vector.specs.Vector.{difference, cross, magnitude, squared, distance};
-ghost use Rattle.area_bounds.specs.Inner.AreaBound.{crossSquared};
+ghost use Rattle.area_bounds.specs.Inner.AreaBound.{cross_squared};
 ghost use Rattle.plain.specs.Plain.{sound};
 ghost use Rattle.plain.specs.Inner.Listed.{RadiusLimited};
-ghost use Rattle.plain.specs.Inner.Bounds.{NarrowTriangle, Wide, leastCross, largestNumber};
+ghost use Rattle.plain.specs.Inner.Bounds.{NarrowTriangle, Wide, least_cross, largest_number};
 
 use crate::PlainLimits;
 use vector::Point3f;
@@ -99,7 +99,7 @@ fn is_sound_closer(
     limits: PlainLimits,
 ) -> bool
     requires { RadiusLimited radius limits × (a ≡ distance p1 p2) × (c ≡ distance p1 p3) × (edge ≡ squared p3 p2)
-        × (s ≡ crossSquared p1 p2 p3) × T (le leastCross s) × T (le s largestNumber) }
+        × (s ≡ cross_squared p1 p2 p3) × T (le least_cross s) × T (le s largest_number) }
     ensures { result ≡ sound p1 p2 p3 radius }
 {
     let h = (b + edge / b) * 0.5;
@@ -124,8 +124,8 @@ fn is_sound_long(
     radius: f32,
     limits: PlainLimits,
 ) -> bool
-    requires { RadiusLimited radius limits × (a ≡ distance p1 p2) × (c ≡ distance p1 p3) × (s ≡ crossSquared p1 p2 p3)
-        × T (le leastCross s) × T (le s largestNumber) }
+    requires { RadiusLimited radius limits × (a ≡ distance p1 p2) × (c ≡ distance p1 p3) × (s ≡ cross_squared p1 p2 p3)
+        × T (le least_cross s) × T (le s largest_number) }
     ensures { result ≡ sound p1 p2 p3 radius }
 {
     let edge = vector::distance_squared(p3, p2);

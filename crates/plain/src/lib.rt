@@ -3,15 +3,15 @@ mod acceptance;
 mod near;
 
 ghost use Rattle.std.specs.Prelude.{◌≡◌, cond, ◌||◌, [], ◌∷◌, ◌+◌, ◌/◌, ◌≤◌, ◌<◌, length, take, drop, get_or};
-ghost use Rattle.points.specs.Points.{pointAt};
+ghost use Rattle.points.specs.Points.{point_at_lem};
 ghost use Rattle.lists.specs.Lists.{up_from};
 ghost use Rattle.vector.specs.Vector.{distance};
 ghost use Rattle.patch.specs.Lay.{face};
 ghost use Rattle.patch.specs.View.{written};
-ghost use Rattle.plain.specs.Plain.{candidates, valid, facesOver, facesAt, plainFaces};
+ghost use Rattle.plain.specs.Plain.{candidates, valid, faces_over, faces_at, plain_faces};
 ghost use Rattle.plain.specs.Inner.Laid.{PointReady, LaysFaces};
 ghost use Rattle.plain.specs.Inner.Listed.{RadiusLimited, CandidatesListed};
-ghost use Rattle.plain.specs.Reached.{paired, plainReached};
+ghost use Rattle.plain.specs.Reached.{paired, plain_reached};
 
 const MAX_TRIANGLES: usize = 10000;
 
@@ -68,8 +68,8 @@ fn try_face(
     count: usize,
 ) -> usize
     requires { PointReady points.now i × RadiusLimited radius limits × (a < i) × (b < i) × (count ≤ 10000)
-        × (la ≡ distance (pointAt points.now i) (pointAt points.now a))
-        × (lb ≡ distance (pointAt points.now i) (pointAt points.now b)) }
+        × (la ≡ distance (point_at points.now i) (point_at points.now a))
+        × (lb ≡ distance (point_at points.now i) (point_at points.now b)) }
     ensures { LaysFaces (cond (valid points.now radius i a b) (face i a b ∷ []) [])
         faces.old
         count faces.new result }
@@ -104,7 +104,7 @@ fn faces_over(
         × (at < listed)
         × (count ≤ 10000) }
     ensures { LaysFaces
-        (facesOver points.now radius i (get_or w.now at 0)
+        (faces_over points.now radius i (get_or w.now at 0)
         (drop (at + 1) (take listed w.now))) faces.old count faces.new result }
 {
     if MAX_TRIANGLES <= count {
@@ -146,7 +146,7 @@ fn faces_among(
 ) -> usize
     requires { RadiusLimited radius limits × CandidatesListed points.now radius i w.now lengths.now listed
         × (count ≤ 10000) }
-    ensures { LaysFaces (facesAt points.now radius i (take listed w.now))
+    ensures { LaysFaces (faces_at points.now radius i (take listed w.now))
         faces.old
         count faces.new result }
 {
@@ -176,7 +176,7 @@ fn faces_at(
         × (i ≤ length lengths.old)
         × (count ≤ 10000) }
     ensures { LaysFaces
-        (facesAt points.now radius i (candidates points.now radius i (up_from 0 i)))
+        (faces_at points.now radius i (candidates points.now radius i (up_from 0 i)))
         faces.old count faces.new result.faces
         × (count < 10000 → result.judged ≡ paired points.now radius i) }
 {
@@ -212,9 +212,9 @@ pub fn simple_triangulate(
 ) -> Triangulated
     requires { (length points.now / 3 ≤ 4096) × (length points.now / 3 ≤ length w.old)
         × (length points.now / 3 ≤ length lengths.old) }
-    ensures { (result.faces ≡ length (plainFaces points.now radius))
-        × (faces.new ≡ written (plainFaces points.now radius) faces.old)
-        × (result.faces ≡ 0 → result.judged ≡ plainReached points.now radius) }
+    ensures { (result.faces ≡ length (plain_faces points.now radius))
+        × (faces.new ≡ written (plain_faces points.now radius) faces.old)
+        × (result.faces ≡ 0 → result.judged ≡ plain_reached points.now radius) }
 {
     let n = points.len() / 3;
     let limits = limits_of(radius);

@@ -10,10 +10,10 @@ use lib.ListN.{length, take, length-take}
 use lib.Seq.{take_all, take_at}
 use borrow.Author.Tests.{leb-true, leb-false}
 use Rattle.patch.specs.Lay.{Face}
-use Rattle.plain_loop.specs.SimpleTriangulate.{maxTriangles, loop}
+use Rattle.plain_loop.specs.SimpleTriangulate.{max_triangles, loop}
 
 -- the definition's limit
-pub limit_is : maxTriangles ≡ 10000
+pub limit_is : max_triangles ≡ 10000
 limit_is = refl
 
 -- what each of some numbers gives, one after the other
@@ -27,24 +27,24 @@ take_twice (suc n) [] ys = refl
 take_twice (suc n) (x ∷ xs) ys = ap (λ (l : List Face). x ∷ l) (take_twice n xs ys)
 
 module _ (body : ℕ → List Face → List Face) (f : ℕ → List Face)
-    (one : (x : ℕ) (ts : List Face) → length ts < maxTriangles → body x ts ≡ take maxTriangles (ts ++ f x)) where
-  pub loop-is : (xs : List ℕ) (ts : List Face) → length ts ≤ maxTriangles
-      → loop body xs ts ≡ take maxTriangles (ts ++ each f xs)
+    (one : (x : ℕ) (ts : List Face) → length ts < max_triangles → body x ts ≡ take max_triangles (ts ++ f x)) where
+  pub loop_is : (xs : List ℕ) (ts : List Face) → length ts ≤ max_triangles
+      → loop body xs ts ≡ take max_triangles (ts ++ each f xs)
   unfolding loop
-  loop-is [] ts h = sym (ap (take maxTriangles) (append-nil ts) ∙ take_all maxTriangles ts h)
-  loop-is (x ∷ xs) ts h = go (leb maxTriangles (length ts)) refl
-      (λ (u : List Face) (l : length u ≤ maxTriangles). loop-is xs u l)
+  loop_is [] ts h = sym (ap (take max_triangles) (append-nil ts) ∙ take_all max_triangles ts h)
+  loop_is (x ∷ xs) ts h = go (leb max_triangles (length ts)) refl
+      (λ (u : List Face) (l : length u ≤ max_triangles). loop_is xs u l)
     where
-      go : (t : Bool) → leb maxTriangles (length ts) ≡ t
-          → ((u : List Face) → length u ≤ maxTriangles → loop body xs u ≡ take maxTriangles (u ++ each f xs))
-          → cond t ts (loop body xs (body x ts)) ≡ take maxTriangles (ts ++ (f x ++ each f xs))
+      go : (t : Bool) → leb max_triangles (length ts) ≡ t
+          → ((u : List Face) → length u ≤ max_triangles → loop body xs u ≡ take max_triangles (u ++ each f xs))
+          → cond t ts (loop body xs (body x ts)) ≡ take max_triangles (ts ++ (f x ++ each f xs))
       go true e ih =
-          let full : length ts ≡ maxTriangles = omega (arith, leb-true maxTriangles (length ts) e) in
-          sym (take_at ts (f x ++ each f xs) maxTriangles full)
+          let full : length ts ≡ max_triangles = omega (arith, leb-true max_triangles (length ts) e) in
+          sym (take_at ts (f x ++ each f xs) max_triangles full)
       go false e ih =
-          let l : length ts < maxTriangles = omega (arith, leb-false maxTriangles (length ts) e) in
-          let u : List Face = take maxTriangles (ts ++ f x) in
-          let few : length u ≤ maxTriangles =
-          omega (arith, length-take maxTriangles (ts ++ f x), min-le_left maxTriangles (length (ts ++ f x))) in
-          ap (loop body xs) (one x ts l) ∙ ih u few ∙ take_twice maxTriangles (ts ++ f x) (each f xs)
-          ∙ ap (take maxTriangles) (append_assoc ts (f x) (each f xs))
+          let l : length ts < max_triangles = omega (arith, leb-false max_triangles (length ts) e) in
+          let u : List Face = take max_triangles (ts ++ f x) in
+          let few : length u ≤ max_triangles =
+          omega (arith, length-take max_triangles (ts ++ f x), min-le_left max_triangles (length (ts ++ f x))) in
+          ap (loop body xs) (one x ts l) ∙ ih u few ∙ take_twice max_triangles (ts ++ f x) (each f xs)
+          ∙ ap (take max_triangles) (append_assoc ts (f x) (each f xs))

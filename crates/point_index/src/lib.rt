@@ -1,8 +1,8 @@
 // An index beside a cloud's points, by which the nearest point is found at once: the k-d tree of the cloud, as numbers
 // in a lent slice.
 ghost use Rattle.std.specs.Prelude.{◌≡◌, ◌++◌, ◌/◌, ◌≤◌, length, drop};
-ghost use Rattle.kd_tree.specs.Tree.{indexSize, built, belongs};
-ghost use Rattle.point_index.specs.Index.{indexRefusal, Fits, Builds, Tells};
+ghost use Rattle.kd_tree.specs.Tree.{index_size, built, belongs};
+ghost use Rattle.point_index.specs.Index.{index_refusal, Fits, Builds, Tells};
 
 use domain::Refusal;
 
@@ -25,7 +25,7 @@ pub struct Belongs {
 
 // What the checks answer, for slices of the given lengths.
 pub fn refusal_of_index(points: &[f32], index: usize, words: usize, floats: usize) -> Refusal
-    ensures { result ≡ indexRefusal points.now index words floats }
+    ensures { result ≡ index_refusal points.now index words floats }
 {
     let refusal = domain::refusal_of_points(points);
     if refusal.answer != 0 {
@@ -52,7 +52,7 @@ pub fn refusal_of_index(points: &[f32], index: usize, words: usize, floats: usiz
 pub fn build(points: &[f32], index: &mut [u32], floats: &mut [f32])
     requires { Fits points.now (length index.old) (length floats.old) }
     ensures { index.new ≡ built points.now
-        ++ drop (indexSize (length points.now / 3)) index.old }
+        ++ drop (index_size (length points.now / 3)) index.old }
 {
     let n = points.len() / 3;
     let end = point_order::order_points(points, &mut index[..n], floats);
@@ -63,7 +63,7 @@ pub fn build(points: &[f32], index: &mut [u32], floats: &mut [f32])
 // Whether an index is an accepted cloud's: it is built afresh in the work slice.
 pub fn matches(points: &[f32], index: &[u32], words: &mut [u32], floats: &mut [f32]) -> bool
     requires { Fits points.now (length index.now) (length floats.old)
-        × (indexSize (length points.now / 3) ≤ length words.old) }
+        × (index_size (length points.now / 3) ≤ length words.old) }
     ensures { result ≡ belongs points.now index.now }
 {
     build(points, words, floats);

@@ -2,7 +2,7 @@
 ghost use Rattle.std.specs.Prelude.{◌≡◌, ◌≤◌, ◌<◌, length};
 ghost use Rattle.lists.specs.Lists.{up_from};
 ghost use Rattle.axis_sort.specs.Axis.{precedes};
-ghost use Rattle.axis_sort.specs.Sorted.{sortedBy};
+ghost use Rattle.axis_sort.specs.Sorted.{sorted_by};
 ghost use Rattle.point_order.specs.Inner.Ordering.{PointOrderReady, OrderedAll};
 
 // All numbers in order along an axis: guessed, tested, and sorted where the guess fails.
@@ -18,7 +18,7 @@ fn order_along(
     requires { (axis < 3) × PointOrderReady points.now (length list.old) (length work.old) (length counts.old)
         (length floats.old) × (length list.old ≤ length keys.old) }
     ensures { list.new
-        ≡ sortedBy (precedes points.now axis) (up_from 0 (length list.old)) }
+        ≡ sorted_by (precedes points.now axis) (up_from 0 (length list.old)) }
 {
     axis_guess::guess(points, axis, list, work, keys, counts);
     if axis_guess::rises(points, axis, list) {

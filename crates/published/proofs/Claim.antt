@@ -17,47 +17,47 @@ use Rattle.numbers.specs.Rounded.{f32, ◌⊗◌}
 use Rattle.numbers.specs.Order.{minimum, maximum}
 use Rattle.vector.specs.declared.Point3f.{Point3f}
 use Rattle.quality.specs.declared.TriangleQuality.{TriangleQuality}
-use Rattle.triangle.specs.Quality.{sourceAcceptable}
-use Rattle.points.specs.Points.{pointAt}
+use Rattle.triangle.specs.Quality.{source_acceptable}
+use Rattle.points.specs.Points.{point_at}
 use Rattle.sorting.specs.Each.{All}
 use Rattle.settings.specs.declared.BallPivotingConfig.{BallPivotingConfig}
-use Rattle.domain.specs.Refusals.{reconstructRefusal}
+use Rattle.domain.specs.Refusals.{reconstruct_refusal}
 use Rattle.domain.specs.Inner.Accepted.{Cloud}
-use Rattle.domain.proofs.Accepted.{accepted-reconstruct}
-use Rattle.grid.specs.Grid.{leastFrom, boundsMin, cellOn, cell_of, range_of, neighbors}
+use Rattle.domain.proofs.Accepted.{accepted_reconstruct}
+use Rattle.grid.specs.Grid.{least_from, bounds_min, cell_on, cell_of, range_of, neighbors}
 use Rattle.grid.specs.declared.SpatialGrid.{SpatialGrid}
-use Rattle.grid.proofs.Near.{neighbors-below}
-use Rattle.radii.specs.Radii.{nearOf}
+use Rattle.grid.proofs.Near.{neighbors_below}
+use Rattle.radii.specs.Radii.{near_of}
 use Rattle.patch.specs.Lay.{Edge, Rules, State, patch}
 use Rattle.patch.specs.Search.{searching}
-use Rattle.patch.specs.Frontier.{waitingAfter, heapOf, pop_of}
+use Rattle.patch.specs.Frontier.{waiting_after, heap_of, pop_of}
 use Rattle.patch.specs.Fair.{NeighborsWithin}
 use Rattle.patch.proofs.Searching as found-by
-use Rattle.patch.proofs.Claim.{laid-never-stopped}
-use Rattle.decisions.specs.Decisions.{reach, apart, qualityAt, isClose, halfway, middle, around, pivotable}
-use Rattle.ball_pivoting.specs.Reconstruct.{pointCount, spatialIndexOf, scene_of, radiiOf, Found, laid, plainly, found}
+use Rattle.patch.proofs.Claim.{laid_never_stopped}
+use Rattle.decisions.specs.Decisions.{reach, apart, quality_at, is_close, halfway, middle, around, pivotable}
+use Rattle.ball_pivoting.specs.Reconstruct.{point_count, spatial_index_of, scene_of, radii_of, Found, laid, plainly, found}
 use Rattle.ball_pivoting.specs.Reconstruct.{delivered}
-use Rattle.ball_pivoting.specs.Unsplit.{reconstructedUnsplit}
+use Rattle.ball_pivoting.specs.Unsplit.{reconstructed_unsplit}
 use Rattle.second_look.specs.SecondLook.{looked}
-use Rattle.second_look.proofs.Second.{pivot-passes}
-use Rattle.arealess.specs.Source.{sourceAccepts, sourceScore, sourceFloats, sourceLaid, sourceFoundAt, sourceFound}
-use Rattle.arealess.specs.Arealess.{areaZero}
+use Rattle.second_look.proofs.Second.{pivot_passes}
+use Rattle.arealess.specs.Source.{source_accepts, source_score, source_floats, source_laid, source_found_at, source_found}
+use Rattle.arealess.specs.Arealess.{area_zero}
 use Rattle.arealess.proofs.Claim.{beside}
 use Rattle.zeros.specs.Zeros.{UpToZeros}
-use Rattle.zeros.specs.Call.{leastFromBy}
-use Rattle.zeros.proofs.Cells.{least-alike, quotient-alike}
-use Rattle.zeros.proofs.Quality.{quality-same}
-use Rattle.plain_loop.proofs.Faces.{plain-loop}
+use Rattle.zeros.specs.Call.{least_from_by}
+use Rattle.zeros.proofs.Cells.{least_alike, quotient_alike}
+use Rattle.zeros.proofs.Quality.{quality_same}
+use Rattle.plain_loop.proofs.Faces.{plain_loop}
 use Rattle.total_order.specs.TotalOrder.{Given}
 use Rattle.cuts.specs.Cuts.{SameCell, SameRange, GivenPoints, CutAlike}
-use Rattle.cuts.proofs.Alike.{cuts-alike}
-use Rattle.radii_loop.specs.ComputeAdaptiveRadii.{computeAdaptiveRadii}
-use Rattle.radii_loop.proofs.Radii.{radii-loop}
-use Rattle.published.specs.Published.{PerMeasuring, cell32, range32, gridTo, nearTo, qualityTo, acceptedTo, floatsTo}
-use Rattle.published.specs.Published.{rulesTo, radiiTo, laidTo, foundAtTo, foundTo, OursBut, AsPublished}
-use Rattle.published.proofs.Radius.{floatsAt, rulesAt, rules-agree, patch-agrees}
-use Rattle.published.proofs.Cells.{Alike32, neighbors-as}
-use Rattle.published.proofs.Stop.{never-stopping}
+use Rattle.cuts.proofs.Alike.{cuts_alike}
+use Rattle.radii_loop.specs.ComputeAdaptiveRadii.{compute_adaptive_radii}
+use Rattle.radii_loop.proofs.Radii.{radii_loop}
+use Rattle.published.specs.Published.{PerMeasuring, cell32, range32, grid_to, near_to, quality_to, accepted_to, floats_to}
+use Rattle.published.specs.Published.{rules_to, radii_to, laid_to, found_at_to, found_to, OursBut, AsPublished}
+use Rattle.published.proofs.Radius.{floats_at, rules_at, rules_agree, patch_agrees}
+use Rattle.published.proofs.Cells.{Alike32, neighbors_as}
+use Rattle.published.proofs.Stop.{never_stopping}
 
 -- ---- where there is no point there is no number, and its cell is 0
 beyond : (xs : List Float) (k : ℕ) → length xs ≤ k → get_or xs k nan ≡ nan
@@ -65,9 +65,9 @@ beyond [] k h = refl
 beyond (x ∷ xs) zero h = absurd (omega arith)
 beyond (x ∷ xs) (suc k) h = beyond xs k (omega arith)
 
-nan-on : (size least : Float) → cell32 size least nan ≡ pos (cellOn size least nan)
-unfolding cell32 cellOn sub add div to_signed to_unsigned
-nan-on size least = refl
+nan_on : (size least : Float) → cell32 size least nan ≡ pos (cell_on size least nan)
+unfolding cell32 cell_on sub add div to_signed to_unsigned
+nan_on size least = refl
 
 nan_left : (y : Float) → halfway nan y ≡ nan
 unfolding add mul
@@ -84,248 +84,248 @@ module _ (mins : ℕ → Float → Float → Float) (m M : PerMeasuring) (start 
     (zeros : (s : ℕ) (r : Float) (i j k : ℕ) → UpToZeros minimum (m s r i j k) × UpToZeros maximum (M s r i j k))
     (zero-start : (start ≡ f32 0) ⊎ (start ≡ neg (f32 0)))
     (c : BallPivotingConfig) (pts normals : List Float) (words floats : ℕ)
-    (accepted : (reconstructRefusal pts normals c words floats).answer ≡ 0) (given : Given c) (f32s : GivenPoints pts)
+    (accepted : (reconstruct_refusal pts normals c words floats).answer ≡ 0) (given : Given c) (f32s : GivenPoints pts)
     (rule : c.frontier_rule ≡ 1) where
   abbrev n : ℕ
-  n = pointCount pts
+  n = point_count pts
 
   abbrev g : SpatialGrid
-  g = gridTo mins m M start c pts
+  g = grid_to mins m M start c pts
 
   abbrev h : SpatialGrid
-  h = spatialIndexOf c pts
+  h = spatial_index_of c pts
 
   cuts : CutAlike c pts
-  cuts = cuts-alike pts normals c words floats accepted given f32s
+  cuts = cuts_alike pts normals c words floats accepted given f32s
 
   cloud : Cloud n pts
-  cloud = (accepted-reconstruct pts normals c words floats accepted).cloud
+  cloud = (accepted_reconstruct pts normals c words floats accepted).cloud
 
   -- ---- cells
   abbrev size : Float
   size = c.radius ⊗ c.spatial_cell_factor
 
   -- either zero gives the same i32
-  either-on : (at : ℕ) (v : Float)
-      → cell32 size (leastFromBy mins pts (inf false) at n) v ≡ cell32 size (leastFrom pts (inf false) at n) v
+  either_on : (at : ℕ) (v : Float)
+      → cell32 size (least_from_by mins pts (inf false) at n) v ≡ cell32 size (least_from pts (inf false) at n) v
   unfolding cell32 to_signed
-  either-on at v =
-      quotient-alike (to_signed 31) (pos 0) refl signed-zero size v _ _
-      (least-alike mins each pts (inf false) (inf false) at n (inl refl))
+  either_on at v =
+      quotient_alike (to_signed 31) (pos 0) refl signed_zero size v _ _
+      (least_alike mins each pts (inf false) (inf false) at n (inl refl))
     where
-      signed-zero : (s : Bool) → to_signed 31 (fin s 0 (pos 0)) ≡ pos 0
-      signed-zero true = refl
-      signed-zero false = refl
+      signed_zero : (s : Bool) → to_signed 31 (fin s 0 (pos 0)) ≡ pos 0
+      signed_zero true = refl
+      signed_zero false = refl
 
   from_cell : (p : Point3f) → SameCell h p → Alike32 g h p
-  unfolding gridTo spatialIndexOf boundsMin cell_of cell32
+  unfolding grid_to spatial_index_of bounds_min cell_of cell32
   from_cell p s = record {
-    on-x = either-on 0 p.x ∙ s.on-x.same;
-    on-y = either-on 1 p.y ∙ s.on-y.same;
-    on-z = either-on 2 p.z ∙ s.on-z.same;
+    on_x = either_on 0 p.x ∙ s.on_x.same;
+    on_y = either_on 1 p.y ∙ s.on_y.same;
+    on_z = either_on 2 p.z ∙ s.on_z.same;
   }
 
   -- no number on any axis
-  from-nan : (p : Point3f) → p.x ≡ nan → p.y ≡ nan → p.z ≡ nan → Alike32 g h p
-  unfolding gridTo spatialIndexOf boundsMin cell_of
-  from-nan p x y z = record { on-x = at 0 p.x x; on-y = at 1 p.y y; on-z = at 2 p.z z }
+  from_nan : (p : Point3f) → p.x ≡ nan → p.y ≡ nan → p.z ≡ nan → Alike32 g h p
+  unfolding grid_to spatial_index_of bounds_min cell_of
+  from_nan p x y z = record { on_x = at 0 p.x x; on_y = at 1 p.y y; on_z = at 2 p.z z }
     where
       at : (k : ℕ) (v : Float) → v ≡ nan
-          → cell32 size (leastFromBy mins pts (inf false) k n) v ≡ pos (cellOn size (leastFrom pts (inf false) k n) v)
+          → cell32 size (least_from_by mins pts (inf false) k n) v ≡ pos (cell_on size (least_from pts (inf false) k n) v)
       at k v e =
-          either-on k v
-          ∙ subst (λ (w : Float). cell32 size (leastFrom pts (inf false) k n) w
-          ≡ pos (cellOn size (leastFrom pts (inf false) k n) w)) (sym e) (nan-on size (leastFrom pts (inf false) k n))
+          either_on k v
+          ∙ subst (λ (w : Float). cell32 size (least_from pts (inf false) k n) w
+          ≡ pos (cell_on size (least_from pts (inf false) k n) w)) (sym e) (nan_on size (least_from pts (inf false) k n))
 
   -- a point that is not there
-  past-x : (i : ℕ) → n ≤ i → (pointAt pts i).x ≡ nan
-  unfolding pointAt
-  past-x i l = beyond pts (3 * i) (omega (arith, cloud.threes))
+  past_x : (i : ℕ) → n ≤ i → (point_at pts i).x ≡ nan
+  unfolding point_at
+  past_x i l = beyond pts (3 * i) (omega (arith, cloud.threes))
 
-  past-y : (i : ℕ) → n ≤ i → (pointAt pts i).y ≡ nan
-  unfolding pointAt
-  past-y i l = beyond pts (3 * i + 1) (omega (arith, cloud.threes))
+  past_y : (i : ℕ) → n ≤ i → (point_at pts i).y ≡ nan
+  unfolding point_at
+  past_y i l = beyond pts (3 * i + 1) (omega (arith, cloud.threes))
 
-  past-z : (i : ℕ) → n ≤ i → (pointAt pts i).z ≡ nan
-  unfolding pointAt
-  past-z i l = beyond pts (3 * i + 2) (omega (arith, cloud.threes))
+  past_z : (i : ℕ) → n ≤ i → (point_at pts i).z ≡ nan
+  unfolding point_at
+  past_z i l = beyond pts (3 * i + 2) (omega (arith, cloud.threes))
 
-  point-cell : (i : ℕ) → Alike32 g h (pointAt pts i)
-  point-cell i =
-      dite (dec_lt i n) (λ l. from_cell (pointAt pts i) (cuts.cells i l))
-      (λ no. let l : n ≤ i = omega (arith, no) in from-nan (pointAt pts i) (past-x i l) (past-y i l) (past-z i l))
+  point_cell : (i : ℕ) → Alike32 g h (point_at pts i)
+  point_cell i =
+      dite (dec_lt i n) (λ l. from_cell (point_at pts i) (cuts.cells i l))
+      (λ no. let l : n ≤ i = omega (arith, no) in from_nan (point_at pts i) (past_x i l) (past_y i l) (past_z i l))
 
-  middle-cell : (i j : ℕ) → Alike32 g h (middle (pointAt pts i) (pointAt pts j))
+  middle_cell : (i j : ℕ) → Alike32 g h (middle (point_at pts i) (point_at pts j))
   unfolding middle
-  middle-cell i j =
+  middle_cell i j =
       dite (dec_lt i n)
-      (λ l. dite (dec_lt j n) (λ k. from_cell (middle (pointAt pts i) (pointAt pts j)) (cuts.middles i j l k))
+      (λ l. dite (dec_lt j n) (λ k. from_cell (middle (point_at pts i) (point_at pts j)) (cuts.middles i j l k))
       (λ no. let k : n ≤ j = omega (arith, no) in
-      from-nan (middle (pointAt pts i) (pointAt pts j))
-      (ap (halfway (pointAt pts i).x) (past-x j k) ∙ nan_right (pointAt pts i).x)
-      (ap (halfway (pointAt pts i).y) (past-y j k) ∙ nan_right (pointAt pts i).y)
-      (ap (halfway (pointAt pts i).z) (past-z j k) ∙ nan_right (pointAt pts i).z)))
+      from_nan (middle (point_at pts i) (point_at pts j))
+      (ap (halfway (point_at pts i).x) (past_x j k) ∙ nan_right (point_at pts i).x)
+      (ap (halfway (point_at pts i).y) (past_y j k) ∙ nan_right (point_at pts i).y)
+      (ap (halfway (point_at pts i).z) (past_z j k) ∙ nan_right (point_at pts i).z)))
       (λ no. let k : n ≤ i = omega (arith, no) in
-      from-nan (middle (pointAt pts i) (pointAt pts j))
-      (ap (λ (v : Float). halfway v (pointAt pts j).x) (past-x i k) ∙ nan_left (pointAt pts j).x)
-      (ap (λ (v : Float). halfway v (pointAt pts j).y) (past-y i k) ∙ nan_left (pointAt pts j).y)
-      (ap (λ (v : Float). halfway v (pointAt pts j).z) (past-z i k) ∙ nan_left (pointAt pts j).z))
+      from_nan (middle (point_at pts i) (point_at pts j))
+      (ap (λ (v : Float). halfway v (point_at pts j).x) (past_x i k) ∙ nan_left (point_at pts j).x)
+      (ap (λ (v : Float). halfway v (point_at pts j).y) (past_y i k) ∙ nan_left (point_at pts j).y)
+      (ap (λ (v : Float). halfway v (point_at pts j).z) (past_z i k) ∙ nan_left (point_at pts j).z))
 
-  range-as : (r : Float) → SameRange h r → range32 g r ≡ pos (range_of h r)
-  unfolding range32 gridTo spatialIndexOf
-  range-as r s = s.same
+  range_as : (r : Float) → SameRange h r → range32 g r ≡ pos (range_of h r)
+  unfolding range32 grid_to spatial_index_of
+  range_as r s = s.same
 
-  near-as : (p : Point3f) (r : Float) → Alike32 g h p → SameRange h r
-      → nearTo mins m M start c pts p r ≡ neighbors c.use_spatial_index h pts n p r
-  unfolding nearTo neighbors
-  near-as p r at s =
+  near_as : (p : Point3f) (r : Float) → Alike32 g h p → SameRange h r
+      → near_to mins m M start c pts p r ≡ neighbors c.use_spatial_index h pts n p r
+  unfolding near_to neighbors
+  near_as p r at s =
       ap (λ (near : List ℕ). cond c.use_spatial_index near (up_from 0 n))
-      (neighbors-as g h pts n point-cell p at r (range-as r s))
+      (neighbors_as g h pts n point_cell p at r (range_as r s))
 
   -- ---- triangles
-  quality-as : (s : ℕ) (r : Float) (i j k : ℕ) → qualityTo mins m M start c pts s r i j k ≡ qualityAt pts i j k
-  unfolding qualityTo qualityAt
-  quality-as s r i j k =
-      quality-same (m s r i j k) (M s r i j k) (zeros s r i j k).0 (zeros s r i j k).1 (pointAt pts i) (pointAt pts j) (pointAt pts k)
+  quality_as : (s : ℕ) (r : Float) (i j k : ℕ) → quality_to mins m M start c pts s r i j k ≡ quality_at pts i j k
+  unfolding quality_to quality_at
+  quality_as s r i j k =
+      quality_same (m s r i j k) (M s r i j k) (zeros s r i j k).0 (zeros s r i j k).1 (point_at pts i) (point_at pts j) (point_at pts k)
 
-  fits-as : (s : ℕ) (r : Float) (i j k : ℕ)
-      → acceptedTo mins m M start c pts s r i j k ≡ sourceAccepts (scene_of c pts) r (qualityAt pts i j k)
-  unfolding acceptedTo sourceAccepts scene_of
-  fits-as s r i j k =
-      ap (λ (q : TriangleQuality). sourceAcceptable q r c.min_triangle_area c.quality_threshold
-      c.max_edge_factor) (quality-as s r i j k)
+  fits_as : (s : ℕ) (r : Float) (i j k : ℕ)
+      → accepted_to mins m M start c pts s r i j k ≡ source_accepts (scene_of c pts) r (quality_at pts i j k)
+  unfolding accepted_to source_accepts scene_of
+  fits_as s r i j k =
+      ap (λ (q : TriangleQuality). source_acceptable q r c.min_triangle_area c.quality_threshold
+      c.max_edge_factor) (quality_as s r i j k)
 
   -- ---- the searches, at a radius
-  floats-as : (r : Float) → SameRange h r → SameRange h (reach r)
-      → floatsAt (floatsTo mins m M start c pts) r ≡ floatsAt (sourceFloats (scene_of c pts) pts) r
-  unfolding floatsTo sourceFloats sourceScore around scene_of
-  floats-as r s s2 = λ t. record {
-    near = λ u i. near-as (pointAt pts i) (reach r) (point-cell i) s2 t;
-    close = λ u i j. isClose pts r i j;
-    fits = λ u i j k. fits-as 0 r i j k t;
+  floats_as : (r : Float) → SameRange h r → SameRange h (reach r)
+      → floats_at (floats_to mins m M start c pts) r ≡ floats_at (source_floats (scene_of c pts) pts) r
+  unfolding floats_to source_floats source_score around scene_of
+  floats_as r s s2 = λ t. record {
+    near = λ u i. near_as (point_at pts i) (reach r) (point_cell i) s2 t;
+    close = λ u i j. is_close pts r i j;
+    fits = λ u i j k. fits_as 0 r i j k t;
     pivotable = λ u e. pivotable pts r e;
     around = λ u e.
-        near-as (middle (pointAt pts e.v1) (pointAt pts e.v2)) r (middle-cell e.v1 e.v2) s t;
+        near_as (middle (point_at pts e.v1) (point_at pts e.v2)) r (middle_cell e.v1 e.v2) s t;
     score = λ u e k.
-        cond (le (apart pts k e.v1) r && (le (apart pts k e.v2) r && fits-as 1 r e.v1 e.v2 k t))
-        (some (quality-as 1 r e.v1 e.v2 k t).quality_score) none;
+        cond (le (apart pts k e.v1) r && (le (apart pts k e.v2) r && fits_as 1 r e.v1 e.v2 k t))
+        (some (quality_as 1 r e.v1 e.v2 k t).quality_score) none;
   }
 
   -- ---- the second look: what had a score then is accepted now
-  again : (r : Float) (i j k : ℕ) → acceptedTo mins m M start c pts 1 r i j k ≡ acceptedTo mins m M start c pts 2 r i j k
-  again r i j k = fits-as 1 r i j k ∙ sym (fits-as 2 r i j k)
+  again : (r : Float) (i j k : ℕ) → accepted_to mins m M start c pts 1 r i j k ≡ accepted_to mins m M start c pts 2 r i j k
+  again r i j k = fits_as 1 r i j k ∙ sym (fits_as 2 r i j k)
 
   scored : (r : Float) (e : Edge) (k : ℕ)
-      → found-by.All (λ (x : Float). acceptedTo mins m M start c pts 2 r e.v1 e.v2 k ≡ true)
-      ((floatsTo mins m M start c pts).score r e k)
-  unfolding floatsTo
+      → found-by.All (λ (x : Float). accepted_to mins m M start c pts 2 r e.v1 e.v2 k ≡ true)
+      ((floats_to mins m M start c pts).score r e k)
+  unfolding floats_to
   scored r e k =
       go (le (apart pts k e.v1) r) (le (apart pts k e.v2) r)
-      (acceptedTo mins m M start c pts 1 r e.v1 e.v2 k) (sym (again r e.v1 e.v2 k))
+      (accepted_to mins m M start c pts 1 r e.v1 e.v2 k) (sym (again r e.v1 e.v2 k))
     where
-      go : (a b t : Bool) → acceptedTo mins m M start c pts 2 r e.v1 e.v2 k ≡ t
-          → found-by.All (λ (x : Float). acceptedTo mins m M start c pts 2 r e.v1 e.v2 k ≡ true)
-          (cond (a && (b && t)) (some (qualityTo mins m M start c pts 1 r e.v1 e.v2 k).quality_score) none)
+      go : (a b t : Bool) → accepted_to mins m M start c pts 2 r e.v1 e.v2 k ≡ t
+          → found-by.All (λ (x : Float). accepted_to mins m M start c pts 2 r e.v1 e.v2 k ≡ true)
+          (cond (a && (b && t)) (some (quality_to mins m M start c pts 1 r e.v1 e.v2 k).quality_score) none)
       go false b t q = tt
       go true false t q = tt
       go true true false q = tt
       go true true true q = q
 
-  looked-as : (accepts : ℕ → Bool) (o : Option ℕ) → found-by.All (λ (k : ℕ). accepts k ≡ true) o → looked accepts o ≡ o
+  looked_as : (accepts : ℕ → Bool) (o : Option ℕ) → found-by.All (λ (k : ℕ). accepts k ≡ true) o → looked accepts o ≡ o
   unfolding looked
-  looked-as accepts none q = refl
-  looked-as accepts (some k) q = rw q
+  looked_as accepts none q = refl
+  looked_as accepts (some k) q = rw q
 
-  rules-as : rulesTo mins m M start c pts ≡ searching (floatsTo mins m M start c pts) n
-  unfolding rulesTo
-  rules-as = λ t. record {
-    seedOf = λ r used. (searching (floatsTo mins m M start c pts) n).seedOf r used;
-    pivotOf = λ r used e.
-        looked-as (acceptedTo mins m M start c pts 2 r e.v1 e.v2)
-        ((searching (floatsTo mins m M start c pts) n).pivotOf r used e)
-        (pivot-passes (floatsTo mins m M start c pts) r used e (acceptedTo mins m M start c pts 2 r e.v1 e.v2)
+  rules_as : rules_to mins m M start c pts ≡ searching (floats_to mins m M start c pts) n
+  unfolding rules_to
+  rules_as = λ t. record {
+    seed_of = λ r used. (searching (floats_to mins m M start c pts) n).seed_of r used;
+    pivot_of = λ r used e.
+        looked_as (accepted_to mins m M start c pts 2 r e.v1 e.v2)
+        ((searching (floats_to mins m M start c pts) n).pivot_of r used e)
+        (pivot_passes (floats_to mins m M start c pts) r used e (accepted_to mins m M start c pts 2 r e.v1 e.v2)
         (scored r e) n) t;
   }
 
   -- ---- the radii
-  radii-as : radiiTo mins m M start c pts ≡ radiiOf c pts
-  unfolding radiiTo nearOf
-  radii-as =
-      ap (computeAdaptiveRadii start c pts)
-      (λ t i. near-as (pointAt pts i) (c.radius ⊗ f32 0x40400000) (point-cell i) cuts.sample-range t)
-      ∙ radii-loop pts normals c words floats start accepted given zero-start
+  radii_as : radii_to mins m M start c pts ≡ radii_of c pts
+  unfolding radii_to near_of
+  radii_as =
+      ap (compute_adaptive_radii start c pts)
+      (λ t i. near_as (point_at pts i) (c.radius ⊗ f32 0x40400000) (point_cell i) cuts.sample_range t)
+      ∙ radii_loop pts normals c words floats start accepted given zero-start
 
   -- ---- the laying
   abbrev source : Rules Float
-  source = searching (sourceFloats (scene_of c pts) pts) n
+  source = searching (source_floats (scene_of c pts) pts) n
 
-  each-radius : (rs : List Float) → All (λ (r : Float). SameRange h r × SameRange h (reach r)) rs
-      → All (λ (r : Float). rulesAt (searching (floatsTo mins m M start c pts) n) r ≡ rulesAt source r) rs
-  each-radius [] a = tt
-  each-radius (r ∷ rs) a = (
-    rules-agree (floatsTo mins m M start c pts) (sourceFloats (scene_of c pts) pts) n r
-        (floats-as r a.0.0 a.0.1),
-    each-radius rs a.1,
+  each_radius : (rs : List Float) → All (λ (r : Float). SameRange h r × SameRange h (reach r)) rs
+      → All (λ (r : Float). rules_at (searching (floats_to mins m M start c pts) n) r ≡ rules_at source r) rs
+  each_radius [] a = tt
+  each_radius (r ∷ rs) a = (
+    rules_agree (floats_to mins m M start c pts) (source_floats (scene_of c pts) pts) n r
+        (floats_as r a.0.0 a.0.1),
+    each_radius rs a.1,
   )
 
-  patch-as : patch (rulesTo mins m M start c pts) heapOf n (radiiTo mins m M start c pts) ≡ sourceLaid c pts
-  unfolding sourceLaid waitingAfter
-  patch-as =
-      ap₂ (λ (rules : Rules Float) (rs : List Float). patch rules heapOf n rs) rules-as radii-as
-      ∙ patch-agrees (searching (floatsTo mins m M start c pts) n) source heapOf n (radiiOf c pts)
-      (each-radius (radiiOf c pts) cuts.ranges)
-      ∙ ap (λ (k : ℕ). patch source (pop_of k) n (radiiOf c pts)) (sym rule)
+  patch_as : patch (rules_to mins m M start c pts) heap_of n (radii_to mins m M start c pts) ≡ source_laid c pts
+  unfolding source_laid waiting_after
+  patch_as =
+      ap₂ (λ (rules : Rules Float) (rs : List Float). patch rules heap_of n rs) rules_as radii_as
+      ∙ patch_agrees (searching (floats_to mins m M start c pts) n) source heap_of n (radii_of c pts)
+      (each_radius (radii_of c pts) cuts.ranges)
+      ∙ ap (λ (k : ℕ). patch source (pop_of k) n (radii_of c pts)) (sym rule)
 
   -- ---- the stop
-  source-within : NeighborsWithin n (sourceFloats (scene_of c pts) pts)
-  unfolding sourceFloats around scene_of
-  source-within = record {
-    near-below = λ r i. neighbors-below c.use_spatial_index h pts n (pointAt pts i) (reach r);
-    around-below = λ r e.
-        neighbors-below c.use_spatial_index h pts n (middle (pointAt pts e.v1) (pointAt pts e.v2)) r;
+  source_within : NeighborsWithin n (source_floats (scene_of c pts) pts)
+  unfolding source_floats around scene_of
+  source_within = record {
+    near_below = λ r i. neighbors_below c.use_spatial_index h pts n (point_at pts i) (reach r);
+    around_below = λ r e.
+        neighbors_below c.use_spatial_index h pts n (middle (point_at pts e.v1) (point_at pts e.v2)) r;
   }
 
-  source-few : length (sourceLaid c pts).faces ≤ 50000
-  unfolding sourceLaid
-  source-few =
-      laid-never-stopped n (sourceFloats (scene_of c pts) pts) source-within c.frontier_rule (radiiOf c pts) cloud.few
+  source_few : length (source_laid c pts).faces ≤ 50000
+  unfolding source_laid
+  source_few =
+      laid_never_stopped n (source_floats (scene_of c pts) pts) source_within c.frontier_rule (radii_of c pts) cloud.few
 
-  laid_as : laidTo mins m M start c pts ≡ sourceLaid c pts
-  unfolding laidTo
+  laid_as : laid_to mins m M start c pts ≡ source_laid c pts
+  unfolding laid_to
   laid_as =
-      never-stopping (rulesTo mins m M start c pts) heapOf n (radiiTo mins m M start c pts)
-      (subst (λ (s : State). length s.faces ≤ 50000) (sym patch-as) source-few)
-      ∙ patch-as
+      never_stopping (rules_to mins m M start c pts) heap_of n (radii_to mins m M start c pts)
+      (subst (λ (s : State). length s.faces ≤ 50000) (sym patch_as) source_few)
+      ∙ patch_as
 
-  found-at : (rs : List Float) → foundAtTo mins m M start c pts rs ≡ sourceFoundAt c pts rs
-  unfolding foundAtTo sourceFoundAt plainly
-  found-at [] = λ t. record { faces = plain-loop pts c.radius t; seeds = 0; looks = 0; pivots = 0 }
-  found-at (r ∷ rs) = ap laid laid_as
+  found_at_lem : (rs : List Float) → found_at_to mins m M start c pts rs ≡ source_found_at c pts rs
+  unfolding found_at_to source_found_at plainly
+  found_at_lem [] = λ t. record { faces = plain_loop pts c.radius t; seeds = 0; looks = 0; pivots = 0 }
+  found_at_lem (r ∷ rs) = ap laid laid_as
 
-  found_as : foundTo mins m M start c pts ≡ sourceFound c pts
-  unfolding foundTo sourceFound
-  found_as = found-at (radiiTo mins m M start c pts) ∙ ap (sourceFoundAt c pts) radii-as
+  found_as : found_to mins m M start c pts ≡ source_found c pts
+  unfolding found_to source_found
+  found_as = found_at_lem (radii_to mins m M start c pts) ∙ ap (source_found_at c pts) radii_as
 
-  answers-as : found c pts ≡ sourceFound c pts → (room : ℕ)
-      → reconstructedUnsplit pts normals c room words floats ≡ delivered 8 (sourceFound c pts) (radiiOf c pts) room
-  unfolding reconstructedUnsplit
-  answers-as e room =
-      rw (eq-eqb (reconstructRefusal pts normals c words floats).answer 0 accepted)
-      (ap (λ (f : Found). delivered 8 f (radiiOf c pts) room) e)
+  answers_as : found c pts ≡ source_found c pts → (room : ℕ)
+      → reconstructed_unsplit pts normals c room words floats ≡ delivered 8 (source_found c pts) (radii_of c pts) room
+  unfolding reconstructed_unsplit
+  answers_as e room =
+      rw (eq-eqb (reconstruct_refusal pts normals c words floats).answer 0 accepted)
+      (ap (λ (f : Found). delivered 8 f (radii_of c pts) room) e)
 
-  ours-but : OursBut c pts normals words floats (radiiOf c pts) (sourceFound c pts)
-  ours-but = record {
+  ours_but : OursBut c pts normals words floats (radii_of c pts) (source_found c pts)
+  ours_but = record {
     radii = refl;
-    exactly = (λ e. ap (λ (f : Found). count (areaZero pts) f.faces) (sym e) ∙ (beside c pts).none, (beside c pts).same);
-    answers = λ z room. answers-as ((beside c pts).same z) room;
+    exactly = (λ e. ap (λ (f : Found). count (area_zero pts) f.faces) (sym e) ∙ (beside c pts).none, (beside c pts).same);
+    answers = λ z room. answers_as ((beside c pts).same z) room;
   }
 
-pub as-published : AsPublished
-as-published mins m M start each zeros zero-start c pts normals words floats accepted given f32s rule =
-    let radii = radii-as mins m M start each zeros zero-start c pts normals words floats accepted given f32s
+pub as_published : AsPublished
+as_published mins m M start each zeros zero-start c pts normals words floats accepted given f32s rule =
+    let radii = radii_as mins m M start each zeros zero-start c pts normals words floats accepted given f32s
     rule in
     let found = found_as mins m M start each zeros zero-start c pts normals words floats accepted given f32s
     rule in
-    subst (λ (f : Found). OursBut c pts normals words floats (radiiTo mins m M start c pts) f) (sym found)
-    (subst (λ (rs : List Float). OursBut c pts normals words floats rs (sourceFound c pts)) (sym radii)
-    (ours-but mins m M start each zeros zero-start c pts normals words floats accepted given f32s rule))
+    subst (λ (f : Found). OursBut c pts normals words floats (radii_to mins m M start c pts) f) (sym found)
+    (subst (λ (rs : List Float). OursBut c pts normals words floats rs (source_found c pts)) (sym radii)
+    (ours_but mins m M start each zeros zero-start c pts normals words floats accepted given f32s rule))

@@ -34,8 +34,8 @@ abbrev pub tiny : Float
 tiny = f32 0x2edbe6ff
 
 -- abc / 4A, from the edges' lengths and the area
-unfoldable pub radiusOf : Float → Float → Float → Float → Float
-radiusOf a b c area = (a ⊗ b ⊗ c) ⊘ (four ⊗ area)
+unfoldable pub radius_of : Float → Float → Float → Float → Float
+radius_of a b c area = (a ⊗ b ⊗ c) ⊘ (four ⊗ area)
 
 -- the angle opposite to the edge a, by the law of cosines
 unfoldable pub angle : Float → Float → Float → Float
@@ -49,12 +49,12 @@ unfoldable pub largest : Float → Float → Float → Float
 largest a b c = maximum (maximum a b) c
 
 -- the inradius over the circumradius
-unfoldable pub aspectRatio : Float → Float → Float → Float → Float → Float
-aspectRatio a b c area radius = cond (lt tiny radius) (area ⊘ ((a ⊕ b ⊕ c) ⊗ half) ⊘ radius) (f32 0)
+unfoldable pub aspect_ratio : Float → Float → Float → Float → Float → Float
+aspect_ratio a b c area radius = cond (lt tiny radius) (area ⊘ ((a ⊕ b ⊕ c) ⊗ half) ⊘ radius) (f32 0)
 
 -- the longest edge over the shortest
-unfoldable pub edgeRatio : Float → Float → Float → Float
-edgeRatio a b c = cond (lt tiny (least a b c)) (largest a b c ⊘ least a b c) (inf false)
+unfoldable pub edge_ratio : Float → Float → Float → Float
+edge_ratio a b c = cond (lt tiny (least a b c)) (largest a b c ⊘ least a b c) (inf false)
 
 -- the mean of the qualities of angle, aspect and edges
 unfoldable pub score : Float → Float → Float → Float
@@ -68,8 +68,8 @@ measures a b c area radius =
     let angleB = angle b a c in
     let angleC = pi ⊖ angleA ⊖ angleB in
     let minAngle = least angleA angleB angleC in
-    let aspect = aspectRatio a b c area radius in
-    let edge = edgeRatio a b c in
+    let aspect = aspect_ratio a b c area radius in
+    let edge = edge_ratio a b c in
     record {
       aspect_ratio = aspect;
       min_angle = minAngle;

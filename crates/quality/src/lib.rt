@@ -2,8 +2,8 @@
 pub mod measure;
 
 ghost use Rattle.std.specs.Prelude.{◌≡◌};
-ghost use Rattle.quality.specs.Measures.{radiusOf, score};
-ghost use Rattle.quality.specs.Inner.Shape.{shape_of, qualityOf};
+ghost use Rattle.quality.specs.Measures.{radius_of, score};
+ghost use Rattle.quality.specs.Inner.Shape.{shape_of, quality_of};
 
 // Quality metrics for triangle evaluation.
 #[repr(C)]
@@ -27,7 +27,7 @@ pub struct Shape {
 
 // The circumradius.
 pub fn radius_of(a: f32, b: f32, c: f32, area: f32) -> f32
-    ensures { result ≡ radiusOf a b c area }
+    ensures { result ≡ radius_of a b c area }
 {
     (a * b * c) / (4.0 * area)
 }
@@ -53,7 +53,7 @@ pub fn shape_of(a: f32, b: f32, c: f32, area: f32) -> Shape
 // The quality of a triangle, from the lengths of its edges and its shape.
 pub fn quality_of(a: f32, b: f32, c: f32, shape: Shape) -> TriangleQuality
     requires { shape ≡ shape_of a b c shape.area }
-    ensures { result ≡ qualityOf a b c shape.area }
+    ensures { result ≡ quality_of a b c shape.area }
 {
     if shape.area < 1e-10 {
         return measure::degenerate(shape.area);

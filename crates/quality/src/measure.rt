@@ -1,8 +1,8 @@
 // A triangle's measures, from the lengths of its edges and its area.
 ghost use Rattle.std.specs.Prelude.{◌≡◌};
-ghost use Rattle.quality.specs.Measures.{radiusOf, angle, least, largest, aspectRatio, edgeRatio, measures};
+ghost use Rattle.quality.specs.Measures.{radius_of, angle, least, largest, aspect_ratio, edge_ratio, measures};
 ghost use Rattle.quality.specs.Measures.{degenerate};
-ghost use Rattle.quality.specs.Inner.Shape.{shape, flatShape};
+ghost use Rattle.quality.specs.Inner.Shape.{shape, flat_shape};
 
 use crate::{Shape, TriangleQuality};
 
@@ -26,7 +26,7 @@ fn largest(a: f32, b: f32, c: f32) -> f32
 }
 
 fn aspect_ratio(a: f32, b: f32, c: f32, area: f32, radius: f32) -> f32
-    ensures { result ≡ aspectRatio a b c area radius }
+    ensures { result ≡ aspect_ratio a b c area radius }
 {
     if radius > 1e-10 {
         area / ((a + b + c) * 0.5) / radius
@@ -36,7 +36,7 @@ fn aspect_ratio(a: f32, b: f32, c: f32, area: f32, radius: f32) -> f32
 }
 
 fn edge_ratio(a: f32, b: f32, c: f32) -> f32
-    ensures { result ≡ edgeRatio a b c }
+    ensures { result ≡ edge_ratio a b c }
 {
     let shortest = least(a, b, c);
     if shortest > 1e-10 {
@@ -59,7 +59,7 @@ pub fn shape(a: f32, b: f32, c: f32, area: f32) -> Shape
 
 // The shape of one that has next to none.
 pub fn flat(area: f32) -> Shape
-    ensures { result ≡ flatShape area }
+    ensures { result ≡ flat_shape area }
 {
     Shape {
         area,
@@ -71,7 +71,7 @@ pub fn flat(area: f32) -> Shape
 // The measures of a triangle that has an area.
 pub fn measures(a: f32, b: f32, c: f32, known: Shape) -> TriangleQuality
     requires { known ≡ shape a b c known.area }
-    ensures { result ≡ measures a b c known.area (radiusOf a b c known.area) }
+    ensures { result ≡ measures a b c known.area (radius_of a b c known.area) }
 {
     let angle_a = angle(a, b, c);
     let angle_b = angle(b, a, c);

@@ -4,8 +4,8 @@ mod nearest;
 mod samples;
 
 ghost use Rattle.std.specs.Prelude.{◌≡◌, take, drop};
-ghost use Rattle.regions.specs.Inner.Regions.{neighborsAt, usedAt};
-ghost use Rattle.radii.specs.Radii.{adaptiveRadii};
+ghost use Rattle.regions.specs.Inner.Regions.{neighbors_at, used_at};
+ghost use Rattle.radii.specs.Radii.{adaptive_radii};
 ghost use Rattle.radii.specs.Inner.Steps.{RadiiReady, RadiiListed};
 
 use grid::SpatialGrid;
@@ -30,9 +30,9 @@ pub fn compute_adaptive_radii(
     f: &mut [f32],
 ) -> Radii
     requires { RadiiReady config grid hash points.now n w.old f.old }
-    ensures { RadiiListed (adaptiveRadii config grid points.now n) result
-        × (take (neighborsAt n) w.new ≡ take (neighborsAt n) w.old)
-        × (drop (usedAt n) w.new ≡ drop (usedAt n) w.old) }
+    ensures { RadiiListed (adaptive_radii config grid points.now n) result
+        × (take (neighbors_at n) w.new ≡ take (neighbors_at n) w.old)
+        × (drop (used_at n) w.new ≡ drop (used_at n) w.old) }
 {
     if !config.adaptive_radius {
         return Radii {

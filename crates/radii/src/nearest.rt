@@ -3,8 +3,8 @@ ghost use Rattle.std.specs.Prelude.{◌≡◌, map, ◌+◌, ◌≤◌, ◌<◌,
 ghost use Rattle.numbers.specs.Root.{root};
 ghost use Rattle.grid.specs.Inner.Index.{CellsIndexed};
 ghost use Rattle.spatial_hash.specs.Inner.Near.{HashedAll};
-ghost use Rattle.regions.specs.Inner.Regions.{neighborsAt, usedAt, leastAt, radiiAt};
-ghost use Rattle.radii.specs.Radii.{nearestDistances};
+ghost use Rattle.regions.specs.Inner.Regions.{neighbors_at, used_at, least_at_lem, radii_at};
+ghost use Rattle.radii.specs.Radii.{nearest_distances};
 ghost use Rattle.radii.specs.Inner.Steps.{around_of};
 
 use grid::SpatialGrid;
@@ -40,8 +40,8 @@ fn take_roots(f: &mut [f32], at: usize, count: usize)
 
 // Until a sample has ten distances its tenth is none, so that the next one looks further.
 fn clear_tenth(f: &mut [f32], n: usize)
-    requires { (n ≤ 4096) × (radiiAt n ≤ length f.old) }
-    ensures { take (leastAt n) f.new ≡ take (leastAt n) f.old }
+    requires { (n ≤ 4096) × (radii_at n ≤ length f.old) }
+    ensures { take (least_at n) f.new ≡ take (least_at n) f.old }
 {
     f[n + 9] = 1.0 / 0.0;
 }
@@ -69,14 +69,14 @@ pub fn find_nearest(
     w: &mut [u32],
     f: &mut [f32],
 ) -> usize
-    requires { (i < n) × (radiiAt n ≤ length f.old) × HashedAll hash points.now n w.old
+    requires { (i < n) × (radii_at n ≤ length f.old) × HashedAll hash points.now n w.old
         × CellsIndexed grid points.now n w.old }
-    ensures { (take result (drop (leastAt n) f.new)
-        ≡ nearestDistances config grid points.now n i)
+    ensures { (take result (drop (least_at n) f.new)
+        ≡ nearest_distances config grid points.now n i)
         × (result ≤ 10)
-        × (take (leastAt n) f.new ≡ take (leastAt n) f.old)
-        × (take (neighborsAt n) w.new ≡ take (neighborsAt n) w.old)
-        × (drop (usedAt n) w.new ≡ drop (usedAt n) w.old) }
+        × (take (least_at n) f.new ≡ take (least_at n) f.old)
+        × (take (neighbors_at n) w.new ≡ take (neighbors_at n) w.old)
+        × (drop (used_at n) w.new ≡ drop (used_at n) w.old) }
 {
     let around = around_of(config, grid, points::point_at(points, i));
     let far = Guess {
@@ -92,7 +92,7 @@ pub fn find_nearest(
 // A guess for the next sample: a little more than the tenth distance of the last one, or than its guess if it had fewer
 // than ten. It grows slowly, since a look too wide costs more than one too narrow.
 pub fn guess_after(f: &[f32], n: usize, guess: f32) -> f32
-    requires { (n ≤ 4096) × (radiiAt n ≤ length f.now) }
+    requires { (n ≤ 4096) × (radii_at n ≤ length f.now) }
 {
     let next = f[n + 9] * 1.15;
     let most = guess * 1.2;

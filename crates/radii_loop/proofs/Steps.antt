@@ -16,75 +16,75 @@ use lib.Ieee.{Float, nan, inf, fin, binary32, up, down, below, round, neg, sum, 
 use lib.Ieee.Scale.{finite}
 use borrow.Author.Tests.{lt-ltb, le-ltb}
 use Rattle.numbers.specs.Rounded.{f32, ◌⊕◌, ◌⊖◌}
-use Rattle.numbers.proofs.RoundedOrder.{nonnegative-minus}
-use Rattle.numbers.proofs.SumOrder.{sub-nonnegative}
+use Rattle.numbers.proofs.RoundedOrder.{nonnegative_minus}
+use Rattle.numbers.proofs.SumOrder.{sub_nonnegative}
 use Rattle.sorting.specs.Each.{All}
 use Rattle.sorting.specs.Inner.Rising.{Rising}
 use Rattle.radii.specs.Radii.{total, spaced, dedup}
-use Rattle.radii_loop.specs.ComputeAdaptiveRadii.{absolute, spacedBy, dedupBy}
+use Rattle.radii_loop.specs.ComputeAdaptiveRadii.{absolute, spaced_by, dedup_by}
 use Rattle.numbers.specs.Inner.Bounds.{unsigned}
 
 -- ---- where a sum starts
-start-sum : (b c : ℕ) → sum binary32 true 0 false b c ≡ sum binary32 false 0 false b c
+start_sum : (b c : ℕ) → sum binary32 true 0 false b c ≡ sum binary32 false 0 false b c
 unfolding sum
-start-sum zero c = refl
-start-sum (suc b) c =
+start_sum zero c = refl
+start_sum (suc b) c =
     let e : suc b - 0 ≡ 0 + suc b = omega arith in
     rw (lt-ltb 0 (suc b) (omega arith)) (ap (λ (k : ℕ). round binary32 false k c) e)
 
-start-zero : (x : Float) → T (unsigned x) → neg (f32 0) ⊕ x ≡ f32 0 ⊕ x
+start_zero : (x : Float) → T (unsigned x) → neg (f32 0) ⊕ x ≡ f32 0 ⊕ x
 unfolding add neg of_bits
-start-zero nan u = absurd u
-start-zero (inf s) u = refl
-start-zero (fin true m e) u = absurd u
-start-zero (fin false m e) u =
+start_zero nan u = absurd u
+start_zero (inf s) u = refl
+start_zero (fin true m e) u = absurd u
+start_zero (fin false m e) u =
     let z : 0 * 1 * down e ≡ 0 = omega arith in
     ap (λ (a : ℕ). sum binary32 true a false (m * up e * 1) (1 * down e)) z
-    ∙ start-sum (m * up e * 1) (1 * down e)
+    ∙ start_sum (m * up e * 1) (1 * down e)
     ∙ sym (ap (λ (a : ℕ). sum binary32 false a false (m * up e * 1) (1 * down e)) z)
 
-pub total-start : (start : Float) → (start ≡ f32 0) ⊎ (start ≡ neg (f32 0)) → (x : Float) (xs : List Float)
+pub total_start : (start : Float) → (start ≡ f32 0) ⊎ (start ≡ neg (f32 0)) → (x : Float) (xs : List Float)
     → T (unsigned x)
     → total start (x ∷ xs) ≡ total (f32 0) (x ∷ xs)
 unfolding total
-total-start start (inl e) x xs u = ap (λ (s : Float). total (s ⊕ x) xs) e
-total-start start (inr e) x xs u =
-    ap (λ (s : Float). total (s ⊕ x) xs) e ∙ ap (λ (s : Float). total s xs) (start-zero x u)
+total_start start (inl e) x xs u = ap (λ (s : Float). total (s ⊕ x) xs) e
+total_start start (inr e) x xs u =
+    ap (λ (s : Float). total (s ⊕ x) xs) e ∙ ap (λ (s : Float). total s xs) (start_zero x u)
 
 -- ---- the sign of a difference that is not below 0
-below-plus : (a : ℕ) (t : Bool) (b : ℕ) → a ≡ 0 → below false a t b ≡ below true a t b
-below-plus a true b z = sym (le-ltb b a (omega arith))
-below-plus a false b z = let e : b ≡ 0 + b = omega arith in rw z (ap (ltb 0) e)
+below_plus : (a : ℕ) (t : Bool) (b : ℕ) → a ≡ 0 → below false a t b ≡ below true a t b
+below_plus a true b z = sym (le-ltb b a (omega arith))
+below_plus a false b z = let e : b ≡ 0 + b = omega arith in rw z (ap (ltb 0) e)
 
-lt-plus : (m : ℕ) (e : ℤ) (t : Float) → m * up e ≡ 0 → lt (fin false m e) t ≡ lt (fin true m e) t
+lt_plus : (m : ℕ) (e : ℤ) (t : Float) → m * up e ≡ 0 → lt (fin false m e) t ≡ lt (fin true m e) t
 unfolding lt
-lt-plus m e nan z = refl
-lt-plus m e (inf u) z = refl
-lt-plus m e (fin u n d) z =
+lt_plus m e nan z = refl
+lt_plus m e (inf u) z = refl
+lt_plus m e (fin u n d) z =
     let y : 0 * down d ≡ 0 = omega arith in
-    below-plus (m * up e * down d) u (n * up d * down e) (ap (λ (k : ℕ). k * down d) z ∙ y)
+    below_plus (m * up e * down d) u (n * up d * down e) (ap (λ (k : ℕ). k * down d) z ∙ y)
 
-absolute-lt : (y t : Float) → T (le (f32 0) y) → lt (absolute y) t ≡ lt y t
-absolute-lt nan t h = absurd (unfold le of_bits in h)
-absolute-lt (inf true) t h = absurd (unfold le of_bits in h)
-absolute-lt (inf false) t h = refl
-absolute-lt (fin false m e) t h = refl
-absolute-lt (fin true m e) t h = lt-plus m e t (nonnegative-minus (fin true m e) tt h)
+absolute_lt : (y t : Float) → T (le (f32 0) y) → lt (absolute y) t ≡ lt y t
+absolute_lt nan t h = absurd (unfold le of_bits in h)
+absolute_lt (inf true) t h = absurd (unfold le of_bits in h)
+absolute_lt (inf false) t h = refl
+absolute_lt (fin false m e) t h = refl
+absolute_lt (fin true m e) t h = lt_plus m e t (nonnegative_minus (fin true m e) tt h)
 
-pub spaced-same : (b : Float) (xs : List Float) → T (finite b) → All (λ (x : Float). T (finite x)) xs
-    → All (λ (x : Float). T (le b x)) xs → Rising xs → spacedBy b xs ≡ spaced b xs
-unfolding spacedBy spaced
-spaced-same b [] f fs l r = refl
-spaced-same b (a ∷ xs) f fs l r =
-    ap (λ (t : Bool). cond t (spacedBy b xs) (a ∷ spacedBy a xs))
-    (absolute-lt (a ⊖ b) (f32 0x358637bd) (sub-nonnegative a b fs.0 f l.0))
+pub spaced_same : (b : Float) (xs : List Float) → T (finite b) → All (λ (x : Float). T (finite x)) xs
+    → All (λ (x : Float). T (le b x)) xs → Rising xs → spaced_by b xs ≡ spaced b xs
+unfolding spaced_by spaced
+spaced_same b [] f fs l r = refl
+spaced_same b (a ∷ xs) f fs l r =
+    ap (λ (t : Bool). cond t (spaced_by b xs) (a ∷ spaced_by a xs))
+    (absolute_lt (a ⊖ b) (f32 0x358637bd) (sub_nonnegative a b fs.0 f l.0))
     ∙ ap₂ (λ (u v : List Float). cond (lt (a ⊖ b) (f32 0x358637bd)) u (a ∷ v))
-    (spaced-same b xs f fs.1 l.1 r.1) (spaced-same a xs fs.0 fs.1 r.0 r.1)
+    (spaced_same b xs f fs.1 l.1 r.1) (spaced_same a xs fs.0 fs.1 r.0 r.1)
 
-pub dedup_same : (xs : List Float) → All (λ (x : Float). T (finite x)) xs → Rising xs → dedupBy xs ≡ dedup xs
-unfolding dedupBy dedup
+pub dedup_same : (xs : List Float) → All (λ (x : Float). T (finite x)) xs → Rising xs → dedup_by xs ≡ dedup xs
+unfolding dedup_by dedup
 dedup_same [] fs r = refl
-dedup_same (x ∷ xs) fs r = ap (λ (l : List Float). x ∷ l) (spaced-same x xs fs.0 fs.1 r.0 r.1)
+dedup_same (x ∷ xs) fs r = ap (λ (l : List Float). x ∷ l) (spaced_same x xs fs.0 fs.1 r.0 r.1)
 
 -- ---- as many as there are, at most k
 pub take_min : (k : ℕ) (xs : List Float) → take (min k (length xs)) xs ≡ take k xs
@@ -97,6 +97,6 @@ take_min k xs = go (dec_lt k (length xs))
         ap (λ (j : ℕ). take j xs) e ∙ take-length xs ∙ sym (take_all k xs (omega arith))
 
 -- a test for more than none, turned
-pub some-none : (k : ℕ) (x y : List Float) → cond (ltb 0 k) x y ≡ cond (eqb k 0) y x
-some-none zero x y = refl
-some-none (suc k) x y = rw (lt-ltb 0 (suc k) (omega arith), eqb-suc-zero k) refl
+pub some_none : (k : ℕ) (x y : List Float) → cond (ltb 0 k) x y ≡ cond (eqb k 0) y x
+some_none zero x y = refl
+some_none (suc k) x y = rw (lt-ltb 0 (suc k) (omega arith), eqb-suc-zero k) refl

@@ -8,10 +8,10 @@ use Rattle.std.specs.Float.Ieee.{neg, lt, to_unsigned}
 use Rattle.numbers.specs.Rounded.{f32, ◌⊖◌, ◌⊗◌, ◌⊘◌}
 use Rattle.sorting.specs.Sorted.{whole}
 use Rattle.settings.specs.declared.BallPivotingConfig.{BallPivotingConfig}
-use Rattle.domain.specs.Refusals.{reconstructRefusal}
-use Rattle.radii.specs.Radii.{distancesTo, nearOf, total, step_of, sampleCount}
-use Rattle.ball_pivoting.specs.Reconstruct.{pointCount, spatialIndexOf, radiiOf}
-use Rattle.total_order.specs.TotalOrder.{totallySorted, Given}
+use Rattle.domain.specs.Refusals.{reconstruct_refusal}
+use Rattle.radii.specs.Radii.{distances_to, near_of, total, step_of, sample_count}
+use Rattle.ball_pivoting.specs.Reconstruct.{point_count, spatial_index_of, radii_of}
+use Rattle.total_order.specs.TotalOrder.{totally_sorted, Given}
 
 -- `abs`
 abbrev pub absolute : Float → Float
@@ -20,61 +20,61 @@ absolute (inf s) = inf false
 absolute (fin s m e) = fin false m e
 
 -- `dedup_by(|a, b| (*a - *b).abs() < 1e-6)`: a is a later radius, b the last one kept
-unfoldable pub spacedBy : Float → List Float → List Float
-spacedBy b [] = []
-spacedBy b (a ∷ rest) =
-    let dropped = spacedBy b rest in
-    let kept = spacedBy a rest in
+unfoldable pub spaced_by : Float → List Float → List Float
+spaced_by b [] = []
+spaced_by b (a ∷ rest) =
+    let dropped = spaced_by b rest in
+    let kept = spaced_by a rest in
     cond (lt (absolute (a ⊖ b)) (f32 0x358637bd)) dropped (a ∷ kept)
 
 -- the first radius stays
-unfoldable pub dedupBy : List Float → List Float
-dedupBy [] = []
-dedupBy (b ∷ rest) = b ∷ spacedBy b rest
+unfoldable pub dedup_by : List Float → List Float
+dedup_by [] = []
+dedup_by (b ∷ rest) = b ∷ spaced_by b rest
 
 -- a sum starts at `start`, and `near i` lists the neighbours of the sample i
 module _ (start : Float) (c : BallPivotingConfig) (points : List Float) (near : ℕ → List ℕ) where
   -- `distances` of the sample i, sorted
-  unfoldable pub distancesOf : ℕ → List Float
-  distancesOf i = totallySorted (distancesTo points i (near i))
+  unfoldable pub distances_of : ℕ → List Float
+  distances_of i = totally_sorted (distances_to points i (near i))
 
   -- `let k = 10.min(distances.len()); if k > 0 { .. distances.iter().take(k).sum::<f32>() / k as f32 .. }`, at m
   -- samples
-  unfoldable pub localDensities : ℕ → ℕ → ℕ → List Float
-  localDensities step i zero = []
-  localDensities step i (suc m) =
-      let later = localDensities step (i + step) m in
-      let distances = distancesOf i in
+  unfoldable pub local_densities : ℕ → ℕ → ℕ → List Float
+  local_densities step i zero = []
+  local_densities step i (suc m) =
+      let later = local_densities step (i + step) m in
+      let distances = distances_of i in
       let k = min 10 (length distances) in
       cond (ltb 0 k) (total start (take k distances) ⊘ whole k ∷ later) later
 
   -- `let index = ((local_densities.len() - 1) as f32 * percentile) as usize; local_densities[index] * 2.0`
-  unfoldable pub percentileRadius : List Float → Float → Float
-  percentileRadius densities p =
+  unfoldable pub percentile_radius : List Float → Float → Float
+  percentile_radius densities p =
       get_or densities (to_unsigned 64 (whole (length densities - 1) ⊗ p)) (f32 0) ⊗ f32 0x40000000
 
   -- the percentiles' radii, then the configured ones
   unfoldable pub pushed : List Float → List Float
   pushed densities =
-      map (percentileRadius densities) (take c.percentile_count c.adaptive_percentiles)
+      map (percentile_radius densities) (take c.percentile_count c.adaptive_percentiles)
       ++ (c.radius ∷ take c.additional_count c.additional_radii)
 
   -- `if local_densities.is_empty() { return Ok(()); }`, then the radii, sorted and spaced
   unfoldable pub chosen : List Float → List Float
   chosen [] = []
-  chosen (d ∷ ds) = dedupBy (totallySorted (pushed (totallySorted (d ∷ ds))))
+  chosen (d ∷ ds) = dedup_by (totally_sorted (pushed (totally_sorted (d ∷ ds))))
 
   -- the whole of it; every step-th point is a sample
-  unfoldable pub computeAdaptiveRadii : List Float
-  computeAdaptiveRadii =
-      let n = pointCount points in
-      cond c.adaptive_radius (chosen (localDensities (step_of n) 0 (sampleCount n))) []
+  unfoldable pub compute_adaptive_radii : List Float
+  compute_adaptive_radii =
+      let n = point_count points in
+      cond c.adaptive_radius (chosen (local_densities (step_of n) 0 (sample_count n))) []
 
--- The claim, for every accepted cloud, wherever a sum starts. `radii-loop` proves it.
+-- The claim, for every accepted cloud, wherever a sum starts. `radii_loop` proves it.
 abbrev pub RadiiLoop : Type 0
 RadiiLoop =
     (points normals : List Float) (c : BallPivotingConfig) (words floats : ℕ) (start : Float)
-    → (reconstructRefusal points normals c words floats).answer ≡ 0 → Given c
+    → (reconstruct_refusal points normals c words floats).answer ≡ 0 → Given c
     → (start ≡ f32 0) ⊎ (start ≡ neg (f32 0))
-    → computeAdaptiveRadii start c points (nearOf c (spatialIndexOf c points) points (pointCount points))
-    ≡ radiiOf c points
+    → compute_adaptive_radii start c points (near_of c (spatial_index_of c points) points (point_count points))
+    ≡ radii_of c points

@@ -8,43 +8,43 @@ use native.Mathlib.Omega.{arith}
 use native.Mathlib.Numerals.{add-one}
 use lib.ListN.{length, drop, get_or, drop_of_length-le}
 use lib.Ieee.{Float, nan, le, lt, eq}
-use Rattle.lists.proofs.Bools.{and-false}
+use Rattle.lists.proofs.Bools.{and_false}
 use Rattle.ranges.specs.Range.{inside, leading}
 
 module _ (lo hi : Float) where
   -- a not-a-number is outside every range
-  pub inside-nan : inside lo hi nan ≡ false
+  pub inside_nan : inside lo hi nan ≡ false
   unfolding inside le lt eq
-  inside-nan = and-false (le lo nan)
+  inside_nan = and_false (le lo nan)
 
-  leading-suc : (xs : List Float) (i : ℕ) → leading lo hi (drop i xs) ≡ cond (inside lo hi (get_or xs i nan)) (suc (leading lo hi (drop (suc i) xs))) 0
+  leading_suc : (xs : List Float) (i : ℕ) → leading lo hi (drop i xs) ≡ cond (inside lo hi (get_or xs i nan)) (suc (leading lo hi (drop (suc i) xs))) 0
   unfolding leading
-  leading-suc [] zero = rw inside-nan
-  leading-suc [] (suc i) = rw inside-nan
-  leading-suc (x ∷ xs) zero = refl
-  leading-suc (x ∷ xs) (suc i) = leading-suc xs i
+  leading_suc [] zero = rw inside_nan
+  leading_suc [] (suc i) = rw inside_nan
+  leading_suc (x ∷ xs) zero = refl
+  leading_suc (x ∷ xs) (suc i) = leading_suc xs i
 
   -- a turn of the loop at index i, whose test is b
   module _ (xs : List Float) (i : ℕ) (b : Bool) (test : b ≡ inside lo hi (get_or xs i nan)) (inv : leading lo hi xs ≡ i + leading lo hi (drop i xs)) where
     step : leading lo hi (drop i xs) ≡ cond b (suc (leading lo hi (drop (i + 1) xs))) 0
     step =
-        leading-suc xs i
+        leading_suc xs i
         ∙ ap (λ (t : Bool). cond t (suc (leading lo hi (drop (suc i) xs))) 0) (sym test)
         ∙ ap (λ (k : ℕ). cond b (suc (leading lo hi (drop k xs))) 0) (sym (add-one i))
 
-    pub leading-found : b ≡ false → leading lo hi xs ≡ i
-    leading-found e =
+    pub leading_found : b ≡ false → leading lo hi xs ≡ i
+    leading_found e =
         let s : leading lo hi (drop i xs) ≡ 0 = step ∙ ap (λ (t : Bool). cond t (suc (leading lo hi (drop (i + 1) xs))) 0) e in
         omega arith
 
-    pub leading-passed : b ≡ true → leading lo hi xs ≡ i + 1 + leading lo hi (drop (i + 1) xs)
-    leading-passed e =
+    pub leading_passed : b ≡ true → leading lo hi xs ≡ i + 1 + leading lo hi (drop (i + 1) xs)
+    leading_passed e =
         let s : leading lo hi (drop i xs)
         ≡ suc (leading lo hi (drop (i + 1) xs)) = step ∙ ap (λ (t : Bool). cond t (suc (leading lo hi (drop (i + 1) xs))) 0) e in
         omega arith
 
-  pub leading-start : (xs : List Float) → leading lo hi xs ≡ 0 + leading lo hi (drop 0 xs)
-  leading-start xs = omega arith
+  pub leading_start : (xs : List Float) → leading lo hi xs ≡ 0 + leading lo hi (drop 0 xs)
+  leading_start xs = omega arith
 
   pub leading_end : (xs : List Float) (i : ℕ) → length xs ≤ i → leading lo hi xs ≡ i + leading lo hi (drop i xs) → leading lo hi xs ≡ i
   unfolding leading
@@ -53,10 +53,10 @@ module _ (lo hi : Float) where
       omega arith
 
   -- every value before the first that is outside is inside
-  pub leading-inside : (xs : List Float) (k : ℕ) → k < leading lo hi xs → inside lo hi (get_or xs k nan) ≡ true
+  pub leading_inside : (xs : List Float) (k : ℕ) → k < leading lo hi xs → inside lo hi (get_or xs k nan) ≡ true
   unfolding leading
-  leading-inside [] k h = absurd (not-suc-le-zero h)
-  leading-inside (x ∷ xs) k h = at (inside lo hi x) refl k h (λ j l. leading-inside xs j l)
+  leading_inside [] k h = absurd (not-suc-le-zero h)
+  leading_inside (x ∷ xs) k h = at (inside lo hi x) refl k h (λ j l. leading_inside xs j l)
     where
       at : (b : Bool) → inside lo hi x ≡ b → (j : ℕ) → j < cond b (suc (leading lo hi xs)) 0
           → ((i : ℕ) → i < leading lo hi xs → inside lo hi (get_or xs i nan) ≡ true) → inside lo hi (get_or (x ∷ xs) j nan) ≡ true
@@ -64,10 +64,10 @@ module _ (lo hi : Float) where
       at true e zero l rest = e
       at true e (suc j) l rest = rest j (le_of_suc-le-suc l)
 
-  pub leading-most : (xs : List Float) → leading lo hi xs ≤ length xs
+  pub leading_most : (xs : List Float) → leading lo hi xs ≤ length xs
   unfolding leading
-  leading-most [] = omega arith
-  leading-most (x ∷ xs) = at (inside lo hi x) (leading-most xs)
+  leading_most [] = omega arith
+  leading_most (x ∷ xs) = at (inside lo hi x) (leading_most xs)
     where
       at : (b : Bool) → leading lo hi xs ≤ length xs → cond b (suc (leading lo hi xs)) 0 ≤ suc (length xs)
       at true l = omega arith

@@ -17,9 +17,9 @@ pub record Reaches {R : Type 0} (a : Floats R) (n : ℕ) (r : R) : Type 0 where
   pub second : 1 ≤ count (eqb j) (a.near r i)
   pub third : 1 ≤ count (eqb k) (a.near r i)
   -- and no two are too far apart
-  pub close-ij : a.close r i j ≡ true
-  pub close-ik : a.close r i k ≡ true
-  pub close-jk : a.close r j k ≡ true
+  pub close_ij : a.close r i j ≡ true
+  pub close_ik : a.close r i k ≡ true
+  pub close_jk : a.close r j k ≡ true
 
 -- neighbours and close points at one radius are so at the other
 pub record Grows {R : Type 0} (a : Floats R) (r s : R) : Type 0 where
@@ -27,9 +27,9 @@ pub record Grows {R : Type 0} (a : Floats R) (r s : R) : Type 0 where
   pub close : (i j : ℕ) → a.close r i j ≡ true → a.close s i j ≡ true
 
 -- the last of a list that begins with r
-unfoldable pub lastFrom : {R : Type 0} → R → List R → R
-lastFrom r [] = r
-lastFrom r (s ∷ rs) = lastFrom s rs
+unfoldable pub last_from : {R : Type 0} → R → List R → R
+last_from r [] = r
+last_from r (s ∷ rs) = last_from s rs
 
 -- all of a list
 abbrev pub Each : {R : Type 0} → (R → Type 0) → List R → Type 0

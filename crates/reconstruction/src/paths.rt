@@ -3,15 +3,15 @@ ghost use Rattle.std.specs.Prelude.{◌≡◌, [], ◌-◌, ◌/◌, ◌≤◌, 
 ghost use Rattle.std.specs.Float.{nan};
 ghost use Rattle.patch.specs.Lay.{patch, blank};
 ghost use Rattle.patch.specs.Frontier.{pop_of};
-ghost use Rattle.laying.specs.Inner.Laying.{AllSearchable, rulesOf};
+ghost use Rattle.laying.specs.Inner.Laying.{AllSearchable, rules_of};
 ghost use Rattle.radii.specs.Inner.Steps.{RadiiListed};
-ghost use Rattle.decisions.specs.Decisions.{floatsOf};
-ghost use Rattle.plain.specs.Reached.{plainReached};
+ghost use Rattle.decisions.specs.Decisions.{floats_of};
+ghost use Rattle.plain.specs.Reached.{plain_reached};
 ghost use Rattle.reaching.specs.Reaching.{reaches};
 ghost use Rattle.judged.specs.Inner.Triples.{Fresh};
-ghost use Rattle.ball_pivoting.specs.Reconstruct.{pointCount, radiiOf, laid, plainly, found, reasonBy, reason};
-ghost use Rattle.origins.specs.Inner.Following.{marksFrom};
-ghost use Rattle.ball_pivoting.specs.Inner.Parts.{WorkReady, marksOf, Finds};
+ghost use Rattle.ball_pivoting.specs.Reconstruct.{point_count, radii_of, laid, plainly, found, reason_by, reason};
+ghost use Rattle.origins.specs.Inner.Following.{marks_from};
+ghost use Rattle.ball_pivoting.specs.Inner.Parts.{WorkReady, marks_of, Finds};
 
 use ball_pivoting::Finding;
 use decisions::Scene;
@@ -30,7 +30,7 @@ fn reason_after(
 ) -> u32
     requires { laid ≡ 0 → Fresh scene hash points.now words.old }
     ensures { laid ≡ 0
-        → result ≡ reasonBy scene.n (reaches (floatsOf scene points.now) scene.n largest) }
+        → result ≡ reason_by scene.n (reaches (floats_of scene points.now) scene.n largest) }
 {
     if laid > 0 {
         return 0;
@@ -51,7 +51,7 @@ pub fn find_plain(
     requires { (length points.now / 3 ≤ 4096) × (length points.now / 3 ≤ length words.old)
         × (length points.now / 3 ≤ length floats.old) × RadiiListed [] radii }
     ensures { Finds
-        (reasonBy (pointCount points.now) (plainReached points.now settings.radius))
+        (reason_by (point_count points.now) (plain_reached points.now settings.radius))
         (plainly settings points.now) [] [] faces.old result faces.new }
 {
     let laid = plain::simple_triangulate(points, settings.radius, words, floats, faces);
@@ -81,11 +81,11 @@ pub fn find_pivoting(
         × RadiiListed (take radii.count radii.list) radii
         × (0 < radii.count) }
     ensures { Finds
-        (reasonBy scene.n
-        (reaches (floatsOf scene points.now) scene.n (get_or radii.list (radii.count - 1) nan)))
-        (laid (patch (rulesOf scene points.now) (pop_of rule) scene.n (take radii.count radii.list)))
+        (reason_by scene.n
+        (reaches (floats_of scene points.now) scene.n (get_or radii.list (radii.count - 1) nan)))
+        (laid (patch (rules_of scene points.now) (pop_of rule) scene.n (take radii.count radii.list)))
         (take radii.count radii.list)
-        (marksFrom (rulesOf scene points.now) (pop_of rule) scene.n (take radii.count radii.list)
+        (marks_from (rules_of scene points.now) (pop_of rule) scene.n (take radii.count radii.list)
         (blank scene.n))
         faces.old result faces.new }
 {
@@ -118,7 +118,7 @@ pub fn find(
 ) -> Finding
     requires { WorkReady settings points.now words.old floats.old }
     ensures { Finds (reason settings points.now) (found settings points.now)
-        (radiiOf settings points.now) (marksOf settings points.now) faces.old result
+        (radii_of settings points.now) (marks_of settings points.now) faces.old result
         faces.new }
 {
     let known = surveying::survey(points, settings, words, floats);

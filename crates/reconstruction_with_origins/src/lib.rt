@@ -2,8 +2,8 @@
 // for.
 ghost use Rattle.std.specs.Prelude.{◌≡◌, [], ◌/◌, ◌≤◌, length};
 ghost use Rattle.radii.specs.Inner.Steps.{RadiiListed};
-ghost use Rattle.plain.specs.Reached.{plainReached};
-ghost use Rattle.ball_pivoting.specs.Reconstruct.{pointCount, plainly, reasonBy};
+ghost use Rattle.plain.specs.Reached.{plain_reached};
+ghost use Rattle.ball_pivoting.specs.Reconstruct.{point_count, plainly, reason_by};
 ghost use Rattle.ball_pivoting.specs.Inner.Parts.{WorkReady, Finds};
 ghost use Rattle.origins_outcome.specs.Outcome.{ReconstructsWithOrigins};
 ghost use Rattle.origins_outcome.specs.Inner.Parts.{FindsFor};
@@ -24,7 +24,7 @@ fn count_plain(
     requires { (length points.now / 3 ≤ 4096) × (length points.now / 3 ≤ length words.old)
         × (length points.now / 3 ≤ length floats.old) × RadiiListed [] radii }
     ensures { Finds
-        (reasonBy (pointCount points.now) (plainReached points.now settings.radius))
+        (reason_by (point_count points.now) (plain_reached points.now settings.radius))
         (plainly settings points.now) [] [] [] result []
         × (faces.new ≡ faces.old) }
 {

@@ -2,23 +2,23 @@
 -- nothing.
 use Prim.Native.Nat.{ℕ, ◌≤◌}
 use native.Mathlib.Omega.{arith}
-use Rattle.regions.specs.Inner.Regions.{Apart, words, wordsEnd, wordsLength, floats, radiiEnd, floatsLength}
-use Rattle.regions.specs.Inner.Ordering.{orderingWords, placedEnd}
+use Rattle.regions.specs.Inner.Regions.{Apart, words, words_end, words_length, floats, radii_end, floats_length}
+use Rattle.regions.specs.Inner.Ordering.{ordering_words, placed_end}
 
-pub words-apart : (n : ℕ) → Apart 0 (wordsEnd n) (words n)
-words-apart n = omega arith
+pub words_apart : (n : ℕ) → Apart 0 (words_end n) (words n)
+words_apart n = omega arith
 
-pub words-fit : (n : ℕ) → wordsEnd n ≤ wordsLength n
-words-fit n = omega arith
+pub words_fit : (n : ℕ) → words_end n ≤ words_length n
+words_fit n = omega arith
 
-pub ordering-apart : (n : ℕ) → Apart 0 (placedEnd n) (orderingWords n)
-ordering-apart n = omega arith
+pub ordering_apart : (n : ℕ) → Apart 0 (placed_end n) (ordering_words n)
+ordering_apart n = omega arith
 
-pub ordering-fit : (n : ℕ) → placedEnd n ≤ wordsLength n
-ordering-fit n = omega arith
+pub ordering_fit : (n : ℕ) → placed_end n ≤ words_length n
+ordering_fit n = omega arith
 
-pub floats-apart : (n : ℕ) → Apart 0 (radiiEnd n) (floats n)
-floats-apart n = omega arith
+pub floats_apart : (n : ℕ) → Apart 0 (radii_end n) (floats n)
+floats_apart n = omega arith
 
-pub floats-fit : (n : ℕ) → radiiEnd n ≤ floatsLength n
-floats-fit n = omega arith
+pub floats_fit : (n : ℕ) → radii_end n ≤ floats_length n
+floats_fit n = omega arith

@@ -1,5 +1,5 @@
 -- `Near k p q`: p is at most q, but for k rounding errors, each of a part of at most 2 ^ -24. It goes through products
--- and sums (`near_mul`, `near_add`) and roots (`near-root`), so that an error analysis is a chain of such facts, and at
+-- and sums (`near_mul`, `near_add`) and roots (`near_root`), so that an error analysis is a chain of such facts, and at
 -- its end the count of errors is set against a margin (`near_within`). Assumes nothing.
 use mathlib.Core.Path.{◌≡◌, sym, ap, ◌∙◌, subst}
 use Prim.Native.Nat.{ℕ, ◌+◌, ◌*◌, ◌^◌, ◌≤◌, ◌<◌}
@@ -16,15 +16,15 @@ pub record Near (k p q : ℕ) : Type 0 where
 pub near_le : {p q : ℕ} → p ≤ q → Near 0 p q
 near_le h = record { near = mul-le-mul_right 1 h }
 
-pub near-self : (k p : ℕ) → Near k p p
+pub near_self : (k p : ℕ) → Near k p p
 unfolding IsLe
-near-self k p = record { near = mul-le-mul_left p (pow-le-pow_left (le_by_compare 16777215 16777216 tt) k) }
+near_self k p = record { near = mul-le-mul_left p (pow-le-pow_left (le_by_compare 16777215 16777216 tt) k) }
 
-pub near-eq : {k p q r s : ℕ} → p ≡ r → q ≡ s → Near k p q → Near k r s
-near-eq {k} {p} {q} {r} {s} e g h = subst (λ (x : ℕ). Near k x s) e (subst (λ (x : ℕ). Near k p x) g h)
+pub near_eq : {k p q r s : ℕ} → p ≡ r → q ≡ s → Near k p q → Near k r s
+near_eq {k} {p} {q} {r} {s} e g h = subst (λ (x : ℕ). Near k x s) e (subst (λ (x : ℕ). Near k p x) g h)
 
-pub near-trans : {j k p q r : ℕ} → Near j p q → Near k q r → Near (j + k) p r
-near-trans {j} {k} {p} {q} {r} h i = record {
+pub near_trans : {j k p q r : ℕ} → Near j p q → Near k q r → Near (j + k) p r
+near_trans {j} {k} {p} {q} {r} h i = record {
   near =
       let L : ℕ = 16777215 in
       let H : ℕ = 16777216 in
@@ -46,23 +46,23 @@ near_add {k} {p} {q} {r} {s} h i = record {
 }
 
 -- more errors
-pub near-more : {j p q : ℕ} (k : ℕ) → Near j p q → Near (j + k) p q
-near-more {j} {p} {q} k h = near-trans h (near-self k q)
+pub near_more : {j p q : ℕ} (k : ℕ) → Near j p q → Near (j + k) p q
+near_more {j} {p} {q} k h = near_trans h (near_self k q)
 
-pub near-square : {k p q : ℕ} → Near k p q → Near (k + k) (p * p) (q * q)
-near-square h = near_mul h h
+pub near_square : {k p q : ℕ} → Near k p q → Near (k + k) (p * p) (q * q)
+near_square h = near_mul h h
 
 -- p and q many times
 pub near_times : {k p q : ℕ} (c : ℕ) → Near k p q → Near k (p * c) (q * c)
 near_times {k} {p} {q} c h = record { near = rw (mul_right_comm p c, mul_right_comm q c) (mul-le-mul_right c h.near) }
 
-pub near-cancel : {k p q : ℕ} (c : ℕ) → 0 < c → Near k (p * c) (q * c) → Near k p q
-near-cancel {k} {p} {q} c C h = record {
+pub near_cancel : {k p q : ℕ} (c : ℕ) → 0 < c → Near k (p * c) (q * c) → Near k p q
+near_cancel {k} {p} {q} c C h = record {
   near = le_of_mul-le-mul_right (rw (mul_right_comm p c, mul_right_comm q c) at h.near) C;
 }
 
-pub square-back : (p q : ℕ) → p * p ≤ q * q → p ≤ q
-square-back p q h = go (dec_le p q)
+pub square_back : (p q : ℕ) → p * p ≤ q * q → p ≤ q
+square_back p q h = go (dec_le p q)
   where
     go : Dec (p ≤ q) → p ≤ q
     go (yes k) = k
@@ -72,9 +72,9 @@ square-back p q h = go (dec_le p q)
         let b : q * q ≤ q * p = mul-le-mul_left q (omega arith) in
         absurd (omega arith)
 
-pub near-root : {k p q : ℕ} → Near (k + k) (p * p) (q * q) → Near k p q
-near-root {k} {p} {q} h = record {
-  near = square-back (p * 16777215 ^ k) (q * 16777216 ^ k)
+pub near_root : {k p q : ℕ} → Near (k + k) (p * p) (q * q) → Near k p q
+near_root {k} {p} {q} h = record {
+  near = square_back (p * 16777215 ^ k) (q * 16777216 ^ k)
       (rw (pow-add 16777215 k k, pow-add 16777216 k k, mul-mul-mul_comm p p, mul-mul-mul_comm q q) at h.near);
 }
 
@@ -90,6 +90,6 @@ near_within {p} {q} k m n c h = go (16777215 ^ k) (16777216 ^ k) (one-le-pow k 1
         le_of_mul-le-mul_right g L
 
 -- three errors are less than a half
-pub near-twice : {p q : ℕ} → Near 3 p q → p ≤ 2 * q
+pub near_twice : {p q : ℕ} → Near 3 p q → p ≤ 2 * q
 unfolding IsLe
-near-twice {p} {q} h = let i = near_within {p = p} {q = q} 3 1 2 (le_by_compare (1 * 16777216 ^ 3) (2 * 16777215 ^ 3) tt) h in omega arith
+near_twice {p} {q} h = let i = near_within {p = p} {q = q} 3 1 2 (le_by_compare (1 * 16777216 ^ 3) (2 * 16777215 ^ 3) tt) h in omega arith

@@ -1,5 +1,5 @@
--- The rounding errors of the f32 sum, product, quotient and root of numbers above zero (`add-units`, `mul-units`,
--- `div-units`, `root-units`). Assumes nothing.
+-- The rounding errors of the f32 sum, product, quotient and root of numbers above zero (`add_units`, `mul_units`,
+-- `div_units`, `root_units`). Assumes nothing.
 use mathlib.Core.Path.{◌≡◌, refl, sym, ap, ◌∙◌, subst}
 use Prim.Native.Nat.{ℕ, zero, suc, ◌+◌, ◌*◌, ◌^◌, ◌≤◌, ◌<◌}
 use native.Mathlib.Nat.{le_trans, le_of_eq, le-add_right, zero-lt-suc, mul-one, mul-le-mul, mul-le-mul_left, mul-le-mul_right, le_of_mul-le-mul_right, mul-pos}
@@ -15,15 +15,15 @@ use lib.Ieee.Exact.{HasValue}
 use lib.Ieee.Scale.{round_same}
 use lib.Ieee.Positive.{num, den, den_pos, positive, positive-finite, values_of_le, value→cross, between, mul_at, positive_of_value}
 use Rattle.numbers.specs.Rounded.{◌⊕◌, ◌⊗◌, ◌⊘◌}
-use Rattle.numbers.specs.Root.{nearestRoot, rootOfUnits, root}
+use Rattle.numbers.specs.Root.{nearest_root, root_of_units, root}
 use Rattle.numbers.specs.Order.{minimum}
-use Rattle.numbers.proofs.OrderLaws.{finite_number, lt-le, not-lt-le}
-use Rattle.numbers.proofs.RootPattern.{units-value}
+use Rattle.numbers.proofs.OrderLaws.{finite_number, lt_le, not_lt_le}
+use Rattle.numbers.proofs.RootPattern.{units_value}
 use Rattle.numbers.proofs.RootWhole as whole
-use Rattle.numbers.proofs.RootUnits.{finer, scaled, root-of-value}
-use Rattle.numbers.proofs.RootGrid.{f32-whole, on-grid, scaling, below_top}
-use Rattle.rounding_errors.proofs.Near.{Near, near-eq, near_times, near-twice, square-back}
-use Rattle.rounding_errors.proofs.Rounding.{Units, units-pos, units-positive, Rounded, round-units}
+use Rattle.numbers.proofs.RootUnits.{finer, scaled, root_of_value}
+use Rattle.numbers.proofs.RootGrid.{f32_whole, on_grid, scaling, below_top}
+use Rattle.rounding_errors.proofs.Near.{Near, near_eq, near_times, near_twice, square_back}
+use Rattle.rounding_errors.proofs.Rounding.{Units, units_pos, units_positive, Rounded, round_units}
 
 -- ---- ranges
 
@@ -55,9 +55,9 @@ powers : (a b c d : ℕ) → a + b ≤ c + d → 2 ^ a * 2 ^ b ≤ 2 ^ c * 2 ^ d
 powers a b c d h = le_trans (le_of_eq (sym (pow-add 2 a b))) (le_trans (pow_mono h) (le_of_eq (pow-add 2 c d)))
 
 -- an f32 from one power of two to another
-pub between-units : (x lo hi : Float) (i j : ℕ) → T (fits binary32 x) → HasValue lo false (2 ^ i) (2 ^ 149) → HasValue hi false (2 ^ j) (2 ^ 149) → T (le lo x)
+pub between_units : (x lo hi : Float) (i j : ℕ) → T (fits binary32 x) → HasValue lo false (2 ^ i) (2 ^ 149) → HasValue hi false (2 ^ j) (2 ^ 149) → T (le lo x)
     → T (le x hi) → (n : ℕ) × Units x n i j
-between-units x lo hi i j f v w l h =
+between_units x lo hi i j f v w l h =
     let p = positive_of_value lo (2 ^ i) (2 ^ 149) v (pow_pos i) in
     let q = positive_of_value hi (2 ^ j) (2 ^ 149) w (pow_pos j) in
     let k = between lo x hi p q l h in
@@ -74,11 +74,11 @@ between-units x lo hi i j f v w l h =
     value nan f p = absurd p
     value (inf s) f p = absurd p
     value (fin true m e) f p = absurd p
-    value (fin false m e) f p = let w = f32-whole false m e f in (w.0, w.1)
+    value (fin false m e) f p = let w = f32_whole false m e f in (w.0, w.1)
 
-pub units-le : {x y : Float} {m n i j k l : ℕ} → Units x m i j → Units y n k l → T (le x y) → m ≤ n
-units-le {x} {y} {m} {n} u v h =
-    le_of_mul-le-mul_right (values_of_le x y m (2 ^ 149) n (2 ^ 149) (units-positive u) (units-positive v) u.value v.value h) (pow_pos 149)
+pub units_le : {x y : Float} {m n i j k l : ℕ} → Units x m i j → Units y n k l → T (le x y) → m ≤ n
+units_le {x} {y} {m} {n} u v h =
+    le_of_mul-le-mul_right (values_of_le x y m (2 ^ 149) n (2 ^ 149) (units_positive u) (units_positive v) u.value v.value h) (pow_pos 149)
 
 -- the smaller of two
 pub record Least (x : Float) (m n i j : ℕ) : Type 0 where
@@ -87,12 +87,12 @@ pub record Least (x : Float) (m n i j : ℕ) : Type 0 where
   pub first : k ≤ m
   pub second : k ≤ n
 
-pub minimum-units : {x y : Float} {m n i j : ℕ} → Units x m i j → Units y n i j → Least (minimum x y) m n i j
+pub minimum_units : {x y : Float} {m n i j : ℕ} → Units x m i j → Units y n i j → Least (minimum x y) m n i j
 unfolding minimum
-minimum-units {x} {y} {m} {n} {i} {j} u v =
-    let N = finite_number x (positive-finite x (units-positive u)) in
-    let M = finite_number y (positive-finite y (units-positive v)) in
-    rw (no_nan x N) (go (lt y x) (λ h. units-le v u (lt-le y x h)) (λ h. units-le u v (not-lt-le y x M N h)))
+minimum_units {x} {y} {m} {n} {i} {j} u v =
+    let N = finite_number x (positive-finite x (units_positive u)) in
+    let M = finite_number y (positive-finite y (units_positive v)) in
+    rw (no_nan x N) (go (lt y x) (λ h. units_le v u (lt_le y x h)) (λ h. units_le u v (not_lt_le y x M N h)))
   where
     no_nan : (x : Float) → T (not (is_nan x)) → is_nan x ≡ false
     no_nan x h = flag (is_nan x) h
@@ -107,13 +107,13 @@ minimum-units {x} {y} {m} {n} {i} {j} u v =
 
 -- ---- products, quotients and sums
 
-pub mul-units : {x y : Float} {m n i j k l : ℕ} (e f : ℕ) → Units x m i j → Units y n k l → T (in_range e f (e + 149) (i + k) (j + l) (f + 149))
+pub mul_units : {x y : Float} {m n i j k l : ℕ} (e f : ℕ) → Units x m i j → Units y n k l → T (in_range e f (e + 149) (i + k) (j + l) (f + 149))
     → Rounded (x ⊗ y) (2 ^ 149) (m * n) e f
-mul-units {x} {y} {m} {n} {i} {j} {k} {l} e f u v t =
+mul_units {x} {y} {m} {n} {i} {j} {k} {l} e f u v t =
     let r = ranged e f (e + 149) (i + k) (j + l) (f + 149) t in
     subst (λ (z : Float). Rounded z (2 ^ 149) (m * n) e f)
-    (sym (mul_at binary32 x y m (2 ^ 149) n (2 ^ 149) (units-positive u) (units-positive v) (pow_pos 149) (pow_pos 149) u.value v.value))
-    (round-units (m * n) (2 ^ 149) e f (pow_pos 149) r.normal r.small r.bounded (le_trans (powers e 149 i k r.under) (mul-le-mul u.low v.low))
+    (sym (mul_at binary32 x y m (2 ^ 149) n (2 ^ 149) (units_positive u) (units_positive v) (pow_pos 149) (pow_pos 149) u.value v.value))
+    (round_units (m * n) (2 ^ 149) e f (pow_pos 149) r.normal r.small r.bounded (le_trans (powers e 149 i k r.under) (mul-le-mul u.low v.low))
     (le_trans (mul-le-mul u.high v.high) (powers j l f 149 r.over)))
 
 div_is : (f : Format) (x y : Float) → T (positive x) → T (positive y) → div f x y ≡ round f false (num x * den y) (num y * den x)
@@ -127,12 +127,12 @@ div_is f (fin false m e) (fin true n d) p q = absurd q
 div_is f (fin false m e) (fin false zero d) p q = absurd q
 div_is f (fin false m e) (fin false (suc n) d) p q = rw (eqb-suc-zero n)
 
-pub div-at : {x y : Float} {m n i j k l : ℕ} → Units x m i j → Units y n k l → x ⊘ y ≡ round binary32 false (m * 2 ^ 149) (n * 2 ^ 149)
-div-at {x} {y} {m} {n} u v =
-    div_is binary32 x y (units-positive u) (units-positive v)
+pub div_at : {x y : Float} {m n i j k l : ℕ} → Units x m i j → Units y n k l → x ⊘ y ≡ round binary32 false (m * 2 ^ 149) (n * 2 ^ 149)
+div_at {x} {y} {m} {n} u v =
+    div_is binary32 x y (units_positive u) (units_positive v)
     ∙ round_same binary32 false (num x * den y) (num y * den x) (m * 2 ^ 149) (n * 2 ^ 149)
-    (mul-pos (num_pos (num y) (2 ^ 149) n (den y) (value→cross y n (2 ^ 149) v.value) (units-pos v) (den_pos y)) (den_pos x))
-    (mul-pos (units-pos v) (pow_pos 149))
+    (mul-pos (num_pos (num y) (2 ^ 149) n (den y) (value→cross y n (2 ^ 149) v.value) (units_pos v) (den_pos y)) (den_pos x))
+    (mul-pos (units_pos v) (pow_pos 149))
     (crossed (num x) (den x) (num y) (den y) (2 ^ 149) m n (value→cross x m (2 ^ 149) u.value) (value→cross y n (2 ^ 149) v.value))
   where
     num_pos : (a w n d : ℕ) → a * w ≡ n * d → 0 < n → 0 < d → 0 < a
@@ -142,25 +142,25 @@ div-at {x} {y} {m} {n} u v =
     crossed : (a d b e w m n : ℕ) → a * w ≡ m * d → b * w ≡ n * e → a * e * (n * w) ≡ m * w * (b * d)
     crossed a d b e w m n p q = let i = ap (λ (z : ℕ). z * (n * e)) p in let j = ap (λ (z : ℕ). m * d * z) q in omega arith
 
-pub div-units : {x y : Float} {m n i j k l : ℕ} (e f : ℕ) → Units x m i j → Units y n k l → T (in_range e f (e + l) (i + 149) (j + 149) (f + k))
+pub div_units : {x y : Float} {m n i j k l : ℕ} (e f : ℕ) → Units x m i j → Units y n k l → T (in_range e f (e + l) (i + 149) (j + 149) (f + k))
     → Rounded (x ⊘ y) n (m * 2 ^ 149) e f
-div-units {x} {y} {m} {n} {i} {j} {k} {l} e f u v t =
+div_units {x} {y} {m} {n} {i} {j} {k} {l} e f u v t =
     let r = ranged e f (e + l) (i + 149) (j + 149) (f + k) t in
-    subst (λ (z : Float). Rounded z n (m * 2 ^ 149) e f) (sym (div-at u v))
-    (round-units (m * 2 ^ 149) n e f (units-pos v) r.normal r.small r.bounded
+    subst (λ (z : Float). Rounded z n (m * 2 ^ 149) e f) (sym (div_at u v))
+    (round_units (m * 2 ^ 149) n e f (units_pos v) r.normal r.small r.bounded
     (le_trans (mul-le-mul_left (2 ^ e) v.high) (le_trans (powers e l i 149 r.under) (mul-le-mul_right (2 ^ 149) u.low)))
     (le_trans (mul-le-mul_right (2 ^ 149) u.high) (le_trans (powers j 149 f k r.over) (mul-le-mul_left (2 ^ f) v.low))))
 
 -- a sum of two that are not below zero, before it is rounded
-pub sum-at : (x y : Float) (a b c : ℕ) → 0 < c → HasValue x false a c → HasValue y false b c → x ⊕ y ≡ round binary32 false (a + b) (1 * c)
+pub sum_at : (x y : Float) (a b c : ℕ) → 0 < c → HasValue x false a c → HasValue y false b c → x ⊕ y ≡ round binary32 false (a + b) (1 * c)
 unfolding add sum
-sum-at nan y a b c C h k = absurd h
-sum-at (inf s) y a b c C h k = absurd h
-sum-at (fin s m e) nan a b c C h k = absurd k
-sum-at (fin s m e) (inf t) a b c C h k = absurd k
-sum-at (fin true m e) (fin t n d) a b c C h k = absurd (true≢false h.0)
-sum-at (fin false m e) (fin true n d) a b c C h k = absurd (true≢false k.0)
-sum-at (fin false m e) (fin false n d) a b c C h k =
+sum_at nan y a b c C h k = absurd h
+sum_at (inf s) y a b c C h k = absurd h
+sum_at (fin s m e) nan a b c C h k = absurd k
+sum_at (fin s m e) (inf t) a b c C h k = absurd k
+sum_at (fin true m e) (fin t n d) a b c C h k = absurd (true≢false h.0)
+sum_at (fin false m e) (fin true n d) a b c C h k = absurd (true≢false k.0)
+sum_at (fin false m e) (fin false n d) a b c C h k =
     round_same binary32 false (m * up e * down d + n * up d * down e) (down e * down d) (a + b) (1 * c) (mul-pos (down_pos e) (down_pos d))
     (mul-pos {m = 1} (omega arith) C)
     (crossed (m * up e) (down e) (n * up d) (down d) h.1 k.1)
@@ -175,21 +175,21 @@ pub record Added (x : Float) (q i j : ℕ) : Type 0 where
   pub below : Near 1 n q
   pub above : Near 1 q n
 
-pub add-units : {x y : Float} {m n i j k l : ℕ} (e f : ℕ) → Units x m i j → Units y n k l → T (in_range e f e i (suc j) f) → T (leb (suc l) f)
+pub add_units : {x y : Float} {m n i j k l : ℕ} (e f : ℕ) → Units x m i j → Units y n k l → T (in_range e f e i (suc j) f) → T (leb (suc l) f)
     → Added (x ⊕ y) (m + n) e f
-add-units {x} {y} {m} {n} {i} {j} {k} {l} e f u v t h =
+add_units {x} {y} {m} {n} {i} {j} {k} {l} e f u v t h =
     let r = ranged e f e i (suc j) f t in
     let w : ℕ = 2 ^ 149 in
-    let at : x ⊕ y ≡ round binary32 false (m + n) (1 * w) = sum-at x y m n w (pow_pos 149) u.value v.value in
+    let at : x ⊕ y ≡ round binary32 false (m + n) (1 * w) = sum_at x y m n w (pow_pos 149) u.value v.value in
     let lo : 2 ^ e * 1 ≤ m + n = le_trans (le_of_eq (mul-one (2 ^ e))) (le_trans (le_trans (pow_mono r.under) u.low) (le-add_right m n)) in
     let hi : m + n ≤ 2 ^ f * 1 = top (2 ^ j) (2 ^ l) (2 ^ f) (two-pow-succ j) (two-pow-succ l) u.high v.high (pow_mono r.over)
     (pow_mono (leb→le (suc l) f h)) in
-    let d = round-units (m + n) 1 e f (zero-lt-suc 0) r.normal r.small r.bounded lo hi in
+    let d = round_units (m + n) 1 e f (zero-lt-suc 0) r.normal r.small r.bounded lo hi in
     record {
       n = d.n;
       is = subst (λ (z : Float). Units z d.n e f) (sym at) d.is;
-      below = near-eq (mul-one d.n) refl d.below;
-      above = near-eq refl (mul-one d.n) d.above;
+      below = near_eq (mul-one d.n) refl d.below;
+      above = near_eq refl (mul-one d.n) d.above;
     }
   where
     top : {c d : ℕ} (a b p : ℕ) → c ≡ a + a → d ≡ b + b → m ≤ a → n ≤ b → c ≤ p → d ≤ p → m + n ≤ p * 1
@@ -204,9 +204,9 @@ pub record Rooted (x : Float) (q i j : ℕ) : Type 0 where
   pub below : Near 3 (n * n) q
   pub above : Near 3 q (n * n)
 
-whole-near : (n r : ℕ) → whole.Near n r → 2 ^ 23 ≤ r → Near 3 (r * r) n × Near 3 n (r * r)
+whole_near : (n r : ℕ) → whole.Near n r → 2 ^ 23 ≤ r → Near 3 (r * r) n × Near 3 n (r * r)
 unfolding IsLe
-whole-near n r x h =
+whole_near n r x h =
     let b : 8388608 * r ≤ r * r = mul-le-mul_right r h in
     let u : r * r * 8388607 ≤ n * 8388608 = omega (arith, x.0) in
     let v : n * 8388608 ≤ r * r * 8388609 = omega (arith, x.1) in (
@@ -227,24 +227,24 @@ whole-near n r x h =
         let g : s * l * b ≤ n * u * b = omega arith in
         le_of_mul-le-mul_right g B
 
-pub root-units : {x : Float} {m i j : ℕ} (e f : ℕ) → T (fits binary32 x) → Units x m i j → T (leb (suc (e + e)) (i + 149) && leb (suc (j + 149)) (f + f))
+pub root_units : {x : Float} {m i j : ℕ} (e f : ℕ) → T (fits binary32 x) → Units x m i j → T (leb (suc (e + e)) (i + 149) && leb (suc (j + 149)) (f + f))
     → Rooted (root x) (m * 2 ^ 149) e f
-root-units {x} {m} {i} {j} e f t u c =
+root_units {x} {m} {i} {j} e f t u c =
     let w : ℕ = 2 ^ 149 in
     let v = u.value in
-    let p = units-pos u in
-    let s = scaling m (on-grid x false m t v) p (below_top x false m t v p) in
+    let p = units_pos u in
+    let s = scaling m (on_grid x false m t v) p (below_top x false m t v p) in
     let n = s.n in
     let h = s.h in
-    let r = nearestRoot n in
-    let b = whole.nearest-bounds n s.low s.high in
+    let r = nearest_root n in
+    let b = whole.nearest_bounds n s.low s.high in
     let is : root x ≡ units binary32 false r h =
-    root-of-value x (m * w) (mul-pos p (pow_pos 149)) (finer x m v) ∙ ap rootOfUnits s.is ∙ scaled n h s.low s.high in
-    let N = whole-near n r (whole.nearest-near n (le_trans (pow_pos 46) s.low) s.high) b.0 in
+    root_of_value x (m * w) (mul-pos p (pow_pos 149)) (finer x m v) ∙ ap root_of_units s.is ∙ scaled n h s.low s.high in
+    let N = whole_near n r (whole.nearest_near n (le_trans (pow_pos 46) s.low) s.high) b.0 in
     let even : 2 ^ (2 * h) ≡ 2 ^ h * 2 ^ h = powered h in
     let q : m * w ≡ n * (2 ^ h * 2 ^ h) = s.is ∙ ap (λ (z : ℕ). n * z) even in
-    let below : Near 3 (r * 2 ^ h * (r * 2 ^ h)) (m * w) = near-eq (squared r (2 ^ h)) (sym q) (near_times (2 ^ h * 2 ^ h) N.0) in
-    let above : Near 3 (m * w) (r * 2 ^ h * (r * 2 ^ h)) = near-eq (sym q) (squared r (2 ^ h)) (near_times (2 ^ h * 2 ^ h) N.1) in
+    let below : Near 3 (r * 2 ^ h * (r * 2 ^ h)) (m * w) = near_eq (squared r (2 ^ h)) (sym q) (near_times (2 ^ h * 2 ^ h) N.0) in
+    let above : Near 3 (m * w) (r * 2 ^ h * (r * 2 ^ h)) = near_eq (sym q) (squared r (2 ^ h)) (near_times (2 ^ h * 2 ^ h) N.1) in
     let lo : 2 ^ suc (e + e) ≤ m * w = le_trans (pow_mono (leb→le (suc (e + e)) (i + 149) (and_l (leb (suc (e + e)) (i + 149)) _ c)))
     (le_trans (le_of_eq (pow-add 2 i 149)) (mul-le-mul_right w u.low)) in
     let hi : 2 * (m * w) ≤ 2 ^ (f + f) =
@@ -254,10 +254,10 @@ root-units {x} {m} {i} {j} e f t u c =
       n = r * 2 ^ h;
       is =
           record {
-            value = subst (λ (z : Float). HasValue z false (r * 2 ^ h) w) (sym is) (units-value r h b.1 s.short);
-            low = square-back (2 ^ e) (r * 2 ^ h)
-                (halved (2 ^ (e + e)) (r * 2 ^ h * (r * 2 ^ h)) (m * w) (pow-add 2 e e) (two-pow-succ (e + e)) lo (near-twice above));
-            high = square-back (r * 2 ^ h) (2 ^ f) (le_trans (near-twice below) (le_trans hi (le_of_eq (pow-add 2 f f))));
+            value = subst (λ (z : Float). HasValue z false (r * 2 ^ h) w) (sym is) (units_value r h b.1 s.short);
+            low = square_back (2 ^ e) (r * 2 ^ h)
+                (halved (2 ^ (e + e)) (r * 2 ^ h * (r * 2 ^ h)) (m * w) (pow-add 2 e e) (two-pow-succ (e + e)) lo (near_twice above));
+            high = square_back (r * 2 ^ h) (2 ^ f) (le_trans (near_twice below) (le_trans hi (le_of_eq (pow-add 2 f f))));
           };
       below = below;
       above = above;

@@ -1,12 +1,12 @@
 // Bounds of a triangle's score that its angles have no part in.
 ghost use Rattle.std.specs.Prelude.{◌≡◌};
-ghost use Rattle.score_bounds.specs.Inner.Bound.{scoreBound, AspectLimit};
+ghost use Rattle.score_bounds.specs.Inner.Bound.{score_bound, AspectLimit};
 
 use quality::Shape;
 
 // What the score of a triangle is not above, whatever its angles: none is larger than pi.
 pub fn score_bound(shape: Shape) -> f32
-    ensures { result ≡ scoreBound shape }
+    ensures { result ≡ score_bound shape }
 {
     quality::score(3.1415927, shape.aspect_ratio, shape.edge_ratio)
 }

@@ -3,8 +3,8 @@ ghost use Rattle.std.specs.Prelude.{◌≡◌};
 ghost use Rattle.numbers.specs.Rounded.{◌⊗◌};
 ghost use Rattle.numbers.specs.Root.{root};
 ghost use Rattle.quality.specs.Measures.{half};
-ghost use Rattle.decisions.specs.Found.{scoreFound, at_least};
-ghost use Rattle.scores.specs.Inner.Over.{edgeSide, scoreNear, scoreOver, Thinned};
+ghost use Rattle.decisions.specs.Found.{score_found, at_least};
+ghost use Rattle.scores.specs.Inner.Over.{edge_side, score_near, score_over, Thinned};
 
 use decisions::{Scene, Score};
 use vector::Point3f;
@@ -20,7 +20,7 @@ pub struct Side {
 
 // The edge between two points.
 pub fn side_of(p: Point3f, q: Point3f) -> Side
-    ensures { result ≡ edgeSide p q }
+    ensures { result ≡ edge_side p q }
 {
     let square = vector::distance_squared(q, p);
     Side {
@@ -40,7 +40,7 @@ pub fn thin_at(score: f32) -> f32
 
 // The score of a triangle, from the length of an edge, the squares of the other two and that of twice the area.
 fn score_near(s: Scene, radius: f32, a: f32, b: f32, c: f32, cross: f32, top: f32) -> Score
-    ensures { result ≡ scoreFound (at_least top (scoreNear s radius a (root b) (root c) (root cross ⊗ half))) }
+    ensures { result ≡ score_found (at_least top (score_near s radius a (root b) (root c) (root cross ⊗ half))) }
 {
     let to_p = numbers::sqrt(c);
     if !(to_p <= radius) {
@@ -57,8 +57,8 @@ fn score_near(s: Scene, radius: f32, a: f32, b: f32, c: f32, cross: f32, top: f3
 // is not below `top`.
 // `thin` is a limit for triangles that don't reach `top`.
 pub fn score_over(s: Scene, radius: f32, side: Side, t: Point3f, top: f32, thin: f32) -> Score
-    requires { (side ≡ edgeSide side.p side.q) × Thinned top thin }
-    ensures { result ≡ scoreFound (at_least top (scoreOver s radius side.p side.q t)) }
+    requires { (side ≡ edge_side side.p side.q) × Thinned top thin }
+    ensures { result ≡ score_found (at_least top (score_over s radius side.p side.q t)) }
 {
     let to_p = vector::distance_squared(t, side.p);
     let to_q = vector::distance_squared(t, side.q);

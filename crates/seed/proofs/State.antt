@@ -8,46 +8,46 @@ use native.Mathlib.Omega.{arith}
 use lib.ListN.{length, take}
 use lib.Ieee.{Float}
 use Rattle.vector.specs.declared.Point3f.{Point3f}
-use Rattle.points.specs.Points.{pointAt}
+use Rattle.points.specs.Points.{point_at}
 use Rattle.grid.specs.Grid.{neighbors}
 use Rattle.grid.specs.Inner.Index.{CellsIndexed}
 use Rattle.lists.specs.Members.{Below}
-use Rattle.grid.proofs.Near.{neighbors-below, indexed-kept}
-use Rattle.lists.proofs.Members.{below-part, only_below}
+use Rattle.grid.proofs.Near.{neighbors_below, indexed_kept}
+use Rattle.lists.proofs.Members.{below_part, only_below}
 use Rattle.spatial_hash.specs.declared.Hash.{Hash}
 use Rattle.spatial_hash.specs.Inner.Near.{Hashed}
 use Rattle.lists.specs.Lists.{unused, up_from}
 use Rattle.patch.specs.Search.{first_of}
 use Rattle.decisions.specs.declared.Scene.{Scene}
-use Rattle.decisions.specs.Decisions.{floatsOf}
-use Rattle.nearby.specs.Inner.Ready.{SceneHeld, NeighborsListed, SceneKept, usedInScene}
-use Rattle.nearby.specs.Inner.Narrow.{inReach, Sought}
-use Rattle.nearby.proofs.Keeping.{kept_self, kept_on, held_kept, hashed-search}
+use Rattle.decisions.specs.Decisions.{floats_of}
+use Rattle.nearby.specs.Inner.Ready.{SceneHeld, NeighborsListed, SceneKept, used_in_scene}
+use Rattle.nearby.specs.Inner.Narrow.{in_reach, Sought}
+use Rattle.nearby.proofs.Keeping.{kept_self, kept_on, held_kept, hashed_search}
 use Rattle.seed.specs.declared.Seed.{Seed}
 use Rattle.seed.specs.declared.Seed.TheVariants.{Triangle, Nothing}
-use Rattle.seed.specs.Inner.Found.{seedFound}
-use Rattle.seedless.specs.Inner.Parts.{withFirst}
-use Rattle.seedless.proofs.Laws.{or_else, up_step, up-end, first-tried, first-used, first-spent, first-end}
-use Rattle.seed.proofs.Laws.{else-hit, else-miss}
+use Rattle.seed.specs.Inner.Found.{seed_found}
+use Rattle.seedless.specs.Inner.Parts.{with_first}
+use Rattle.seedless.proofs.Laws.{or_else, up_step, up_end, first_tried, first_used, first_spent, first_end}
+use Rattle.seed.proofs.Laws.{else_hit, else_miss}
 
 -- ---- what is listed
 
 -- points of the cloud
-pub listed-points : {s : Scene} {pts : List Float} {w u : List ℕ} {a count : ℕ} {q : Point3f} {r : Float} → 24 * s.n + 64 ≤ length u
+pub listed_points : {s : Scene} {pts : List Float} {w u : List ℕ} {a count : ℕ} {q : Point3f} {r : Float} → 24 * s.n + 64 ≤ length u
     → Sought s pts w u a q r count → NeighborsListed s u count
-listed-points {s} {pts} {w} {u} {a} {count} {q} {r} long f = record {
+listed_points {s} {pts} {w} {u} {a} {count} {q} {r} long f = record {
   most = f.most;
   below = λ (m : ℕ) (h : m < count).
-      let b = only_below (inReach pts (usedInScene s w) (pointAt pts a) f.nearby.limit) s.n (neighbors s.indexed s.grid pts s.n q r)
-      (neighbors-below s.indexed s.grid pts s.n q r) in
-      below-part s.n u (4 * s.n) count m (subst (λ (l : List ℕ). Below s.n l) (sym f.nearby.same) b) h (omega (arith, f.most));
+      let b = only_below (in_reach pts (used_in_scene s w) (point_at pts a) f.nearby.limit) s.n (neighbors s.indexed s.grid pts s.n q r)
+      (neighbors_below s.indexed s.grid pts s.n q r) in
+      below_part s.n u (4 * s.n) count m (subst (λ (l : List ℕ). Below s.n l) (sym f.nearby.same) b) h (omega (arith, f.most));
 }
 
 -- ---- the first point
 
 -- what is found from the points is, so many of the unused ones being tried
 abbrev firsts : Scene → List Float → Float → List ℕ → List ℕ → ℕ → Option (ℕ × ℕ × ℕ)
-firsts s pts r w is left = first_of (floatsOf s pts) r (usedInScene s w) is left
+firsts s pts r w is left = first_of (floats_of s pts) r (used_in_scene s w) is left
 
 -- the points below i have been tried, `left` more unused ones may be
 pub record Seeking (s : Scene) (pts : List Float) (r : Float) (hash : Hash) (w₀ w : List ℕ) (left i : ℕ) : Type 0 where
@@ -61,8 +61,8 @@ pub record Seeking (s : Scene) (pts : List Float) (r : Float) (hash : Hash) (w�
   pub rest : firsts s pts r w₀ (up_from 0 s.n) 1000 ≡ firsts s pts r w₀ (up_from i (s.n - i)) left
 
 module _ {s : Scene} {pts : List Float} {r : Float} {hash : Hash} {w₀ : List ℕ} where
-  pub seek-start : SceneHeld s pts w₀ → CellsIndexed s.grid pts s.n w₀ → Hashed hash pts s.n w₀ → Seeking s pts r hash w₀ w₀ 1000 0
-  seek-start h x d =
+  pub seek_start : SceneHeld s pts w₀ → CellsIndexed s.grid pts s.n w₀ → Hashed hash pts s.n w₀ → Seeking s pts r hash w₀ w₀ 1000 0
+  seek_start h x d =
       let e : s.n ≡ s.n - 0 = omega arith in
       record {
         held = h;
@@ -80,24 +80,24 @@ module _ {s : Scene} {pts : List Float} {r : Float} {hash : Hash} {w₀ : List �
     abbrev on : List ℕ
     on = up_from (i + 1) (s.n - (i + 1))
 
-    pub seek-end : s.n ≤ i → firsts s pts r w₀ (up_from 0 s.n) 1000 ≡ none
-    seek-end h = k.rest ∙ ap (λ (is : List ℕ). firsts s pts r w₀ is left) (up-end s.n i h) ∙ first-end (floatsOf s pts) r (usedInScene s w₀) left
+    pub seek_end : s.n ≤ i → firsts s pts r w₀ (up_from 0 s.n) 1000 ≡ none
+    seek_end h = k.rest ∙ ap (λ (is : List ℕ). firsts s pts r w₀ is left) (up_end s.n i h) ∙ first_end (floats_of s pts) r (used_in_scene s w₀) left
 
-    at-point : i < s.n → firsts s pts r w₀ (up_from 0 s.n) 1000 ≡ firsts s pts r w₀ (i ∷ on) left
-    at-point h = k.rest ∙ ap (λ (is : List ℕ). firsts s pts r w₀ is left) (up_step s.n i h)
+    at_point : i < s.n → firsts s pts r w₀ (up_from 0 s.n) 1000 ≡ firsts s pts r w₀ (i ∷ on) left
+    at_point h = k.rest ∙ ap (λ (is : List ℕ). firsts s pts r w₀ is left) (up_step s.n i h)
 
-    pub seek-spent : i < s.n → left ≡ 0 → firsts s pts r w₀ (up_from 0 s.n) 1000 ≡ none
-    seek-spent h e = at-point h ∙ ap (firsts s pts r w₀ (i ∷ on)) e ∙ first-spent (floatsOf s pts) r (usedInScene s w₀) i on
+    pub seek_spent : i < s.n → left ≡ 0 → firsts s pts r w₀ (up_from 0 s.n) 1000 ≡ none
+    seek_spent h e = at_point h ∙ ap (firsts s pts r w₀ (i ∷ on)) e ∙ first_spent (floats_of s pts) r (used_in_scene s w₀) i on
 
     -- there is one more try, and the used points are still those of the beginning
     one_more : (left ≡ 0 → ⊥) → left ≡ suc (left - 1)
     one_more h = omega arith
 
-    used-is : usedInScene s w ≡ usedInScene s w₀
-    used-is = ap (take s.n) k.kept.after
+    used_is : used_in_scene s w ≡ used_in_scene s w₀
+    used_is = ap (take s.n) k.kept.after
 
-    pub seek-used : i < s.n → (left ≡ 0 → ⊥) → unused (usedInScene s w) i ≡ false → Seeking s pts r hash w₀ w left (i + 1)
-    seek-used h ne t = record {
+    pub seek_used : i < s.n → (left ≡ 0 → ⊥) → unused (used_in_scene s w) i ≡ false → Seeking s pts r hash w₀ w left (i + 1)
+    seek_used h ne t = record {
       held = k.held;
       hashed = k.hashed;
       indexed = k.indexed;
@@ -105,33 +105,33 @@ module _ {s : Scene} {pts : List Float} {r : Float} {hash : Hash} {w₀ : List �
       same = k.same;
       most = k.most;
       inside = omega arith;
-      rest = at-point h
+      rest = at_point h
           ∙ ap (firsts s pts r w₀ (i ∷ on)) (one_more ne)
-          ∙ first-used (floatsOf s pts) r (usedInScene s w₀) i on (left - 1) (ap (λ (l : List ℕ). unused l i) (sym used-is) ∙ t)
+          ∙ first_used (floats_of s pts) r (used_in_scene s w₀) i on (left - 1) (ap (λ (l : List ℕ). unused l i) (sym used_is) ∙ t)
           ∙ sym (ap (firsts s pts r w₀ on) (one_more ne));
     }
 
-    tried : i < s.n → (left ≡ 0 → ⊥) → unused (usedInScene s w) i ≡ true → firsts s pts r w₀ (up_from 0 s.n) 1000
-        ≡ or_else (withFirst (floatsOf s pts) r (usedInScene s w₀) i) (firsts s pts r w₀ on (left - 1))
-    tried h ne t = at-point h ∙ ap (firsts s pts r w₀ (i ∷ on)) (one_more ne) ∙ first-tried (floatsOf s pts) r (usedInScene s w₀) i on (left - 1)
-        (ap (λ (l : List ℕ). unused l i) (sym used-is) ∙ t)
+    tried : i < s.n → (left ≡ 0 → ⊥) → unused (used_in_scene s w) i ≡ true → firsts s pts r w₀ (up_from 0 s.n) 1000
+        ≡ or_else (with_first (floats_of s pts) r (used_in_scene s w₀) i) (firsts s pts r w₀ on (left - 1))
+    tried h ne t = at_point h ∙ ap (firsts s pts r w₀ (i ∷ on)) (one_more ne) ∙ first_tried (floats_of s pts) r (used_in_scene s w₀) i on (left - 1)
+        (ap (λ (l : List ℕ). unused l i) (sym used_is) ∙ t)
 
-    found-is : {found x : Seed} → found ≡ seedFound (withFirst (floatsOf s pts) r (usedInScene s w) i) → found ≡ x
-        → seedFound (withFirst (floatsOf s pts) r (usedInScene s w₀) i) ≡ x
-    found-is e f = ap (λ (l : List ℕ). seedFound (withFirst (floatsOf s pts) r l i)) (sym used-is) ∙ sym e ∙ f
+    found_is : {found x : Seed} → found ≡ seed_found (with_first (floats_of s pts) r (used_in_scene s w) i) → found ≡ x
+        → seed_found (with_first (floats_of s pts) r (used_in_scene s w₀) i) ≡ x
+    found_is e f = ap (λ (l : List ℕ). seed_found (with_first (floats_of s pts) r l i)) (sym used_is) ∙ sym e ∙ f
 
-    pub seek_hit : {a b c : ℕ} {found : Seed} → i < s.n → (left ≡ 0 → ⊥) → unused (usedInScene s w) i ≡ true
-        → found ≡ seedFound (withFirst (floatsOf s pts) r (usedInScene s w) i) → found ≡ Triangle a b c → Triangle a b c
-        ≡ seedFound (firsts s pts r w₀ (up_from 0 s.n) 1000)
+    pub seek_hit : {a b c : ℕ} {found : Seed} → i < s.n → (left ≡ 0 → ⊥) → unused (used_in_scene s w) i ≡ true
+        → found ≡ seed_found (with_first (floats_of s pts) r (used_in_scene s w) i) → found ≡ Triangle a b c → Triangle a b c
+        ≡ seed_found (firsts s pts r w₀ (up_from 0 s.n) 1000)
     seek_hit {a} {b} {c} h ne t e f = sym
-        (ap seedFound (tried h ne t) ∙ else-hit (withFirst (floatsOf s pts) r (usedInScene s w₀) i) (firsts s pts r w₀ on (left - 1)) a b c (found-is e f))
+        (ap seed_found (tried h ne t) ∙ else_hit (with_first (floats_of s pts) r (used_in_scene s w₀) i) (firsts s pts r w₀ on (left - 1)) a b c (found_is e f))
 
     -- after what changes nothing but the list of neighbours
-    pub seek-kept : (v : List ℕ) → SceneKept s w v → length v ≡ length w → Seeking s pts r hash w₀ v left i
-    seek-kept v kv l = record {
+    pub seek_kept : (v : List ℕ) → SceneKept s w v → length v ≡ length w → Seeking s pts r hash w₀ v left i
+    seek_kept v kv l = record {
       held = held_kept v k.held l;
-      hashed = hashed-search {s = s} v k.hashed l kv;
-      indexed = indexed-kept v k.indexed l kv.before;
+      hashed = hashed_search {s = s} v k.hashed l kv;
+      indexed = indexed_kept v k.indexed l kv.before;
       kept = kept_on k.kept kv;
       same = l ∙ k.same;
       most = k.most;
@@ -139,11 +139,11 @@ module _ {s : Scene} {pts : List Float} {r : Float} {hash : Hash} {w₀ : List �
       rest = k.rest;
     }
 
-    pub seek-miss : {found : Seed} (v : List ℕ) → i < s.n → (left ≡ 0 → ⊥) → unused (usedInScene s w) i ≡ true
-        → found ≡ seedFound (withFirst (floatsOf s pts) r (usedInScene s w) i) → found ≡ Nothing → SceneKept s w v → length v ≡ length w
+    pub seek_miss : {found : Seed} (v : List ℕ) → i < s.n → (left ≡ 0 → ⊥) → unused (used_in_scene s w) i ≡ true
+        → found ≡ seed_found (with_first (floats_of s pts) r (used_in_scene s w) i) → found ≡ Nothing → SceneKept s w v → length v ≡ length w
         → Seeking s pts r hash w₀ v (left - 1) (i + 1)
-    seek-miss v h ne t e f kv l =
-        let z = seek-kept v kv l in record {
+    seek_miss v h ne t e f kv l =
+        let z = seek_kept v kv l in record {
           held = z.held;
           hashed = z.hashed;
           indexed = z.indexed;
@@ -151,5 +151,5 @@ module _ {s : Scene} {pts : List Float} {r : Float} {hash : Hash} {w₀ : List �
           same = z.same;
           most = omega (arith, k.most);
           inside = omega arith;
-          rest = tried h ne t ∙ else-miss (withFirst (floatsOf s pts) r (usedInScene s w₀) i) (firsts s pts r w₀ on (left - 1)) (found-is e f);
+          rest = tried h ne t ∙ else_miss (with_first (floats_of s pts) r (used_in_scene s w₀) i) (firsts s pts r w₀ on (left - 1)) (found_is e f);
         }

@@ -5,11 +5,11 @@ ghost use Rattle.std.specs.Prelude.{◌≡◌, true};
 ghost use Rattle.grid.specs.Inner.Index.{CellsIndexed};
 ghost use Rattle.spatial_hash.specs.Inner.Near.{Hashed};
 ghost use Rattle.patch.specs.Search.{searching};
-ghost use Rattle.decisions.specs.Decisions.{floatsOf};
-ghost use Rattle.nearby.specs.Inner.Ready.{SceneHeld, usedInScene, SceneKept};
+ghost use Rattle.decisions.specs.Decisions.{floats_of};
+ghost use Rattle.nearby.specs.Inner.Ready.{SceneHeld, used_in_scene, SceneKept};
 ghost use Rattle.std.proofs.Math.Option.{none};
 ghost use Rattle.known_radii.specs.Inner.Known.{NothingTo};
-ghost use Rattle.seed.specs.Inner.Found.{seedFound, WithArea};
+ghost use Rattle.seed.specs.Inner.Found.{seed_found, WithArea};
 
 use decisions::Scene;
 use seedless::Site;
@@ -49,14 +49,14 @@ pub fn find_seed_triangle(
 ) -> SeedSearch
     requires { SceneHeld s points.now w.old × CellsIndexed s.grid points.now s.n w.old
         × Hashed hash points.now s.n w.old
-        × (t.known ≡ true → (searching (floatsOf s points.now) s.n).seedOf radius (usedInScene s w.old) ≡ none)
-        × NothingTo s points.now (usedInScene s w.old) t.upto }
+        × (t.known ≡ true → (searching (floats_of s points.now) s.n).seed_of radius (used_in_scene s w.old) ≡ none)
+        × NothingTo s points.now (used_in_scene s w.old) t.upto }
     ensures { (result.seed
-        ≡ seedFound ((searching (floatsOf s points.now) s.n).seedOf radius
-        (usedInScene s w.old)))
+        ≡ seed_found ((searching (floats_of s points.now) s.n).seed_of radius
+        (used_in_scene s w.old)))
         × SceneKept s w.old w.new
         × WithArea points.now result.seed
-        × NothingTo s points.now (usedInScene s w.old) result.upto }
+        × NothingTo s points.now (used_in_scene s w.old) result.upto }
 {
     if t.known {
         return SeedSearch {

@@ -3,18 +3,18 @@ ghost use Rattle.std.specs.Prelude.{◌≡◌, true, drop, ◌*◌, ◌≤◌, �
 ghost use Rattle.std.proofs.Math.Option.{none};
 ghost use Rattle.grid.specs.Inner.Index.{CellsIndexed};
 ghost use Rattle.spatial_hash.specs.Inner.Near.{Hashed};
-ghost use Rattle.patch.specs.Search.{isSecond, isThird, thirdOf, second_of, first_of};
+ghost use Rattle.patch.specs.Search.{is_second, is_third, third_of, second_of, first_of};
 ghost use Rattle.lists.specs.Lists.{up_from};
-ghost use Rattle.points.specs.Points.{pointAt};
-ghost use Rattle.decisions.specs.Decisions.{isClose, reach, floatsOf};
+ghost use Rattle.points.specs.Points.{point_at_lem};
+ghost use Rattle.decisions.specs.Decisions.{is_close, reach, floats_of};
 ghost use Rattle.filters.specs.Inner.Refused.{Limiting};
-ghost use Rattle.nearby.specs.Inner.Ready.{SceneHeld, NeighborsListed, usedInScene, neighborsListed, SceneKept};
+ghost use Rattle.nearby.specs.Inner.Ready.{SceneHeld, NeighborsListed, used_in_scene, neighbors_listed, SceneKept};
 ghost use Rattle.nearby.specs.Inner.Narrow.{Filters};
 ghost use Rattle.known_radii.specs.Inner.Known.{NothingTo};
 ghost use Rattle.seed.specs.declared.Seed.TheVariants.{Nothing};
-ghost use Rattle.seedless.specs.Inner.Parts.{withSecond};
-ghost use Rattle.seed.specs.Inner.Found.{seedFound, KnownFrom};
-ghost use Rattle.seed.specs.Inner.Seconds.{withSeconds, SecondsTried, SiteSearchable, SeedlessBefore, FirstTried};
+ghost use Rattle.seedless.specs.Inner.Parts.{with_second};
+ghost use Rattle.seed.specs.Inner.Found.{seed_found, KnownFrom};
+ghost use Rattle.seed.specs.Inner.Seconds.{with_seconds, SecondsTried, SiteSearchable, SeedlessBefore, FirstTried};
 ghost use Rattle.three_points.specs.Inner.Judged.{LimitsAtRadius};
 
 use crate::Seed;
@@ -26,7 +26,7 @@ use seedless::Site;
 // Whether j may be the second point after i.
 fn is_second(s: Scene, points: &[f32], w: &[u32], radius: f32, i: usize, j: usize) -> bool
     requires { SceneHeld s points.now w.now × (i < s.n) × (j < s.n) }
-    ensures { result ≡ isSecond (floatsOf s points.now) radius (usedInScene s w.now) i j }
+    ensures { result ≡ is_second (floats_of s points.now) radius (used_in_scene s w.now) i j }
 {
     if i == j {
         return false;
@@ -49,8 +49,8 @@ fn is_third(
     k: usize,
 ) -> bool
     requires { SceneHeld s points.now w.now × (i < s.n) × (j < s.n) × (k < s.n)
-        × LimitsAtRadius s points.now radius limits × (isClose points.now radius i j ≡ true) }
-    ensures { result ≡ isThird (floatsOf s points.now) radius (usedInScene s w.now) i j k }
+        × LimitsAtRadius s points.now radius limits × (is_close points.now radius i j ≡ true) }
+    ensures { result ≡ is_third (floats_of s points.now) radius (used_in_scene s w.now) i j k }
 {
     if i == k {
         return false;
@@ -78,10 +78,10 @@ fn find_third(p: Site, points: &[f32], w: &[u32], count: usize, i: usize, j: usi
     requires { SceneHeld p.scene points.now w.now × NeighborsListed p.scene w.now count
         × (i < p.scene.n)
         × (j < p.scene.n) × LimitsAtRadius p.scene points.now p.radius p.limits
-        × (isClose points.now p.radius i j ≡ true) }
+        × (is_close points.now p.radius i j ≡ true) }
     ensures { result
-        ≡ seedFound (thirdOf (floatsOf p.scene points.now) p.radius
-        (usedInScene p.scene w.now) i j (neighborsListed p.scene w.now count)) }
+        ≡ seed_found (third_of (floats_of p.scene points.now) p.radius
+        (used_in_scene p.scene w.now) i j (neighbors_listed p.scene w.now count)) }
 {
     let s = p.scene;
     let limits = p.limits;
@@ -102,8 +102,8 @@ fn try_second(p: Site, points: &[f32], w: &[u32], count: usize, i: usize, j: usi
         × (i < p.scene.n)
         × (j < p.scene.n) × LimitsAtRadius p.scene points.now p.radius p.limits }
     ensures { result
-        ≡ seedFound (withSecond (floatsOf p.scene points.now) p.radius
-        (usedInScene p.scene w.now) i (neighborsListed p.scene w.now count) j) }
+        ≡ seed_found (with_second (floats_of p.scene points.now) p.radius
+        (used_in_scene p.scene w.now) i (neighbors_listed p.scene w.now count) j) }
 {
     if !is_second(p.scene, points, w, p.radius, i, j) {
         return Seed::Nothing;
@@ -126,9 +126,9 @@ fn find_second(
         × (i < p.scene.n)
         × LimitsAtRadius p.scene points.now p.radius p.limits × (to ≤ count) }
     ensures { result
-        ≡ seedFound (second_of (floatsOf p.scene points.now) p.radius
-        (usedInScene p.scene w.now) i (neighborsListed p.scene w.now count)
-        (drop from (neighborsListed p.scene w.now to))) }
+        ≡ seed_found (second_of (floats_of p.scene points.now) p.radius
+        (used_in_scene p.scene w.now) i (neighbors_listed p.scene w.now count)
+        (drop from (neighbors_listed p.scene w.now to))) }
 {
     let mut m = from;
     while m < to {
@@ -163,9 +163,9 @@ fn try_seconds(
     to: usize,
 ) -> Seed
     requires { SiteSearchable p points.now w.old i
-        × Filters p.scene (pointAt points.now i) (pointAt points.now i) (reach p.radius) f }
+        × Filters p.scene (point_at points.now i) (point_at points.now i) (reach p.radius) f }
     ensures { SecondsTried p.scene points.now p.radius
-        (usedInScene p.scene w.old) f i
+        (used_in_scene p.scene w.old) f i
         from to result
         × SceneKept p.scene w.old w.new }
 {
@@ -197,11 +197,11 @@ fn try_rest(
     budget: usize,
 ) -> First
     requires { SiteSearchable p points.now w.old i
-        × Filters p.scene (pointAt points.now i) (pointAt points.now i) (reach p.radius) f
-        × SeedlessBefore p points.now (usedInScene p.scene w.old) lo i
-        × (withSeconds p.scene points.now p.radius (usedInScene p.scene w.old) f i 0 from ≡ none) }
+        × Filters p.scene (point_at points.now i) (point_at points.now i) (reach p.radius) f
+        × SeedlessBefore p points.now (used_in_scene p.scene w.old) lo i
+        × (with_seconds p.scene points.now p.radius (used_in_scene p.scene w.old) f i 0 from ≡ none) }
     ensures { FirstTried p.scene points.now p.radius
-        (usedInScene p.scene w.old) lo i
+        (used_in_scene p.scene w.old) lo i
         result.seed result.seedless
         × SceneKept p.scene w.old w.new }
 {
@@ -225,9 +225,9 @@ fn try_rest(
 // before it is checked at once.
 fn try_first(p: Site, points: &[f32], w: &mut [u32], lo: usize, i: usize, budget: usize) -> First
     requires { SiteSearchable p points.now w.old i
-        × SeedlessBefore p points.now (usedInScene p.scene w.old) lo i }
+        × SeedlessBefore p points.now (used_in_scene p.scene w.old) lo i }
     ensures { FirstTried p.scene points.now p.radius
-        (usedInScene p.scene w.old) lo i
+        (used_in_scene p.scene w.old) lo i
         result.seed result.seedless
         × SceneKept p.scene w.old w.new }
 {
@@ -298,10 +298,10 @@ pub fn find_from(p: Site, points: &[f32], w: &mut [u32], largest: f32, asks: boo
         × CellsIndexed p.scene.grid points.now p.scene.n w.old
         × Hashed p.hash points.now p.scene.n w.old × Limiting p.scene p.radius p.limits }
     ensures { (result.seed
-        ≡ seedFound (first_of (floatsOf p.scene points.now) p.radius
-        (usedInScene p.scene w.old) (up_from 0 p.scene.n) 1000))
+        ≡ seed_found (first_of (floats_of p.scene points.now) p.radius
+        (used_in_scene p.scene w.old) (up_from 0 p.scene.n) 1000))
         × (result.told ≡ true
-        → NothingTo p.scene points.now (usedInScene p.scene w.old) largest)
+        → NothingTo p.scene points.now (used_in_scene p.scene w.old) largest)
         × SceneKept p.scene w.old w.new }
 {
     let s = p.scene;

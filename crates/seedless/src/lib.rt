@@ -4,12 +4,12 @@
 // same answer is made.
 ghost use Rattle.std.specs.Prelude.{◌≡◌, true, ◌*◌, ◌≤◌, ◌<◌, length};
 ghost use Rattle.lists.specs.Lists.{unused};
-ghost use Rattle.regions.specs.Inner.Regions.{wordsLength};
+ghost use Rattle.regions.specs.Inner.Regions.{words_length};
 ghost use Rattle.spatial_hash.specs.Inner.Near.{Hashed};
 ghost use Rattle.filters.specs.Inner.Refused.{Limiting};
-ghost use Rattle.nearby.specs.Inner.Ready.{SceneHeld, NeighborsListed, SceneKept, usedInScene};
+ghost use Rattle.nearby.specs.Inner.Ready.{SceneHeld, NeighborsListed, SceneKept, used_in_scene};
 ghost use Rattle.three_points.specs.Inner.Judged.{LimitsAtRadius};
-ghost use Rattle.seedless.specs.Inner.Seedless.{SeedlessFrom, SeedlessBetween, isOther, isLeft};
+ghost use Rattle.seedless.specs.Inner.Seedless.{SeedlessFrom, SeedlessBetween, is_other, is_left};
 ghost use Rattle.seedless.specs.Inner.Seedless.{PointsLeft, ListReordered, AllLeftSeedless};
 
 use decisions::Scene;
@@ -37,7 +37,7 @@ const SHARE: usize = 128;
 
 // Whether point k comes after point i or before point lo.
 fn is_other(lo: usize, i: usize, k: usize) -> bool
-    ensures { result ≡ isOther lo i k }
+    ensures { result ≡ is_other lo i k }
 {
     if i < k {
         return true;
@@ -47,8 +47,8 @@ fn is_other(lo: usize, i: usize, k: usize) -> bool
 
 // Whether it is unused besides.
 fn is_left(s: Scene, w: &[u32], lo: usize, i: usize, k: usize) -> bool
-    requires { (s.n ≤ 4096) × (wordsLength s.n ≤ length w.now) × (k < s.n) }
-    ensures { result ≡ isLeft s lo i w.now k }
+    requires { (s.n ≤ 4096) × (words_length s.n ≤ length w.now) × (k < s.n) }
+    ensures { result ≡ is_left s lo i w.now k }
 {
     if !is_other(lo, i, k) {
         return false;
@@ -59,7 +59,7 @@ fn is_left(s: Scene, w: &[u32], lo: usize, i: usize, k: usize) -> bool
 // Leaves those of the listed points that are unused and come after point i or before point lo, in no order, and returns
 // how many they are.
 fn keep_left(s: Scene, w: &mut [u32], found: usize, lo: usize, i: usize) -> usize
-    requires { (s.n ≤ 4096) × (wordsLength s.n ≤ length w.old) × NeighborsListed s w.old found }
+    requires { (s.n ≤ 4096) × (words_length s.n ≤ length w.old) × NeighborsListed s w.old found }
     ensures { PointsLeft s lo i w.old w.new found result }
 {
     let at = regions::NEIGHBORS * s.n;
@@ -234,7 +234,7 @@ pub fn check_first(
     requires { SceneHeld p.scene points.now w.old × Hashed p.hash points.now p.scene.n w.old
         × (i < p.scene.n) × Limiting p.scene p.radius p.limits }
     ensures { (result.seedless ≡ true
-        → SeedlessFrom p.scene points.now p.radius (usedInScene p.scene w.old) lo i)
+        → SeedlessFrom p.scene points.now p.radius (used_in_scene p.scene w.old) lo i)
         × SceneKept p.scene w.old w.new }
 {
     let s = p.scene;
@@ -278,8 +278,8 @@ pub fn check_first(
 fn search_unused(p: Site, points: &[f32], w: &mut [u32], i: usize, budget: usize) -> usize
     requires { SceneHeld p.scene points.now w.old × Hashed p.hash points.now p.scene.n w.old
         × (i < p.scene.n) × Limiting p.scene p.radius p.limits }
-    ensures { (0 < result → unused (usedInScene p.scene w.old) i ≡ true
-        → SeedlessFrom p.scene points.now p.radius (usedInScene p.scene w.old) 0 i)
+    ensures { (0 < result → unused (used_in_scene p.scene w.old) i ≡ true
+        → SeedlessFrom p.scene points.now p.radius (used_in_scene p.scene w.old) 0 i)
         × SceneKept p.scene w.old w.new }
 {
     let s = p.scene;
@@ -369,7 +369,7 @@ pub fn is_exhausted(p: Site, points: &[f32], w: &mut [u32], search: Search, budg
     requires { SceneHeld p.scene points.now w.old × Hashed p.hash points.now p.scene.n w.old
         × Limiting p.scene p.radius p.limits }
     ensures { (result ≡ true → SeedlessBetween p.scene points.now p.radius
-        (usedInScene p.scene w.old) 0 p.scene.n)
+        (used_in_scene p.scene w.old) 0 p.scene.n)
         × SceneKept p.scene w.old w.new }
 {
     let n = p.scene.n;

@@ -1,6 +1,6 @@
 // The settings of a reconstruction: the defaults, and the first that is outside its range.
 ghost use Rattle.std.specs.Prelude.{◌≡◌};
-ghost use Rattle.settings.specs.Settings.{listInside, firstFailing, ruleKnown, lastTests, firstBadSetting};
+ghost use Rattle.settings.specs.Settings.{list_inside, first_failing, rule_known, last_tests, first_bad_setting};
 ghost use Rattle.settings.specs.Settings.{defaults};
 
 // What a reconstruction is told. Of each array only as many slots as its count says are read.
@@ -45,7 +45,7 @@ impl BallPivotingConfig {
 
 // At most eight values, each of them in range.
 fn all_in_range(lo: f32, hi: f32, xs: [f32; 8], count: u32) -> bool
-    ensures { result ≡ listInside lo hi xs count }
+    ensures { result ≡ list_inside lo hi xs count }
 {
     if 8 < count {
         return false;
@@ -63,14 +63,14 @@ fn all_in_range(lo: f32, hi: f32, xs: [f32; 8], count: u32) -> bool
 
 // Whether a number names a rule.
 fn is_rule(rule: u32) -> bool
-    ensures { result ≡ ruleKnown rule }
+    ensures { result ≡ rule_known rule }
 {
     rule == 1 || rule == 2
 }
 
 // The last five of the settings' tests: the number of the first that fails, or 0.
 fn first_bad_threshold(quality: f32, edge: f32, area: f32, cell: f32, rule: u32) -> u32
-    ensures { result ≡ firstFailing 4 (lastTests quality edge area cell rule) }
+    ensures { result ≡ first_failing 4 (last_tests quality edge area cell rule) }
 {
     if !ranges::in_range(0.0, 1000000.0, quality) {
         return 4;
@@ -92,7 +92,7 @@ fn first_bad_threshold(quality: f32, edge: f32, area: f32, cell: f32, rule: u32)
 
 // The number of the first setting outside its range, or 0.
 pub fn first_bad_setting(s: BallPivotingConfig) -> u32
-    ensures { result ≡ firstBadSetting s }
+    ensures { result ≡ first_bad_setting s }
 {
     if !ranges::in_range(0.001, 1000.0, s.radius) {
         return 1;

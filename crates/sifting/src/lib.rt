@@ -1,14 +1,14 @@
 // Of the points that are listed those near a place. Each is written where it would stay before it is asked, so that no
 // branch has to be foretold.
 ghost use Rattle.std.specs.Prelude.{◌≡◌, ◌+◌, ◌*◌, ◌<◌, length};
-ghost use Rattle.sifting.specs.Inner.Sift.{isWithin, PointsListed, Sifted};
+ghost use Rattle.sifting.specs.Inner.Sift.{is_within_lem, PointsListed, Sifted};
 
 use vector::Point3f;
 
 // Whether the squared distance of point k from a place is not above a limit.
 fn is_within(points: &[f32], k: usize, place: Point3f, limit: f32) -> bool
     requires { 3 * k + 2 < length points.now }
-    ensures { result ≡ isWithin points.now place limit k }
+    ensures { result ≡ is_within points.now place limit k }
 {
     !(vector::distance_squared(points::point_at(points, k), place) > limit)
 }

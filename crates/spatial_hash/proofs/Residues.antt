@@ -12,56 +12,56 @@ use borrow.Author.Tests.{eqb-true, eqb-false, eq-eqb, ne_eqb, lt-ltb, le-ltb}
 use lib.Dec.{eqb, ltb}
 use Rattle.lists.specs.Lists.{bit, count}
 use Rattle.lists.specs.Members.{Below}
-use Rattle.lists.proofs.Members.{below-first, below_rest}
+use Rattle.lists.proofs.Members.{below_first, below_rest}
 use Rattle.lists.proofs.Bools.{either}
-use Rattle.lists.proofs.Counts.{bit_le, count-append}
-use Rattle.spatial_hash.specs.Inner.Buckets.{nextResidue, residues, Spanning, row, rows}
+use Rattle.lists.proofs.Counts.{bit_le, count_append}
+use Rattle.spatial_hash.specs.Inner.Buckets.{next_residue, residues, Spanning, row, rows}
 
 -- ---- one axis
 
-pub next-wraps : (m r : ℕ) → r + 1 ≡ m → nextResidue m r ≡ 0
-unfolding nextResidue
-next-wraps m r h = rw (eq-eqb (r + 1) m h, nextResidue)
+pub next_wraps : (m r : ℕ) → r + 1 ≡ m → next_residue m r ≡ 0
+unfolding next_residue
+next_wraps m r h = rw (eq-eqb (r + 1) m h, next_residue)
 
-pub next-goes : (m r : ℕ) → (r + 1 ≡ m → ⊥) → nextResidue m r ≡ r + 1
-unfolding nextResidue
-next-goes m r h = rw (ne_eqb (r + 1) m h, nextResidue)
+pub next_goes : (m r : ℕ) → (r + 1 ≡ m → ⊥) → next_residue m r ≡ r + 1
+unfolding next_residue
+next_goes m r h = rw (ne_eqb (r + 1) m h, next_residue)
 
 -- the next one: 0 at the end, else one more
-pub next-is : (m r : ℕ) → ((r + 1 ≡ m) × (nextResidue m r ≡ 0)) ⊎ ((r + 1 ≡ m → ⊥) × (nextResidue m r ≡ r + 1))
-next-is m r = ⊎_elim
-    (λ (t : eqb (r + 1) m ≡ true). let e = eqb-true (r + 1) m t in inl (e, next-wraps m r e))
-    (λ (t : eqb (r + 1) m ≡ false). let e = eqb-false (r + 1) m t in inr (e, next-goes m r e))
+pub next_is : (m r : ℕ) → ((r + 1 ≡ m) × (next_residue m r ≡ 0)) ⊎ ((r + 1 ≡ m → ⊥) × (next_residue m r ≡ r + 1))
+next_is m r = ⊎_elim
+    (λ (t : eqb (r + 1) m ≡ true). let e = eqb-true (r + 1) m t in inl (e, next_wraps m r e))
+    (λ (t : eqb (r + 1) m ≡ false). let e = eqb-false (r + 1) m t in inr (e, next_goes m r e))
     (either (eqb (r + 1) m))
 
-pub next-below : (m r : ℕ) → r < m → nextResidue m r < m
-next-below m r h = ⊎_elim (λ e. omega arith) (λ e. let ne = e.0 in omega arith) (next-is m r)
+pub next_below : (m r : ℕ) → r < m → next_residue m r < m
+next_below m r h = ⊎_elim (λ e. omega arith) (λ e. let ne = e.0 in omega arith) (next_is m r)
 
-pub residues-step : (m r k : ℕ) → 0 < k → residues m r k ≡ r ∷ residues m (nextResidue m r) (k - 1)
+pub residues_step : (m r k : ℕ) → 0 < k → residues m r k ≡ r ∷ residues m (next_residue m r) (k - 1)
 unfolding residues
-residues-step m r zero h = absurd (omega arith)
-residues-step m r (suc k) h = let e : suc k - 1 ≡ k = omega arith in ap (λ (i : ℕ). r ∷ residues m (nextResidue m r) i) (sym e)
+residues_step m r zero h = absurd (omega arith)
+residues_step m r (suc k) h = let e : suc k - 1 ≡ k = omega arith in ap (λ (i : ℕ). r ∷ residues m (next_residue m r) i) (sym e)
 
 -- x comes d steps after r
 After : ℕ → ℕ → ℕ → ℕ → Type 0
 After m r d x = (r + d ≡ x) ⊎ (r + d ≡ x + m)
 
 -- it is met if more than d remainders are
-residues-met : (m x : ℕ) → x < m → (k r d : ℕ) → r < m → k ≤ m → d < m → After m r d x → count (eqb x) (residues m r k) ≡ bit (ltb d k)
+residues_met : (m x : ℕ) → x < m → (k r d : ℕ) → r < m → k ≤ m → d < m → After m r d x → count (eqb x) (residues m r k) ≡ bit (ltb d k)
 unfolding residues After
-residues-met m x l zero r d h q p a = rw (le-ltb d 0 (omega arith))
-residues-met m x l (suc k) r zero h q p a =
+residues_met m x l zero r d h q p a = rw (le-ltb d 0 (omega arith))
+residues_met m x l (suc k) r zero h q p a =
     let e : x ≡ r = ⊎_elim (λ (t : r + 0 ≡ x). omega arith) (λ (t : r + 0 ≡ x + m). omega arith) a in
-    let b : After m (nextResidue m r) (m - 1) x = ⊎_elim (λ s. inl (omega arith)) (λ s. inr (omega arith)) (next-is m r) in
-    let ih = residues-met m x l k (nextResidue m r) (m - 1) (next-below m r h) (omega arith) (omega arith) b in
+    let b : After m (next_residue m r) (m - 1) x = ⊎_elim (λ s. inl (omega arith)) (λ s. inr (omega arith)) (next_is m r) in
+    let ih = residues_met m x l k (next_residue m r) (m - 1) (next_below m r h) (omega arith) (omega arith) b in
     rw (eq-eqb x r e, ih, le-ltb (m - 1) k (omega arith), lt-ltb 0 (suc k) (omega arith))
-residues-met m x l (suc k) r (suc d) h q p a =
+residues_met m x l (suc k) r (suc d) h q p a =
     let ne : x ≡ r → ⊥ = λ (e : x ≡ r). ⊎_elim (λ (t : r + suc d ≡ x). omega arith) (λ (t : r + suc d ≡ x + m). omega arith) a in
-    let b : After m (nextResidue m r) d x = ⊎_elim
+    let b : After m (next_residue m r) d x = ⊎_elim
     (λ s. ⊎_elim (λ (t : r + suc d ≡ x). absurd (omega arith)) (λ (t : r + suc d ≡ x + m). inl (omega arith)) a)
     (λ s. ⊎_elim (λ (t : r + suc d ≡ x). inl (omega arith)) (λ (t : r + suc d ≡ x + m). inr (omega arith)) a)
-    (next-is m r) in
-    let ih = residues-met m x l k (nextResidue m r) d (next-below m r h) (omega arith) (omega arith) b in
+    (next_is m r) in
+    let ih = residues_met m x l k (next_residue m r) d (next_below m r h) (omega arith) (omega arith) b in
     rw (ne_eqb x r ne, ih, same d k) (omega arith)
   where
     same : (d k : ℕ) → bit (ltb d k) ≡ bit (ltb (suc d) (suc k))
@@ -78,16 +78,16 @@ apart m r x h l = elim (dec_le r x) [
   | no q ↦ (x + m - r, omega arith, inr (omega arith))
 ]
 
-pub residues-once : (m r k x : ℕ) → r < m → k ≤ m → x < m → count (eqb x) (residues m r k) ≤ 1
-residues-once m r k x h q l =
+pub residues_once : (m r k x : ℕ) → r < m → k ≤ m → x < m → count (eqb x) (residues m r k) ≤ 1
+residues_once m r k x h q l =
     let a = apart m r x h l in
-    omega (arith, residues-met m x l k r a.0 h q a.1 a.2, bit_le (ltb a.0 k))
+    omega (arith, residues_met m x l k r a.0 h q a.1 a.2, bit_le (ltb a.0 k))
 
-pub residues-below : (m k r : ℕ) → r < m → Below m (residues m r k)
+pub residues_below : (m k r : ℕ) → r < m → Below m (residues m r k)
 unfolding residues
-residues-below m zero r h x q = absurd (omega arith)
-residues-below m (suc k) r h x q =
-    let ih = residues-below m k (nextResidue m r) (next-below m r h) x in
+residues_below m zero r h x q = absurd (omega arith)
+residues_below m (suc k) r h x q =
+    let ih = residues_below m k (next_residue m r) (next_below m r h) x in
     ⊎_elim
     (λ (t : eqb x r ≡ true). let e = eqb-true x r t in omega arith)
     (λ (t : eqb x r ≡ false). let z : bit (eqb x r) ≡ 0 = ap bit t in ih (omega arith))
@@ -96,9 +96,9 @@ residues-below m (suc k) r h x q =
 -- ---- spans
 
 -- from a's remainder it is as far to v's as from a to v
-mod-after : (m a v : ℕ) → 0 < m → a ≤ v → v - a < m → After m (a % m) (v - a) (v % m)
+mod_after : (m a v : ℕ) → 0 < m → a ≤ v → v - a < m → After m (a % m) (v - a) (v % m)
 unfolding After
-mod-after m a v p h l =
+mod_after m a v p h l =
     let e : (a % m + (v - a)) % m ≡ v % m = mod-add-mod a m (v - a) ∙ ap (λ (i : ℕ). i % m) (whole h) in
     let q = mod-lt a p in
     elim (dec_lt (a % m + (v - a)) m) [
@@ -113,40 +113,40 @@ mod-after m a v p h l =
     whole : a ≤ v → a + (v - a) ≡ v
     whole h = omega arith
 
-pub span-empty : (m a b : ℕ) → 0 < m → b < a → Spanning m a b (record { first = a % m; count = 0 })
-span-empty m a b p h = record { starts = mod-lt a p; few = omega arith; has = λ v l g. absurd (omega arith) }
+pub span_empty : (m a b : ℕ) → 0 < m → b < a → Spanning m a b (record { first = a % m; count = 0 })
+span_empty m a b p h = record { starts = mod-lt a p; few = omega arith; has = λ v l g. absurd (omega arith) }
 
-pub span-part : (m a b : ℕ) → 0 < m → a ≤ b → b - a < m → Spanning m a b (record { first = a % m; count = b - a + 1 })
-span-part m a b p h l = record {
+pub span_part : (m a b : ℕ) → 0 < m → a ≤ b → b - a < m → Spanning m a b (record { first = a % m; count = b - a + 1 })
+span_part m a b p h l = record {
   starts = mod-lt a p;
   few = omega arith;
   has = λ v g k.
       let s : v - a < b - a + 1 = omega arith in
       omega (
         arith,
-        residues-met m (v % m) (mod-lt v p) (b - a + 1) (a % m) (v - a) (mod-lt a p) (omega arith) (omega arith)
-            (mod-after m a v p g (omega arith)),
+        residues_met m (v % m) (mod-lt v p) (b - a + 1) (a % m) (v - a) (mod-lt a p) (omega arith) (omega arith)
+            (mod_after m a v p g (omega arith)),
         ap bit (lt-ltb (v - a) (b - a + 1) s),
       );
 }
 
-pub span-whole : (m a b : ℕ) → 0 < m → Spanning m a b (record { first = a % m; count = m })
-span-whole m a b p = record {
+pub span_whole : (m a b : ℕ) → 0 < m → Spanning m a b (record { first = a % m; count = m })
+span_whole m a b p = record {
   starts = mod-lt a p;
   few = omega arith;
   has = λ v g k.
       let d = apart m (a % m) (v % m) (mod-lt a p) (mod-lt v p) in
-      omega (arith, residues-met m (v % m) (mod-lt v p) m (a % m) d.0 (mod-lt a p) (omega arith) d.1 d.2, ap bit (lt-ltb d.0 m d.1));
+      omega (arith, residues_met m (v % m) (mod-lt v p) m (a % m) d.0 (mod-lt a p) (omega arith) d.1 d.2, ap bit (lt-ltb d.0 m d.1));
 }
 
 -- ---- two remainders in one number
 
-row-own : (m p q : ℕ) → q < m → (qs : List ℕ) → Below m qs → count (eqb (p * m + q)) (row m p qs) ≡ count (eqb q) qs
+row_own : (m p q : ℕ) → q < m → (qs : List ℕ) → Below m qs → count (eqb (p * m + q)) (row m p qs) ≡ count (eqb q) qs
 unfolding row
-row-own m p q h [] b = refl
-row-own m p q h (q' ∷ qs) b =
-    let ih = row-own m p q h qs (below_rest m q' qs b) in
-    let l = below-first m q' qs b in
+row_own m p q h [] b = refl
+row_own m p q h (q' ∷ qs) b =
+    let ih = row_own m p q h qs (below_rest m q' qs b) in
+    let l = below_first m q' qs b in
     ⊎_elim
     (λ (t : eqb q q' ≡ true). let e = eqb-true q q' t in rw (t, eq-eqb (p * m + q) (p * m + q') (omega arith), ih))
     (λ (t : eqb q q' ≡ false). let ne = eqb-false q q' t in rw (t, ne_eqb (p * m + q) (p * m + q') (λ (e : p * m + q ≡ p * m + q'). omega arith), ih))
@@ -156,8 +156,8 @@ differ : (m p q p' q' : ℕ) → q < m → q' < m → p < p' → p * m + q ≡ p
 differ m p q p' q' h k l e = let s : suc p * m ≤ p' * m = mul-le-mul_right m l in omega arith
 
 -- numbers with different remainders are different
-pub joined-apart : (m p q p' q' : ℕ) → q < m → q' < m → q ≢ q' → p * m + q ≡ p' * m + q' → ⊥
-joined-apart m p q p' q' h k d e = elim (dec_lt p p') [
+pub joined_apart : (m p q p' q' : ℕ) → q < m → q' < m → q ≢ q' → p * m + q ≡ p' * m + q' → ⊥
+joined_apart m p q p' q' h k d e = elim (dec_lt p p') [
   | yes l ↦ differ m p q p' q' h k l e
   | no l ↦ elim (dec_lt p' p) [
     | yes r ↦ differ m p' q' p q k h r (sym e)
@@ -173,7 +173,7 @@ unfolding row
 row_other m p q p' h ne [] b = refl
 row_other m p q p' h ne (q' ∷ qs) b =
     let ih = row_other m p q p' h ne qs (below_rest m q' qs b) in
-    let l = below-first m q' qs b in
+    let l = below_first m q' qs b in
     rw (ne_eqb (p * m + q) (p' * m + q') (apart_from l), ih)
   where
     apart_from : q' < m → p * m + q ≡ p' * m + q' → ⊥
@@ -182,17 +182,17 @@ row_other m p q p' h ne (q' ∷ qs) b =
       | no s ↦ differ m p' q' p q l h (omega arith) (sym e)
     ]
 
-pub rows-count : (m p q : ℕ) → q < m → (ps qs : List ℕ) → Below m qs → count (eqb (p * m + q)) (rows m ps qs) ≡ count (eqb p) ps * count (eqb q) qs
+pub rows_count : (m p q : ℕ) → q < m → (ps qs : List ℕ) → Below m qs → count (eqb (p * m + q)) (rows m ps qs) ≡ count (eqb p) ps * count (eqb q) qs
 unfolding rows
-rows-count m p q h [] qs b = omega arith
-rows-count m p q h (p' ∷ ps) qs b =
-    let ih = rows-count m p q h ps qs b in
-    let s = count-append (eqb (p * m + q)) (row m p' qs) (rows m ps qs) in
+rows_count m p q h [] qs b = omega arith
+rows_count m p q h (p' ∷ ps) qs b =
+    let ih = rows_count m p q h ps qs b in
+    let s = count_append (eqb (p * m + q)) (row m p' qs) (rows m ps qs) in
     ⊎_elim
     (λ (t : eqb p p' ≡ true).
     let e = eqb-true p p' t in
     let o : count (eqb (p * m + q)) (row m p' qs)
-    ≡ count (eqb q) qs = subst (λ (i : ℕ). count (eqb (p * m + q)) (row m i qs) ≡ count (eqb q) qs) e (row-own m p q h qs b) in
+    ≡ count (eqb q) qs = subst (λ (i : ℕ). count (eqb (p * m + q)) (row m i qs) ≡ count (eqb q) qs) e (row_own m p q h qs b) in
     rw t (omega arith))
     (λ (t : eqb p p' ≡ false). let o = row_other m p q p' h (eqb-false p p' t) qs b in rw t (omega arith))
     (either (eqb p p'))

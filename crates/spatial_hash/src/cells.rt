@@ -3,8 +3,8 @@ ghost use Rattle.std.specs.Prelude.{◌≡◌, ◌+◌, ◌*◌, ◌%◌, ◌≤
 ghost use Rattle.std.specs.Float.Ieee.{lt};
 ghost use Rattle.std.specs.Float.Ieee.Scale.{finite};
 ghost use Rattle.numbers.specs.Rounded.{f32};
-ghost use Rattle.regions.specs.Inner.Regions.{bucketRoom};
-ghost use Rattle.spatial_hash.specs.Inner.Buckets.{slot, rowFor, placeFor, bucketOf, nextResidue, Spanning};
+ghost use Rattle.regions.specs.Inner.Regions.{bucket_room};
+ghost use Rattle.spatial_hash.specs.Inner.Buckets.{slot, row_for, place_for, bucket_of, next_residue, Spanning};
 
 use crate::{Hash, Span};
 use vector::Point3f;
@@ -25,7 +25,7 @@ pub fn scale_for(size: f32) -> f32
 // How many cells on an axis have buckets of their own: as many as there is room for.
 pub fn side_for(n: usize) -> usize
     requires { n ≤ 4096 }
-    ensures { (0 < result) × (result ≤ 24) × (result * result * (result + 1) ≤ bucketRoom n) }
+    ensures { (0 < result) × (result ≤ 24) × (result * result * (result + 1) ≤ bucket_room n) }
 {
     let room = regions::BUCKETS * n + regions::EXTRA;
     if 14400 <= room {
@@ -61,7 +61,7 @@ fn residue(side: usize, scale: f32, least: f32, v: f32) -> usize
 // The row of buckets that a place is in.
 pub fn row_of(hash: Hash, p: Point3f) -> usize
     requires { (0 < hash.side) × (hash.side ≤ 24) }
-    ensures { (result ≡ rowFor hash p) × (result < hash.side * hash.side) }
+    ensures { (result ≡ row_for hash p) × (result < hash.side * hash.side) }
 {
     let side = hash.side;
     let x = residue(side, hash.scale, hash.least.x, p.x);
@@ -72,7 +72,7 @@ pub fn row_of(hash: Hash, p: Point3f) -> usize
 // Which bucket of its row that is.
 pub fn place_in_row(hash: Hash, p: Point3f) -> usize
     requires { 0 < hash.side }
-    ensures { (result ≡ placeFor hash p) × (result < hash.side) }
+    ensures { (result ≡ place_for hash p) × (result < hash.side) }
 {
     residue(hash.side, hash.scale, hash.least.z, p.z)
 }
@@ -80,7 +80,7 @@ pub fn place_in_row(hash: Hash, p: Point3f) -> usize
 // The bucket of a place. A row has one bucket more than it has remainders.
 pub fn bucket_of(hash: Hash, p: Point3f) -> usize
     requires { (0 < hash.side) × (hash.side ≤ 24) }
-    ensures { result ≡ bucketOf hash p }
+    ensures { result ≡ bucket_of hash p }
 {
     let row = row_of(hash, p);
     row * (hash.side + 1) + place_in_row(hash, p)
@@ -89,7 +89,7 @@ pub fn bucket_of(hash: Hash, p: Point3f) -> usize
 // The remainder after r.
 pub fn next(side: usize, r: usize) -> usize
     requires { r < side }
-    ensures { result ≡ nextResidue side r }
+    ensures { result ≡ next_residue side r }
 {
     let t = r + 1;
     if t == side { 0 } else { t }

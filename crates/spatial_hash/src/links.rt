@@ -1,10 +1,10 @@
 // Chaining the points into buckets. A bucket's word and a point's have the number of the next point plus 1, or 0;
 // a point's that was taken out has a number beyond all others.
 ghost use Rattle.std.specs.Prelude.{◌≡◌, ℕ, ◌+◌, ◌*◌, ◌≤◌, ◌<◌, length, take, get_or, set};
-ghost use Rattle.points.specs.Points.{pointAt};
-ghost use Rattle.regions.specs.Inner.Regions.{linksAt, startsAt, bucketRoom, wordsLength};
+ghost use Rattle.points.specs.Points.{point_at_lem};
+ghost use Rattle.regions.specs.Inner.Regions.{links_at, starts_at, bucket_room, words_length};
 ghost use Rattle.bucket_order.specs.Inner.Chains.{Chained};
-ghost use Rattle.spatial_hash.specs.Inner.Buckets.{bucketAt, buckets, linksOf, isOut};
+ghost use Rattle.spatial_hash.specs.Inner.Buckets.{bucket_at, buckets, links_of, is_out};
 ghost use Rattle.vector.specs.Inner.Numbers.{Finite};
 ghost use Rattle.spatial_hash.specs.Inner.Near.{EmptyHash};
 
@@ -26,7 +26,7 @@ fn lower(a: Point3f, b: Point3f) -> Point3f
 
 // The least coordinates of the points. That they are numbers is all that is promised.
 pub fn least_corner(points: &[f32], n: usize) -> Point3f
-    requires { (n ≤ 4096) × (3 * n ≤ length points.now) × ((i : ℕ) → i < n → Finite (pointAt points.now i)) }
+    requires { (n ≤ 4096) × (3 * n ≤ length points.now) × ((i : ℕ) → i < n → Finite (point_at points.now i)) }
     ensures { Finite result }
 {
     if n == 0 {
@@ -47,10 +47,10 @@ pub fn least_corner(points: &[f32], n: usize) -> Point3f
 
 // Empties the buckets.
 pub fn clear_heads(w: &mut [u32], n: usize, side: usize)
-    requires { (n ≤ 4096) × (side ≤ 24) × (side * side * (side + 1) ≤ bucketRoom n)
-        × (wordsLength n ≤ length w.old) }
-    ensures { ((b : ℕ) → b < side * side * (side + 1) → get_or w.new (startsAt n + b) 0 ≡ 0)
-        × (take (linksAt n) w.new ≡ take (linksAt n) w.old) }
+    requires { (n ≤ 4096) × (side ≤ 24) × (side * side * (side + 1) ≤ bucket_room n)
+        × (words_length n ≤ length w.old) }
+    ensures { ((b : ℕ) → b < side * side * (side + 1) → get_or w.new (starts_at n + b) 0 ≡ 0)
+        × (take (links_at n) w.new ≡ take (links_at n) w.old) }
 {
     let buckets = side * side * (side + 1);
     let mut b: usize = 0;
@@ -62,17 +62,17 @@ pub fn clear_heads(w: &mut [u32], n: usize, side: usize)
 
 // Whether point k was taken out.
 pub fn is_out(w: &[u32], n: usize, k: usize) -> bool
-    requires { (n ≤ 4096) × (k < n) × (wordsLength n ≤ length w.now) }
-    ensures { result ≡ isOut n (linksOf n w.now) k }
+    requires { (n ≤ 4096) × (k < n) × (words_length n ≤ length w.now) }
+    ensures { result ≡ is_out n (links_of n w.now) k }
 {
     w[regions::LINKS * n + k] > n as u32
 }
 
 // Puts point j at the head of bucket b.
 fn link_point(w: &mut [u32], n: usize, b: usize, j: usize)
-    requires { (n ≤ 4096) × (j < n) × (b < bucketRoom n) × (wordsLength n ≤ length w.old) }
+    requires { (n ≤ 4096) × (j < n) × (b < bucket_room n) × (words_length n ≤ length w.old) }
     ensures { w.new ≡ set
-        (set w.old (linksAt n + j) (get_or w.old (startsAt n + b) 0)) (startsAt n + b) (j + 1) }
+        (set w.old (links_at n + j) (get_or w.old (starts_at n + b) 0)) (starts_at n + b) (j + 1) }
 {
     w[regions::LINKS * n + j] = w[regions::STARTS * n + b];
     w[regions::STARTS * n + b] = (j + 1) as u32;
@@ -81,8 +81,8 @@ fn link_point(w: &mut [u32], n: usize, b: usize, j: usize)
 // Chains the points into empty buckets.
 pub fn link_points(points: &[f32], w: &mut [u32], n: usize, hash: Hash)
     requires { EmptyHash hash points.now n w.old }
-    ensures { Chained (bucketAt hash points.now) n (buckets hash) w.new n
-        × (take (linksAt n) w.new ≡ take (linksAt n) w.old) }
+    ensures { Chained (bucket_at hash points.now) n (buckets hash) w.new n
+        × (take (links_at n) w.new ≡ take (links_at n) w.old) }
 {
     let mut j: usize = 0;
     while j < n {

@@ -2,9 +2,9 @@
 // returns how many there are then.
 // The coordinates are there for the contracts alone.
 ghost use Rattle.std.specs.Prelude.{◌+◌, ◌-◌, ◌*◌, ◌≤◌, ◌<◌, length};
-ghost use Rattle.regions.specs.Inner.Regions.{order_at, wordsLength};
-ghost use Rattle.spatial_hash.specs.Inner.Buckets.{linksOf, residues, row, row_of, planeOf, bucketsOfBox};
-ghost use Rattle.spatial_hash.specs.Inner.Buckets.{pointsIn};
+ghost use Rattle.regions.specs.Inner.Regions.{order_at, words_length};
+ghost use Rattle.spatial_hash.specs.Inner.Buckets.{links_of, residues, row, row_of, plane_of, buckets_of_box};
+ghost use Rattle.spatial_hash.specs.Inner.Buckets.{points_in};
 ghost use Rattle.spatial_hash.specs.Inner.Buckets.{Appended};
 ghost use Rattle.bucket_order.specs.Inner.Order.{reads};
 ghost use Rattle.spatial_hash.specs.Inner.Near.{NeighborRoom};
@@ -14,7 +14,7 @@ use crate::{Hash, Span};
 
 // The points at some places of the order, one after another.
 fn copy_points(w: &mut [u32], n: usize, from: usize, to: usize, count: usize) -> usize
-    requires { (n ≤ 4096) × (wordsLength n ≤ length w.old) × (from ≤ to) × (to ≤ n) × (count + (to - from) ≤ n) }
+    requires { (n ≤ 4096) × (words_length n ≤ length w.old) × (from ≤ to) × (to ≤ n) × (count + (to - from) ≤ n) }
     ensures { Appended n w.old w.new count result
         (reads w.old (order_at n + from) (to - from)) }
 {
@@ -41,10 +41,10 @@ fn visit_run(
 ) -> usize
     requires { (at < hash.side * hash.side) × (first ≤ end) × (end ≤ hash.side)
         × NeighborRoom hash points.now n w.old count
-        (pointsIn hash points.now n (linksOf n w.old)
+        (points_in hash points.now n (links_of n w.old)
         (row (hash.side + 1) at (residues hash.side first (end - first)))) }
     ensures { Appended n w.old w.new count result
-        (pointsIn hash points.now n (linksOf n w.old)
+        (points_in hash points.now n (links_of n w.old)
         (row (hash.side + 1) at (residues hash.side first (end - first)))) }
 {
     let side = hash.side;
@@ -66,9 +66,9 @@ fn visit_row(
 ) -> usize
     requires { (at < hash.side * hash.side) × (zs.first < hash.side) × (zs.count ≤ hash.side)
         × NeighborRoom hash points.now n w.old count
-        (pointsIn hash points.now n (linksOf n w.old) (row_of hash.side at zs)) }
+        (points_in hash points.now n (links_of n w.old) (row_of hash.side at zs)) }
     ensures { Appended n w.old w.new count result
-        (pointsIn hash points.now n (linksOf n w.old) (row_of hash.side at zs)) }
+        (points_in hash points.now n (links_of n w.old) (row_of hash.side at zs)) }
 {
     let side = hash.side;
     let first = zs.first;
@@ -94,9 +94,9 @@ fn visit_plane(
 ) -> usize
     requires { (x < hash.side) × (ys.first < hash.side) × (zs.first < hash.side) × (zs.count ≤ hash.side)
         × NeighborRoom hash points.now n w.old count
-        (pointsIn hash points.now n (linksOf n w.old) (planeOf hash.side x ys zs)) }
+        (points_in hash points.now n (links_of n w.old) (plane_of hash.side x ys zs)) }
     ensures { Appended n w.old w.new count result
-        (pointsIn hash points.now n (linksOf n w.old) (planeOf hash.side x ys zs)) }
+        (points_in hash points.now n (links_of n w.old) (plane_of hash.side x ys zs)) }
 {
     let mut total = count;
     let mut y = ys.first;
@@ -122,9 +122,9 @@ pub fn visit_planes(
     requires { (xs.first < hash.side) × (ys.first < hash.side) × (zs.first < hash.side)
         × (zs.count ≤ hash.side)
         × NeighborRoom hash points.now n w.old 0
-        (pointsIn hash points.now n (linksOf n w.old) (bucketsOfBox hash.side xs ys zs)) }
+        (points_in hash points.now n (links_of n w.old) (buckets_of_box hash.side xs ys zs)) }
     ensures { Appended n w.old w.new 0 result
-        (pointsIn hash points.now n (linksOf n w.old) (bucketsOfBox hash.side xs ys zs)) }
+        (points_in hash points.now n (links_of n w.old) (buckets_of_box hash.side xs ys zs)) }
 {
     let mut total: usize = 0;
     let mut x = xs.first;

@@ -2,7 +2,7 @@
 ghost use Rattle.std.specs.Prelude.{◌≡◌};
 ghost use Rattle.laying.specs.Inner.Laying.{AllSearchable};
 ghost use Rattle.radii.specs.Inner.Steps.{RadiiListed};
-ghost use Rattle.ball_pivoting.specs.Reconstruct.{scene_of, radiiOf};
+ghost use Rattle.ball_pivoting.specs.Reconstruct.{scene_of, radii_of};
 ghost use Rattle.ball_pivoting.specs.Inner.Parts.{CloudSized, WorkReady};
 
 use decisions::Scene;
@@ -61,7 +61,7 @@ pub fn survey(
     requires { WorkReady settings points.now words.old floats.old }
     ensures { (result.scene ≡ scene_of settings points.now)
         × AllSearchable result.scene result.hash points.now words.new
-        × RadiiListed (radiiOf settings points.now) result.radii }
+        × RadiiListed (radii_of settings points.now) result.radii }
 {
     let site = index_points(points, settings, words);
     let scene = site.scene;

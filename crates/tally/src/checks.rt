@@ -1,6 +1,6 @@
 // Which patches may be entered, and which tallies are ones that a season can have left: what 20 and 24 refuse.
 ghost use Rattle.std.specs.Prelude.{◌≡◌, ◌<◌};
-ghost use Rattle.tally.specs.Checks.{enterable, tallyWithin, soundTally};
+ghost use Rattle.tally.specs.Checks.{enterable, tally_within, sound_tally};
 
 use crate::{SeasonPatch, Tally};
 
@@ -36,7 +36,7 @@ pub fn is_enterable(patch: SeasonPatch) -> bool
 
 // Whether no sum is more or less than so many patches can have.
 fn is_within(tally: Tally) -> bool
-    ensures { result ≡ tallyWithin tally }
+    ensures { result ≡ tally_within tally }
 {
     tally.patches <= MAX_PATCHES
         && (tally.faces <= tally.patches * FACES
@@ -48,7 +48,7 @@ fn is_within(tally: Tally) -> bool
 
 // Whether a tally is taken. The sums are held to their limits first: no product then is above 10^18.
 pub fn is_sound(tally: Tally) -> bool
-    ensures { result ≡ soundTally tally }
+    ensures { result ≡ sound_tally tally }
 {
     let best = tally.best;
     let worst = tally.worst;

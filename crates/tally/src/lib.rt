@@ -2,7 +2,7 @@
 pub mod checks;
 
 ghost use Rattle.std.specs.Prelude.{◌≡◌};
-ghost use Rattle.tally.specs.Tallies.{better, betterPatch, worstOf, summed, addedTo};
+ghost use Rattle.tally.specs.Tallies.{better, better_patch, worst_of, summed, added_to};
 ghost use Rattle.tally.specs.Checks.{TallyRoom, Enterable};
 
 use checks::wide;
@@ -46,7 +46,7 @@ fn is_better(a: SeasonPatch, b: SeasonPatch) -> bool
 
 // The better covered of the two, the one held on equality.
 fn best_of(held: SeasonPatch, patch: SeasonPatch) -> SeasonPatch
-    ensures { result ≡ betterPatch held patch }
+    ensures { result ≡ better_patch held patch }
 {
     if is_better(patch, held) {
         return patch;
@@ -56,7 +56,7 @@ fn best_of(held: SeasonPatch, patch: SeasonPatch) -> SeasonPatch
 
 // The worse covered of the two, the one held on equality.
 fn worst_of(held: SeasonPatch, patch: SeasonPatch) -> SeasonPatch
-    ensures { result ≡ worstOf held patch }
+    ensures { result ≡ worst_of held patch }
 {
     if is_better(held, patch) {
         return patch;
@@ -83,7 +83,7 @@ fn summed(tally: Tally, patch: SeasonPatch, best: SeasonPatch, worst: SeasonPatc
 
 // The tally with one patch more, or the refusal and the tally as it was.
 pub fn added(tally: Tally, patch: SeasonPatch) -> Outcome
-    ensures { result ≡ addedTo tally patch }
+    ensures { result ≡ added_to tally patch }
 {
     let best = tally.best;
     let worst = tally.worst;

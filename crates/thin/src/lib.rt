@@ -1,9 +1,9 @@
 // A test by squares that a triangle's aspect ratio is at most a bound, before any root is taken.
 ghost use Rattle.std.specs.Prelude.{◌≡◌, true};
-ghost use Rattle.thin.specs.Inner.Thin.{ThinLimit, ThinUpTo, squareBetween, isPlainTriangle, spread};
+ghost use Rattle.thin.specs.Inner.Thin.{ThinLimit, ThinUpTo, square_between, is_plain_triangle, spread};
 
 fn is_between(x: f32, lo: f32, hi: f32) -> bool
-    ensures { result ≡ squareBetween x lo hi }
+    ensures { result ≡ square_between x lo hi }
 {
     lo <= x && x <= hi
 }
@@ -20,7 +20,7 @@ pub fn thin_limit(aspect: f32) -> f32
 
 // Whether nothing over- or underflows with these squares, but for the limit's last product in `is_thin`.
 fn is_plain(a: f32, b: f32, c: f32, cross: f32) -> bool
-    ensures { result ≡ isPlainTriangle a b c cross }
+    ensures { result ≡ is_plain_triangle a b c cross }
 {
     is_between(a, 0.00000000000090949470, 67108864.0)
         && (is_between(b, 0.00000000000090949470, 67108864.0)

@@ -1,7 +1,7 @@
 // Whether three points make no seed, whichever of them comes first: lengths and areas are worked out once for all
 // orders.
 ghost use Rattle.std.specs.Prelude.{◌≡◌, true, ◌*◌, ◌<◌, length};
-ghost use Rattle.quality.specs.Inner.Shape.{qualityOf};
+ghost use Rattle.quality.specs.Inner.Shape.{quality_of};
 ghost use Rattle.decisions.specs.Decisions.{accepts};
 ghost use Rattle.triangle.specs.Quality.{area};
 ghost use Rattle.three_points.specs.Inner.Judged.{Seedless, RefusedBoth, RefusedAll, LimitsAtRadius};
@@ -22,7 +22,7 @@ const BOUNDED: usize = 8;
 // Whether the settings accept a triangle with edges of lengths a, b and c at a radius. The bound is asked first, since
 // it needs no angle.
 fn is_accepted(s: Scene, radius: f32, a: f32, b: f32, c: f32, area: f32) -> bool
-    ensures { result ≡ accepts s radius (qualityOf a b c area) }
+    ensures { result ≡ accepts s radius (quality_of a b c area) }
 {
     let shape = quality::shape_of(a, b, c, area);
     if score_bounds::score_bound(shape) < s.quality_threshold {

@@ -1,10 +1,10 @@
 // Where each face of a patch came from: one pass over the laid faces writes its parent's number and its radius's place.
 ghost use Rattle.std.specs.Prelude.{◌≡◌, ◌*◌, ◌≤◌, ◌<◌, max, length, get_or, set, take};
 ghost use Rattle.std.proofs.lemmas.List.Edits.{sets};
-ghost use Rattle.origins.specs.Pass.{parentAt, broughtAfter, place_of, originsFrom};
+ghost use Rattle.origins.specs.Pass.{parent_at, brought_after, place_of, origins_from};
 ghost use Rattle.patch.specs.Lay.{face};
-ghost use Rattle.tracing.specs.Inner.Read.{facesFrom};
-ghost use Rattle.tracing.specs.Plain.{plainOrigins};
+ghost use Rattle.tracing.specs.Inner.Read.{faces_from};
+ghost use Rattle.tracing.specs.Plain.{plain_origins};
 
 // The word of a point; 0 where there is none.
 fn word_at(words: &[u32], point: u32) -> u32
@@ -39,8 +39,8 @@ fn later(x: u32, y: u32) -> u32
 // The parent of face k, whose points are a, b and c; the points that it brings in get its number, plus 1.
 fn trace_face(words: &mut [u32], k: u32, a: u32, b: u32, c: u32) -> u32
     requires { k ≤ 10000 }
-    ensures { (result ≡ parentAt k words.old (face a b c))
-        × (words.new ≡ broughtAfter k words.old (face a b c)) }
+    ensures { (result ≡ parent_at k words.old (face a b c))
+        × (words.new ≡ brought_after k words.old (face a b c)) }
 {
     let first = word_at(words, a);
     let word = k + 1;
@@ -84,7 +84,7 @@ pub fn write_origins(
     requires { (count ≤ 10000) × (3 * count ≤ length faces.now) × (2 * count ≤ length origins.old)
         × (radii ≤ 17) }
     ensures { origins.new ≡ sets origins.old 0
-        (originsFrom (take radii marks) 0 words.old (facesFrom faces.now 0 count)) }
+        (origins_from (take radii marks) 0 words.old (faces_from faces.now 0 count)) }
 {
     let mut k: usize = 0;
     while k < count {
@@ -105,7 +105,7 @@ pub fn write_origins(
 // A plain face has no parent and no radius: it names itself, and place 0.
 pub fn write_plain_origins(count: usize, origins: &mut [u32])
     requires { (count ≤ 10000) × (2 * count ≤ length origins.old) }
-    ensures { origins.new ≡ sets origins.old 0 (plainOrigins count) }
+    ensures { origins.new ≡ sets origins.old 0 (plain_origins count) }
 {
     let mut k: usize = 0;
     while k < count {

@@ -8,10 +8,10 @@ use lib.Ieee.{Float, binary32, neg, add, sub, mul, div, lt, le, eq, is_nan, of_b
 use Rattle.numbers.specs.Rounded.{f32}
 use Rattle.numbers.specs.Root.{root}
 use Rattle.numbers.specs.Order.{minimum, maximum, clamp}
-use Rattle.numbers.specs.Acos.{R, abs, highPart, acosMiddle, acosLow, acosHigh, acosInside, acos}
-use Rattle.vector.specs.Vector.{point, difference, magnitudeSquared, magnitude, cross, squared, distance}
-use Rattle.quality.specs.Measures.{radiusOf, angle, least, largest, aspectRatio, edgeRatio, score, measures, degenerate}
-use Rattle.triangle.specs.Quality.{area, circumradius, quality, sourceAcceptable, acceptable}
+use Rattle.numbers.specs.Acos.{R, abs, high_part, acos_middle, acos_low, acos_high, acos_inside, acos}
+use Rattle.vector.specs.Vector.{point, difference, magnitude_squared, magnitude, cross, squared, distance}
+use Rattle.quality.specs.Measures.{radius_of, angle, least, largest, aspect_ratio, edge_ratio, score, measures, degenerate}
+use Rattle.triangle.specs.Quality.{area, circumradius, quality, source_acceptable, acceptable}
 use Rattle.vector.specs.declared.Point3f.{Point3f}
 use Rattle.quality.specs.declared.TriangleQuality.{TriangleQuality}
 
@@ -38,14 +38,14 @@ quality-values :
     ≡ 0x332bcc78 ∷ 0 ∷ 0x40490fda ∷ 0x3ba3d70b ∷ 0x40000000 ∷ 0x3eaaaaac ∷ [])
     × (bits (quality (flat 0 0) (flat 0x3f800000 0) (flat 0x40400000 0))
     ≡ 0 ∷ 0 ∷ 0x40490fdb ∷ 0 ∷ 0x7f800000 ∷ 0 ∷ [])
-unfolding area radiusOf circumradius angle least largest aspectRatio edgeRatio score measures degenerate quality difference magnitudeSquared magnitude cross
-    squared distance minimum maximum clamp R abs highPart acosMiddle acosLow acosHigh acosInside acos root neg add sub mul div lt le eq is_nan of_bits to_bits
+unfolding area radius_of circumradius angle least largest aspect_ratio edge_ratio score measures degenerate quality difference magnitude_squared magnitude cross
+    squared distance minimum maximum clamp R abs high_part acos_middle acos_low acos_high acos_inside acos root neg add sub mul div lt le eq is_nan of_bits to_bits
 quality-values = (refl, refl, refl)
 
 -- whether a triangle next to no area is taken at radius 1 with no threshold, as published and now
 abbrev taken : Float → ℕ → Bool × Bool
 taken factor bits = (
-  sourceAcceptable (degenerate (f32 bits)) (f32 0x3f800000) (f32 0) (f32 0) factor,
+  source_acceptable (degenerate (f32 bits)) (f32 0x3f800000) (f32 0) (f32 0) factor,
   acceptable (degenerate (f32 bits)) (f32 0x3f800000) (f32 0) (f32 0) factor,
 )
 
@@ -58,5 +58,5 @@ areas-turned-down :
     × (taken (f32 0x40400000) 1 ≡ (false, false))
     × (taken (f32 0x7f800000) 0 ≡ (true, false))
     × (taken (f32 0x7f800000) 1 ≡ (true, true))
-unfolding sourceAcceptable acceptable degenerate root neg add sub mul div lt le eq is_nan of_bits to_bits
+unfolding source_acceptable acceptable degenerate root neg add sub mul div lt le eq is_nan of_bits to_bits
 areas-turned-down = (refl, refl, refl, refl, refl, refl)

@@ -7,7 +7,7 @@ use Rattle.numbers.specs.Rounded.{f32, ◌⊗◌}
 use Rattle.numbers.specs.Root.{root}
 use Rattle.vector.specs.Vector.{difference, magnitude, cross, distance}
 use Rattle.vector.specs.declared.Point3f.{Point3f}
-use Rattle.quality.specs.Measures.{half, tiny, radiusOf, measures, degenerate}
+use Rattle.quality.specs.Measures.{half, tiny, radius_of, measures, degenerate}
 use Rattle.quality.specs.declared.TriangleQuality.{TriangleQuality}
 
 -- half the length of the cross product of two edges
@@ -18,7 +18,7 @@ area p1 p2 p3 = magnitude (cross (difference p2 p1) (difference p3 p1)) ⊗ half
 unfoldable pub circumradius : Point3f → Point3f → Point3f → Float
 circumradius p1 p2 p3 =
     cond (lt (area p1 p2 p3) tiny) (inf false)
-    (radiusOf (distance p2 p1) (distance p3 p2) (distance p1 p3) (area p1 p2 p3))
+    (radius_of (distance p2 p1) (distance p3 p2) (distance p1 p3) (area p1 p2 p3))
 
 -- `compute_triangle_quality`
 unfoldable pub quality : Point3f → Point3f → Point3f → TriangleQuality
@@ -31,8 +31,8 @@ abbrev pub is_zero : Float → Bool
 is_zero x = eq x (f32 0)
 
 -- `is_triangle_acceptable` as published: the area, the score, and the edges against the radius
-unfoldable pub sourceAcceptable : TriangleQuality → Float → Float → Float → Float → Bool
-sourceAcceptable q radius leastArea threshold factor =
+unfoldable pub source_acceptable : TriangleQuality → Float → Float → Float → Float → Bool
+source_acceptable q radius leastArea threshold factor =
     cond (lt q.area leastArea) false
     (cond (lt q.quality_score threshold) false
     (not (lt (radius ⊗ factor) (q.edge_ratio ⊗ root q.area))))
@@ -40,4 +40,4 @@ sourceAcceptable q radius leastArea threshold factor =
 -- `is_triangle_acceptable`: an area of exactly zero is turned down first, under every setting
 unfoldable pub acceptable : TriangleQuality → Float → Float → Float → Float → Bool
 acceptable q radius leastArea threshold factor =
-    cond (is_zero q.area) false (sourceAcceptable q radius leastArea threshold factor)
+    cond (is_zero q.area) false (source_acceptable q radius leastArea threshold factor)

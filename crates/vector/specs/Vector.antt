@@ -12,12 +12,12 @@ unfoldable pub difference : Point3f → Point3f → Point3f
 difference p q = point (p.x ⊖ q.x) (p.y ⊖ q.y) (p.z ⊖ q.z)
 
 -- the scope's length, squared: (x·x + y·y) + z·z
-unfoldable pub magnitudeSquared : Point3f → Float
-magnitudeSquared v = (v.x ⊗ v.x ⊕ v.y ⊗ v.y) ⊕ v.z ⊗ v.z
+unfoldable pub magnitude_squared : Point3f → Float
+magnitude_squared v = (v.x ⊗ v.x ⊕ v.y ⊗ v.y) ⊕ v.z ⊗ v.z
 
 -- the scope's length
 unfoldable pub magnitude : Point3f → Float
-magnitude v = root (magnitudeSquared v)
+magnitude v = root (magnitude_squared v)
 
 -- the scope's cross product: y·z' - z·y', and the others in turn
 unfoldable pub cross : Point3f → Point3f → Point3f
@@ -25,7 +25,7 @@ cross v w = point (v.y ⊗ w.z ⊖ v.z ⊗ w.y) (v.z ⊗ w.x ⊖ v.x ⊗ w.z) (v
 
 -- the length of p - q, squared
 unfoldable pub squared : Point3f → Point3f → Float
-squared p q = magnitudeSquared (difference p q)
+squared p q = magnitude_squared (difference p q)
 
 -- the length of p - q
 unfoldable pub distance : Point3f → Point3f → Float

@@ -1,6 +1,6 @@
 // Points and vectors of three f32, each operation rounded once.
 ghost use Rattle.std.specs.Prelude.{◌≡◌};
-ghost use Rattle.vector.specs.Vector.{point, difference, magnitudeSquared, magnitude, cross, squared, distance};
+ghost use Rattle.vector.specs.Vector.{point, difference, magnitude_squared, magnitude, cross, squared, distance};
 
 // A point, or the vector between two.
 #[repr(C)]
@@ -31,7 +31,7 @@ pub fn difference(p: Point3f, q: Point3f) -> Point3f
 
 // The length of v, squared.
 pub fn magnitude_squared(v: Point3f) -> f32
-    ensures { result ≡ magnitudeSquared v }
+    ensures { result ≡ magnitude_squared v }
 {
     (v.x * v.x + v.y * v.y) + v.z * v.z
 }

@@ -8,34 +8,34 @@ use lib.Dec.{eqb}
 use lib.Ieee.{Float}
 use borrow.Author.Tests.{eqb-true}
 use Rattle.settings.specs.declared.BallPivotingConfig.{BallPivotingConfig}
-use Rattle.points.specs.Points.{pointAt}
+use Rattle.points.specs.Points.{point_at}
 use Rattle.triangle.specs.Quality.{quality}
-use Rattle.verdict.specs.Verdict.{isGood}
-use Rattle.verdict.specs.Judged.{judgeRefusal, verdictAt, judged}
+use Rattle.verdict.specs.Verdict.{is_good}
+use Rattle.verdict.specs.Judged.{judge_refusal, verdict_at, judged}
 use Rattle.verdict.specs.Claims.{Judging}
 use Rattle.verdict.specs.declared.MeasuredKind.{MeasuredKind}
 use Rattle.verdict.specs.declared.Judgement.TheVariants.{Refused, Told}
-use Rattle.verdict.proofs.Laws.{good-exactly}
+use Rattle.verdict.proofs.Laws.{good_exactly}
 
 -- where a verdict is told, nothing is refused, and it is the definition's
 pub told_is : (points normals : List Float) (s : BallPivotingConfig) (i j k : ℕ) (v : MeasuredKind) → judged points normals s i j k ≡ Told v
-    → ((judgeRefusal points normals s i j k).answer ≡ 0) × (v ≡ verdictAt points s i j k)
+    → ((judge_refusal points normals s i j k).answer ≡ 0) × (v ≡ verdict_at points s i j k)
 unfolding judged
-told_is points normals s i j k v e = go (eqb (judgeRefusal points normals s i j k).answer 0) refl e
+told_is points normals s i j k v e = go (eqb (judge_refusal points normals s i j k).answer 0) refl e
   where
-    go : (b : Bool) → eqb (judgeRefusal points normals s i j k).answer 0 ≡ b
-        → cond b (Told (verdictAt points s i j k)) (Refused (judgeRefusal points normals s i j k).answer (judgeRefusal points normals s i j k).detail)
+    go : (b : Bool) → eqb (judge_refusal points normals s i j k).answer 0 ≡ b
+        → cond b (Told (verdict_at points s i j k)) (Refused (judge_refusal points normals s i j k).answer (judge_refusal points normals s i j k).detail)
         ≡ Told v
-        → ((judgeRefusal points normals s i j k).answer ≡ 0) × (v ≡ verdictAt points s i j k)
-    go true q h = (eqb-true (judgeRefusal points normals s i j k).answer 0 q, cc)
+        → ((judge_refusal points normals s i j k).answer ≡ 0) × (v ≡ verdict_at points s i j k)
+    go true q h = (eqb-true (judge_refusal points normals s i j k).answer 0 q, cc)
     go false q h = let z : ◌≡◌ {A = ℕ} 0 1 = cc in absurd (omega arith)
 
 pub judging : Judging
-unfolding verdictAt
+unfolding verdict_at
 judging points normals s i j k v e =
     let t = told_is points normals s i j k v e in
-    let q = quality (pointAt points i) (pointAt points j) (pointAt points k) in
+    let q = quality (point_at points i) (point_at points j) (point_at points k) in
     record {
       verdict = t.1;
-      good = ap isGood t.1 ∙ good-exactly q s.radius s.min_triangle_area s.quality_threshold s.max_edge_factor;
+      good = ap is_good t.1 ∙ good_exactly q s.radius s.min_triangle_area s.quality_threshold s.max_edge_factor;
     }

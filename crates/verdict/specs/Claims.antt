@@ -1,19 +1,19 @@
 -- What is claimed of a verdict that is told, for all input.
 use Rattle.std.specs.Prelude.{ℕ, ◌≡◌, List, Float}
 use Rattle.settings.specs.declared.BallPivotingConfig.{BallPivotingConfig}
-use Rattle.points.specs.Points.{pointAt}
+use Rattle.points.specs.Points.{point_at}
 use Rattle.triangle.specs.Quality.{quality, acceptable}
-use Rattle.verdict.specs.Verdict.{isGood}
-use Rattle.verdict.specs.Judged.{judged, verdictAt}
+use Rattle.verdict.specs.Verdict.{is_good}
+use Rattle.verdict.specs.Judged.{judged, verdict_at}
 use Rattle.verdict.specs.declared.MeasuredKind.{MeasuredKind}
 use Rattle.verdict.specs.declared.Judgement.TheVariants.{Told}
 
 -- of the points i, j and k of a cloud, and a verdict
 pub record Judges (points : List Float) (s : BallPivotingConfig) (i j k : ℕ) (v : MeasuredKind) : Type 0 where
   -- it is that of the definition
-  pub verdict : v ≡ verdictAt points s i j k
+  pub verdict : v ≡ verdict_at points s i j k
   -- it is good exactly where the acceptance test accepts at the main radius
-  pub good : isGood v ≡ acceptable (quality (pointAt points i) (pointAt points j) (pointAt points k))
+  pub good : is_good v ≡ acceptable (quality (point_at points i) (point_at points j) (point_at points k))
       s.radius s.min_triangle_area s.quality_threshold s.max_edge_factor
 
 -- whatever was asked

@@ -13,8 +13,8 @@ abbrev pub stretch : Float → Float → Float
 stretch ratio area = ratio ⊗ root area
 
 -- the acceptance test's order, no area first; of measures, radius, least area, least score and edge factor
-unfoldable pub verdictOf : TriangleQuality → Float → Float → Float → Float → MeasuredKind
-verdictOf q radius leastArea threshold factor =
+unfoldable pub verdict_of : TriangleQuality → Float → Float → Float → Float → MeasuredKind
+verdict_of q radius leastArea threshold factor =
     let long = stretch q.edge_ratio q.area in
     cond (is_zero q.area) (NoArea q.area)
     (cond (lt q.area leastArea) (Small q.area)
@@ -31,16 +31,16 @@ kind_of (Poor score) = 4
 kind_of (Long long) = 5
 
 -- what was measured: the score for good and poor, the area for no area and small
-unfoldable pub measuredOf : MeasuredKind → Float
-measuredOf (Good score) = score
-measuredOf (NoArea area) = area
-measuredOf (Small area) = area
-measuredOf (Poor score) = score
-measuredOf (Long long) = long
+unfoldable pub measured_of : MeasuredKind → Float
+measured_of (Good score) = score
+measured_of (NoArea area) = area
+measured_of (Small area) = area
+measured_of (Poor score) = score
+measured_of (Long long) = long
 
-unfoldable pub isGood : MeasuredKind → Bool
-isGood (Good score) = true
-isGood (NoArea area) = false
-isGood (Small area) = false
-isGood (Poor score) = false
-isGood (Long long) = false
+unfoldable pub is_good : MeasuredKind → Bool
+is_good (Good score) = true
+is_good (NoArea area) = false
+is_good (Small area) = false
+is_good (Poor score) = false
+is_good (Long long) = false

@@ -6,7 +6,7 @@ pub mod numbered;
 mod refusing;
 
 ghost use Rattle.std.specs.Prelude.{◌≡◌};
-ghost use Rattle.verdict.specs.Verdict.{stretch, verdictOf};
+ghost use Rattle.verdict.specs.Verdict.{stretch, verdict_of};
 ghost use Rattle.verdict.specs.Judged.{judged};
 
 use quality::TriangleQuality;
@@ -43,7 +43,7 @@ pub fn verdict_of(
     quality_threshold: f32,
     max_edge_factor: f32,
 ) -> MeasuredKind
-    ensures { result ≡ verdictOf quality radius min_triangle_area quality_threshold max_edge_factor }
+    ensures { result ≡ verdict_of quality radius min_triangle_area quality_threshold max_edge_factor }
 {
     let area = quality.area;
     let score = quality.quality_score;

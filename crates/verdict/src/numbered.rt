@@ -1,6 +1,6 @@
 // The whole answer in four numbers, as C has it.
 ghost use Rattle.std.specs.Prelude.{◌≡◌};
-ghost use Rattle.verdict.specs.Numbered.{verdictNumbers};
+ghost use Rattle.verdict.specs.Numbered.{verdict_numbers};
 ghost use Rattle.verdict.specs.declared.Judgement.TheVariants.{Told};
 
 use crate::Judgement;
@@ -17,7 +17,7 @@ pub struct Verdict {
 }
 
 fn kind_of(verdict: crate::MeasuredKind) -> Verdict
-    ensures { result ≡ verdictNumbers (Told verdict) }
+    ensures { result ≡ verdict_numbers (Told verdict) }
 {
     match verdict {
         crate::MeasuredKind::Good(score) => Verdict {
@@ -54,7 +54,7 @@ fn kind_of(verdict: crate::MeasuredKind) -> Verdict
 }
 
 pub fn numbered(judgement: Judgement) -> Verdict
-    ensures { result ≡ verdictNumbers judgement }
+    ensures { result ≡ verdict_numbers judgement }
 {
     match judgement {
         Judgement::Refused { answer, detail } => Verdict {

@@ -1,14 +1,14 @@
 // The checks: 1 to 5 of the main call, then whether the three numbers name points, and whether they differ.
 ghost use Rattle.std.specs.Prelude.{◌≡◌};
-ghost use Rattle.domain.specs.Refusals.{firstRefusal};
-ghost use Rattle.verdict.specs.Judged.{numberChecks, judgeRefusal};
+ghost use Rattle.domain.specs.Refusals.{first_refusal};
+ghost use Rattle.verdict.specs.Judged.{number_checks, judge_refusal};
 
 use domain::Refusal;
 use settings::BallPivotingConfig;
 
 // 14 where one of the numbers is none of n points, 17 where two are equal, or 0.
 fn number_answer(n: usize, i: usize, j: usize, k: usize) -> u32
-    ensures { result ≡ (firstRefusal (numberChecks n i j k)).answer }
+    ensures { result ≡ (first_refusal (number_checks n i j k)).answer }
 {
     if n <= i {
         return answers::NO_SUCH_POINT;
@@ -39,7 +39,7 @@ pub fn refusal_of_judging(
     j: usize,
     k: usize,
 ) -> Refusal
-    ensures { result ≡ judgeRefusal points.now normals.now settings i j k }
+    ensures { result ≡ judge_refusal points.now normals.now settings i j k }
 {
     let refusal = domain::refusal_of_input(points, normals, settings);
     if refusal.answer != 0 {

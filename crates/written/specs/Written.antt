@@ -4,29 +4,29 @@ use Rattle.std.specs.Prelude.{ℕ, ◌^◌, ◌≡◌, cond, List, [], ◌++◌,
 use Rattle.std.specs.Float.{binary32}
 use Rattle.std.specs.Float.Ieee.{neg, to_bits}
 use Rattle.decimals.specs.Nearest.{Nearest, Alone, NotSubnormal}
-use Rattle.numerals.specs.Format.{parsed, starts_with, digits, digitsValue, number}
+use Rattle.numerals.specs.Format.{parsed, starts_with, digits, digits_value, number}
 
 -- what stands behind the minus (byte 45), if there is one
-abbrev pub behindMinus : List ℕ → List ℕ
-behindMinus bs = cond (starts_with 45 bs) (drop 1 bs) bs
+abbrev pub behind_minus : List ℕ → List ℕ
+behind_minus bs = cond (starts_with 45 bs) (drop 1 bs) bs
 
 -- the digits of the whole part
-abbrev pub wholeDigits : List ℕ → List ℕ
-wholeDigits bs = take (digits (behindMinus bs)) (behindMinus bs)
+abbrev pub whole_digits : List ℕ → List ℕ
+whole_digits bs = take (digits (behind_minus bs)) (behind_minus bs)
 
 -- the digits behind the point (byte 46), or none
-abbrev pub fractionOf : List ℕ → List ℕ
-fractionOf behind = cond (starts_with 46 behind) (take (digits (drop 1 behind)) (drop 1 behind)) []
+abbrev pub fraction_of : List ℕ → List ℕ
+fraction_of behind = cond (starts_with 46 behind) (take (digits (drop 1 behind)) (drop 1 behind)) []
 
-abbrev pub fractionDigits : List ℕ → List ℕ
-fractionDigits bs = fractionOf (drop (digits (behindMinus bs)) (behindMinus bs))
+abbrev pub fraction_digits : List ℕ → List ℕ
+fraction_digits bs = fraction_of (drop (digits (behind_minus bs)) (behind_minus bs))
 
 -- all digits write one whole number, over a power of ten
 unfoldable pub numerator : List ℕ → ℕ
-numerator bs = digitsValue 0 (wholeDigits bs ++ fractionDigits bs)
+numerator bs = digits_value 0 (whole_digits bs ++ fraction_digits bs)
 
 unfoldable pub denominator : List ℕ → ℕ
-denominator bs = 10 ^ length (fractionDigits bs)
+denominator bs = 10 ^ length (fraction_digits bs)
 
 pub record NearestTo (bs : List ℕ) (v : Float) : Type 0 where
   -- v is x or minus x, and x the f32 nearest to the decimal: no other is as near, and it is not subnormal
@@ -36,6 +36,6 @@ pub record NearestTo (bs : List ℕ) (v : Float) : Type 0 where
   pub alone : Alone (numerator bs) (denominator bs) (to_bits binary32 x)
   pub normal : NotSubnormal (to_bits binary32 x)
 
--- The claim, for all bytes. `number-nearest` proves it.
+-- The claim, for all bytes. `number_nearest` proves it.
 abbrev pub NumberNearest : Type 0
 NumberNearest = (bs : List ℕ) (v : Float) (rest : List ℕ) → number bs ≡ parsed v rest → NearestTo bs v

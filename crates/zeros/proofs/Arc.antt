@@ -13,12 +13,12 @@ use lib.Ieee.Bits.{of_bits-to_bits, of_bits-fits}
 use borrow.Author.Tests.{le-leb, lt-leb}
 use Rattle.numbers.specs.Rounded.{f32, ◌⊕◌, ◌⊖◌, ◌⊗◌, ◌⊘◌}
 use Rattle.numbers.specs.Root.{root}
-use Rattle.numbers.specs.Acos.{R, abs, highPart, acosMiddle, acosLow, acosHigh, acosInside, acos}
-use Rattle.numbers.proofs.OrderLaws.{not-lt-le, le_trans, lt-le}
-use Rattle.numbers.proofs.SumOrder.{sub-nonnegative}
-use Rattle.spatial_hash.proofs.Squares.{root-good}
-use Rattle.zeros.proofs.Clear.{Clear, unsigned-clear, add-clear, sub-clear, twice-clear, half-unsigned}
-use Rattle.zeros.proofs.Clear.{clear-unsigned}
+use Rattle.numbers.specs.Acos.{R, abs, high_part, acos_middle, acos_low, acos_high, acos_inside, acos}
+use Rattle.numbers.proofs.OrderLaws.{not_lt_le, le_trans, lt_le}
+use Rattle.numbers.proofs.SumOrder.{sub_nonnegative}
+use Rattle.spatial_hash.proofs.Squares.{root_good}
+use Rattle.zeros.proofs.Clear.{Clear, unsigned_clear, add_clear, sub_clear, twice_clear, half_unsigned}
+use Rattle.zeros.proofs.Clear.{clear_unsigned}
 use Rattle.numbers.specs.Inner.Bounds.{unsigned}
 
 -- an f32 that is not -0
@@ -32,8 +32,8 @@ abbrev H : Float
 H = f32 0x3fc90fda
 
 -- ---- what computes
-nan-held : Held nan
-nan-held = (nan-fits binary32, refl)
+nan_held : Held nan
+nan_held = (nan-fits binary32, refl)
 
 zero_held : Held (f32 0)
 unfolding of_bits
@@ -43,17 +43,17 @@ H-held : Held H
 unfolding of_bits
 H-held = (of_bits-fits binary32 0x3fc90fda, refl)
 
-one-held : Held one
+one_held : Held one
 unfolding of_bits
-one-held = (of_bits-fits binary32 0x3f800000, refl)
+one_held = (of_bits-fits binary32 0x3f800000, refl)
 
 one_number : T (not (is_nan one))
 unfolding of_bits is_nan
 one_number = tt
 
-one-finite : T (finite one)
+one_finite : T (finite one)
 unfolding of_bits
-one-finite = tt
+one_finite = tt
 
 zero_one : T (le (f32 0) one)
 unfolding le lt eq of_bits
@@ -66,48 +66,48 @@ Signed s nan = Unit {0}
 Signed s (inf t) = s ≡ t
 Signed s (fin t m e) = s ≡ t
 
-odd-signed : (d : ℕ) (s : Bool) (q k l : ℕ) → Signed s (odd d s q k l)
+odd_signed : (d : ℕ) (s : Bool) (q k l : ℕ) → Signed s (odd d s q k l)
 unfolding odd
-odd-signed d s zero k l = refl
-odd-signed d s (suc q) k l = refl
+odd_signed d s zero k l = refl
+odd_signed d s (suc q) k l = refl
 
-signed-cond : (s b : Bool) (x y : Float) → Signed s x → Signed s y → Signed s (cond b x y)
-signed-cond s true x y h k = h
-signed-cond s false x y h k = k
+signed_cond : (s b : Bool) (x y : Float) → Signed s x → Signed s y → Signed s (cond b x y)
+signed_cond s true x y h k = h
+signed_cond s false x y h k = k
 
-fields-signed : (s : Bool) (x t : ℕ) → Signed s (of_fields binary32 s x t)
+fields_signed : (s : Bool) (x t : ℕ) → Signed s (of_fields binary32 s x t)
 unfolding of_fields
-fields-signed s zero t = odd-signed (prec binary32) s t 0 (low binary32)
-fields-signed s (suc x) t =
-    signed-cond s (eqb (suc x) (ones binary32)) (cond (eqb t 0) (inf s) nan)
+fields_signed s zero t = odd_signed (prec binary32) s t 0 (low binary32)
+fields_signed s (suc x) t =
+    signed_cond s (eqb (suc x) (ones binary32)) (cond (eqb t 0) (inf s) nan)
     (odd (prec binary32) s (hid binary32 + t) x (low binary32))
-    (signed-cond s (eqb t 0) (inf s) nan refl tt) (odd-signed (prec binary32) s (hid binary32 + t) x (low binary32))
+    (signed_cond s (eqb t 0) (inf s) nan refl tt) (odd_signed (prec binary32) s (hid binary32 + t) x (low binary32))
 
 low_signed : (b : ℕ) → b < 0x80000000 → Signed false (of_bits binary32 b)
 unfolding of_bits
-low_signed b h = rw (lt-leb 0x80000000 b h) (fields-signed false (b % top binary32 / hid binary32) (b % hid binary32))
+low_signed b h = rw (lt-leb 0x80000000 b h) (fields_signed false (b % top binary32 / hid binary32) (b % hid binary32))
 
-high-signed : (b : ℕ) → 0x80000000 ≤ b → Signed true (of_bits binary32 b)
+high_signed : (b : ℕ) → 0x80000000 ≤ b → Signed true (of_bits binary32 b)
 unfolding of_bits
-high-signed b h = rw (le-leb 0x80000000 b h) (fields-signed true (b % top binary32 / hid binary32) (b % hid binary32))
+high_signed b h = rw (le-leb 0x80000000 b h) (fields_signed true (b % top binary32 / hid binary32) (b % hid binary32))
 
-signed-clear : (x : Float) → Signed false x → Clear x
-signed-clear nan h = refl
-signed-clear (inf t) h = refl
-signed-clear (fin true m e) h = absurd (true≢false (sym h))
-signed-clear (fin false m e) h = refl
+signed_clear : (x : Float) → Signed false x → Clear x
+signed_clear nan h = refl
+signed_clear (inf t) h = refl
+signed_clear (fin true m e) h = absurd (true≢false (sym h))
+signed_clear (fin false m e) h = refl
 
-signed-minus : (x : Float) → Signed true x → T (unsigned x) → ⊥
-signed-minus nan h u = u
-signed-minus (inf true) h u = u
-signed-minus (inf false) h u = true≢false h
-signed-minus (fin true m e) h u = u
-signed-minus (fin false m e) h u = true≢false h
+signed_minus : (x : Float) → Signed true x → T (unsigned x) → ⊥
+signed_minus nan h u = u
+signed_minus (inf true) h u = u
+signed_minus (inf false) h u = true≢false h
+signed_minus (fin true m e) h u = u
+signed_minus (fin false m e) h u = true≢false h
 
 -- the low bits cleared
-cleared-held : (s : Float) → T (fits binary32 s) → T (unsigned s) → Held (highPart s)
-unfolding highPart
-cleared-held s f u = go (is_nan s)
+cleared_held : (s : Float) → T (fits binary32 s) → T (unsigned s) → Held (high_part s)
+unfolding high_part
+cleared_held s f u = go (is_nan s)
   where
     b : ℕ
     b = to_bits binary32 s
@@ -115,92 +115,92 @@ cleared-held s f u = go (is_nan s)
     small : Dec (b < 0x80000000) → b < 0x80000000
     small (yes l) = l
     small (no l) =
-        absurd (signed-minus s (subst (Signed true) (of_bits-to_bits binary32 s f) (high-signed b (omega arith))) u)
+        absurd (signed_minus s (subst (Signed true) (of_bits-to_bits binary32 s f) (high_signed b (omega arith))) u)
 
     go : (n : Bool) → Held (cond n s (f32 (b - b % 4096)))
-    go true = (f, unsigned-clear s u)
+    go true = (f, unsigned_clear s u)
     go false =
         let l = small (dec_lt b 0x80000000) in (
           of_bits-fits binary32 (b - b % 4096),
-          signed-clear (f32 (b - b % 4096))
+          signed_clear (f32 (b - b % 4096))
               (low_signed (b - b % 4096) (omega arith)),
         )
 
 -- ---- the cases
-middle-held : (v : Float) → Held (acosMiddle v)
-unfolding acosMiddle
-middle-held v =
+middle_held : (v : Float) → Held (acos_middle v)
+unfolding acos_middle
+middle_held v =
     let w : Float = v ⊖ (f32 0x33a22168 ⊖ v ⊗ R (v ⊗ v)) in (
       sub-fits binary32 H w,
-      sub-clear H w H-held.0 (sub-fits binary32 v (f32 0x33a22168 ⊖ v ⊗ R (v ⊗ v)))
+      sub_clear H w H-held.0 (sub-fits binary32 v (f32 0x33a22168 ⊖ v ⊗ R (v ⊗ v)))
           H-held.1,
     )
 
-low_held : (v : Float) → Held (acosLow v)
-unfolding acosLow
+low_held : (v : Float) → Held (acos_low v)
+unfolding acos_low
 low_held v =
     let z : Float = (one ⊕ v) ⊗ f32 0x3f000000 in
     let s : Float = root z in
     let t : Float = R z ⊗ s ⊖ f32 0x33a22168 in
     let d : Float = H ⊖ (s ⊕ t) in (
       mul-fits binary32 (f32 0x40000000) d,
-      twice-clear d (sub-fits binary32 H (s ⊕ t))
-          (sub-clear H (s ⊕ t) H-held.0 (add-fits binary32 s t) H-held.1),
+      twice_clear d (sub-fits binary32 H (s ⊕ t))
+          (sub_clear H (s ⊕ t) H-held.0 (add-fits binary32 s t) H-held.1),
     )
 
-high_held : (v : Float) → T (fits binary32 v) → T (finite v) → T (le v one) → Held (acosHigh v)
-unfolding acosHigh
+high_held : (v : Float) → T (fits binary32 v) → T (finite v) → T (le v one) → Held (acos_high v)
+unfolding acos_high
 high_held v f g l =
     let u : Float = one ⊖ v in
     let z : Float = u ⊗ f32 0x3f000000 in
     let s : Float = root z in
-    let d : Float = highPart s in
+    let d : Float = high_part s in
     let c : Float = (z ⊖ d ⊗ d) ⊘ (s ⊕ d) in
     let w : Float = R z ⊗ s ⊕ c in
-    let positive = clear-unsigned u (sub-nonnegative one v one-finite g l)
-    (sub-clear one v one-held.0 f one-held.1) in
-    let good = root-good z (mul-fits binary32 u (f32 0x3f000000), half-unsigned u positive) in
-    let h = cleared-held s good.0 good.1 in (
+    let positive = clear_unsigned u (sub_nonnegative one v one_finite g l)
+    (sub_clear one v one_held.0 f one_held.1) in
+    let good = root_good z (mul-fits binary32 u (f32 0x3f000000), half_unsigned u positive) in
+    let h = cleared_held s good.0 good.1 in (
       mul-fits binary32 (f32 0x40000000) (d ⊕ w),
-      twice-clear (d ⊕ w) (add-fits binary32 d w)
-          (add-clear d w h.0 (add-fits binary32 (R z ⊗ s) c) h.1),
+      twice_clear (d ⊕ w) (add-fits binary32 d w)
+          (add_clear d w h.0 (add-fits binary32 (R z ⊗ s) c) h.1),
     )
 
 -- between -1 and 1
-abs-finite : (v : Float) → T (not (is_nan v)) → lt one (abs v) ≡ false → T (finite v)
+abs_finite : (v : Float) → T (not (is_nan v)) → lt one (abs v) ≡ false → T (finite v)
 unfolding abs lt of_bits is_nan neg
-abs-finite nan n e = n
-abs-finite (inf true) n e = absurd (true≢false e)
-abs-finite (inf false) n e = absurd (true≢false e)
-abs-finite (fin s m i) n e = tt
+abs_finite nan n e = n
+abs_finite (inf true) n e = absurd (true≢false e)
+abs_finite (inf false) n e = absurd (true≢false e)
+abs_finite (fin s m i) n e = tt
 
-abs-most : (v : Float) → T (not (is_nan v)) → lt one (abs v) ≡ false → T (le v one)
+abs_most : (v : Float) → T (not (is_nan v)) → lt one (abs v) ≡ false → T (le v one)
 unfolding abs
-abs-most v n e = go (lt v (f32 0)) refl e
+abs_most v n e = go (lt v (f32 0)) refl e
   where
     go : (b : Bool) → lt v (f32 0) ≡ b → lt one (cond b (neg v) v) ≡ false → T (le v one)
-    go true h k = le_trans v (f32 0) one (lt-le v (f32 0) (subst T (sym h) tt)) zero_one
-    go false h k = not-lt-le one v one_number n (subst (λ (b : Bool). T (not b)) (sym k) tt)
+    go true h k = le_trans v (f32 0) one (lt_le v (f32 0) (subst T (sym h) tt)) zero_one
+    go false h k = not_lt_le one v one_number n (subst (λ (b : Bool). T (not b)) (sym k) tt)
 
-inside-held : (v : Float) → T (fits binary32 v) → T (not (is_nan v)) → Held (acosInside v)
-unfolding acosInside
-inside-held v f n =
+inside_held : (v : Float) → T (fits binary32 v) → T (not (is_nan v)) → Held (acos_inside v)
+unfolding acos_inside
+inside_held v f n =
     go (lt one (abs v)) (le (abs v) (f32 0x32800000)) (lt (abs v) (f32 0x3f000000)) (le v (neg (f32 0x3f000000))) refl
   where
     go : (a b c d : Bool) → lt one (abs v) ≡ a
-        → Held (cond a nan (cond b H (cond c (acosMiddle v) (cond d (acosLow v) (acosHigh v)))))
-    go true b c d e = nan-held
+        → Held (cond a nan (cond b H (cond c (acos_middle v) (cond d (acos_low v) (acos_high v)))))
+    go true b c d e = nan_held
     go false true c d e = H-held
-    go false false true d e = middle-held v
+    go false false true d e = middle_held v
     go false false false true e = low_held v
-    go false false false false e = high_held v f (abs-finite v n e) (abs-most v n e)
+    go false false false false e = high_held v f (abs_finite v n e) (abs_most v n e)
 
-pub acos-held : (v : Float) → T (fits binary32 v) → Held (acos v)
+pub acos_held : (v : Float) → T (fits binary32 v) → Held (acos v)
 unfolding acos
-acos-held v f = go (is_nan v) (eq v one) (eq v (neg one)) refl
+acos_held v f = go (is_nan v) (eq v one) (eq v (neg one)) refl
   where
-    go : (a b c : Bool) → is_nan v ≡ a → Held (cond a nan (cond b (f32 0) (cond c (f32 0x40000000 ⊗ H) (acosInside v))))
-    go true b c e = nan-held
+    go : (a b c : Bool) → is_nan v ≡ a → Held (cond a nan (cond b (f32 0) (cond c (f32 0x40000000 ⊗ H) (acos_inside v))))
+    go true b c e = nan_held
     go false true c e = zero_held
-    go false false true e = (mul-fits binary32 (f32 0x40000000) H, twice-clear H H-held.0 H-held.1)
-    go false false false e = inside-held v f (subst (λ (b : Bool). T (not b)) (sym e) tt)
+    go false false true e = (mul-fits binary32 (f32 0x40000000) H, twice_clear H H-held.0 H-held.1)
+    go false false false e = inside_held v f (subst (λ (b : Bool). T (not b)) (sym e) tt)

@@ -10,46 +10,46 @@ use Rattle.numbers.specs.Order.{minimum, maximum}
 use Rattle.vector.specs.declared.Point3f.{Point3f}
 use Rattle.quality.specs.declared.TriangleQuality.{TriangleQuality}
 use Rattle.triangle.specs.Quality.{quality}
-use Rattle.points.specs.Points.{pointAt}
+use Rattle.points.specs.Points.{point_at}
 use Rattle.settings.specs.declared.BallPivotingConfig.{BallPivotingConfig}
-use Rattle.domain.specs.Refusals.{reconstructRefusal}
+use Rattle.domain.specs.Refusals.{reconstruct_refusal}
 use Rattle.grid.specs.declared.SpatialGrid.{SpatialGrid}
-use Rattle.radii.specs.Radii.{adaptiveRadii}
+use Rattle.radii.specs.Radii.{adaptive_radii}
 use Rattle.patch.specs.Lay.{Edge, State, patch}
 use Rattle.patch.specs.Search.{Floats, searching}
 use Rattle.patch.specs.Frontier.{pop_of}
-use Rattle.decisions.specs.Decisions.{reach, apart, isClose, accepts, middle, around, pivotable}
+use Rattle.decisions.specs.Decisions.{reach, apart, is_close, accepts, middle, around, pivotable}
 use Rattle.decisions.specs.declared.Scene.{Scene}
-use Rattle.ball_pivoting.specs.Reconstruct.{pointCount, Found, laid, plainly, found, refused, delivered}
-use Rattle.ball_pivoting.specs.Unsplit.{reconstructedUnsplit}
+use Rattle.ball_pivoting.specs.Reconstruct.{point_count, Found, laid, plainly, found, refused, delivered}
+use Rattle.ball_pivoting.specs.Unsplit.{reconstructed_unsplit}
 use Rattle.ball_pivoting.specs.declared.Patch.{Patch}
 use Rattle.zeros.specs.Zeros.{UpToZeros}
-use Rattle.zeros.specs.Quality.{qualityBy}
+use Rattle.zeros.specs.Quality.{quality_by}
 
 -- `bounds_min` on one axis. Which zero comes back may differ from use to use, so there is a `min` for each coordinate
 -- of the cloud: `mins k` is asked at coordinate k.
-unfoldable pub leastFromBy : (ℕ → Float → Float → Float) → List Float → Float → ℕ → ℕ → Float
-leastFromBy mins pts a at zero = a
-leastFromBy mins pts a at (suc k) = leastFromBy mins pts (mins at a (get_or pts at nan)) (at + 3) k
+unfoldable pub least_from_by : (ℕ → Float → Float → Float) → List Float → Float → ℕ → ℕ → Float
+least_from_by mins pts a at zero = a
+least_from_by mins pts a at (suc k) = least_from_by mins pts (mins at a (get_or pts at nan)) (at + 3) k
 
 module _ (mins : ℕ → Float → Float → Float) (m M : Float → Float → Float) (c : BallPivotingConfig)
     (pts : List Float) where
   -- `bounds_min`
-  unfoldable pub boundsBy : Point3f
-  boundsBy = record {
-    x = leastFromBy mins pts (inf false) 0 (pointCount pts);
-    y = leastFromBy mins pts (inf false) 1 (pointCount pts);
-    z = leastFromBy mins pts (inf false) 2 (pointCount pts);
+  unfoldable pub bounds_by : Point3f
+  bounds_by = record {
+    x = least_from_by mins pts (inf false) 0 (point_count pts);
+    y = least_from_by mins pts (inf false) 1 (point_count pts);
+    z = least_from_by mins pts (inf false) 2 (point_count pts);
   }
 
   -- `build_spatial_grid`
   unfoldable pub index_by : SpatialGrid
-  index_by = record { cell_size = c.radius ⊗ c.spatial_cell_factor; bounds_min = boundsBy }
+  index_by = record { cell_size = c.radius ⊗ c.spatial_cell_factor; bounds_min = bounds_by }
 
   -- the call's settings, with that index
-  unfoldable pub sceneBy : Scene
-  sceneBy = record {
-    n = pointCount pts;
+  unfoldable pub scene_by : Scene
+  scene_by = record {
+    n = point_count pts;
     indexed = c.use_spatial_index;
     grid = index_by;
     min_triangle_area = c.min_triangle_area;
@@ -58,58 +58,58 @@ module _ (mins : ℕ → Float → Float → Float) (m M : Float → Float → F
   }
 
   -- `compute_triangle_quality` of three points by their numbers
-  unfoldable pub qualityAtBy : ℕ → ℕ → ℕ → TriangleQuality
-  qualityAtBy i j k = qualityBy m M (pointAt pts i) (pointAt pts j) (pointAt pts k)
+  unfoldable pub quality_at_by : ℕ → ℕ → ℕ → TriangleQuality
+  quality_at_by i j k = quality_by m M (point_at pts i) (point_at pts j) (point_at pts k)
 
   -- the score that `try_ball_pivot` goes by, if the point is near enough and the triangle acceptable
-  unfoldable pub scoreAtBy : Float → Edge → ℕ → Option Float
-  scoreAtBy r e k =
-      let q = qualityAtBy e.v1 e.v2 k in
-      let near = le (apart pts k e.v1) r && (le (apart pts k e.v2) r && accepts sceneBy r q) in
+  unfoldable pub score_at_by : Float → Edge → ℕ → Option Float
+  score_at_by r e k =
+      let q = quality_at_by e.v1 e.v2 k in
+      let near = le (apart pts k e.v1) r && (le (apart pts k e.v2) r && accepts scene_by r q) in
       cond near (some q.quality_score) none
 
   -- what the searches go by
-  unfoldable pub floatsBy : Floats Float
-  floatsBy = record {
-    near = λ r i. around sceneBy pts (pointAt pts i) (reach r);
-    close = λ r i j. isClose pts r i j;
-    fits = λ r i j k. accepts sceneBy r (qualityAtBy i j k);
+  unfoldable pub floats_by : Floats Float
+  floats_by = record {
+    near = λ r i. around scene_by pts (point_at pts i) (reach r);
+    close = λ r i j. is_close pts r i j;
+    fits = λ r i j k. accepts scene_by r (quality_at_by i j k);
     pivotable = λ r e. pivotable pts r e;
-    around = λ r e. around sceneBy pts (middle (pointAt pts e.v1) (pointAt pts e.v2)) r;
-    score = λ r e k. scoreAtBy r e k;
+    around = λ r e. around scene_by pts (middle (point_at pts e.v1) (point_at pts e.v2)) r;
+    score = λ r e k. score_at_by r e k;
   }
 
   -- `compute_adaptive_radii`
-  unfoldable pub radiiBy : List Float
-  radiiBy = adaptiveRadii c index_by pts (pointCount pts)
+  unfoldable pub radii_by : List Float
+  radii_by = adaptive_radii c index_by pts (point_count pts)
 
   -- `advanced_ball_pivoting`: the state when all radii are done; under rule 1, which is the source's, and under rule 2
-  unfoldable pub laidBy : State
-  laidBy = patch (searching floatsBy (pointCount pts)) (pop_of c.frontier_rule) (pointCount pts) radiiBy
+  unfoldable pub laid_by : State
+  laid_by = patch (searching floats_by (point_count pts)) (pop_of c.frontier_rule) (point_count pts) radii_by
 
   -- the multi-radius path, or the plain one if there are no radii, which asks for no `min` and no `max`
-  unfoldable pub foundAtBy : List Float → Found
-  foundAtBy [] = plainly c pts
-  foundAtBy (r ∷ rs) = laid laidBy
+  unfoldable pub found_at_by : List Float → Found
+  found_at_by [] = plainly c pts
+  found_at_by (r ∷ rs) = laid laid_by
 
-  unfoldable pub foundBy : Found
-  foundBy = foundAtBy radiiBy
+  unfoldable pub found_by : Found
+  found_by = found_at_by radii_by
 
   -- the call's answer, detail, counts and radii
-  unfoldable pub reconstructedBy : List Float → ℕ → ℕ → ℕ → Patch
-  reconstructedBy normals room words floats =
-      let refusal = reconstructRefusal pts normals c words floats in
-      cond (eqb refusal.answer 0) (delivered 8 foundBy radiiBy room) (refused refusal.answer refusal.detail)
+  unfoldable pub reconstructed_by : List Float → ℕ → ℕ → ℕ → Patch
+  reconstructed_by normals room words floats =
+      let refusal = reconstruct_refusal pts normals c words floats in
+      cond (eqb refusal.answer 0) (delivered 8 found_by radii_by room) (refused refusal.answer refusal.detail)
 
 -- Whatever these functions give, a triangle's quality is the same in all six measures, and so are the faces and counts
 -- that are found, and the call's answer.
 pub record NoMatter (mins : ℕ → Float → Float → Float) (m M : Float → Float → Float) : Type 0 where
-  pub qualities : (p1 p2 p3 : Point3f) → qualityBy m M p1 p2 p3 ≡ quality p1 p2 p3
-  pub all_found : (c : BallPivotingConfig) (pts : List Float) → foundBy mins m M c pts ≡ found c pts
+  pub qualities : (p1 p2 p3 : Point3f) → quality_by m M p1 p2 p3 ≡ quality p1 p2 p3
+  pub all_found : (c : BallPivotingConfig) (pts : List Float) → found_by mins m M c pts ≡ found c pts
   pub answers : (c : BallPivotingConfig) (pts normals : List Float) (room words floats : ℕ)
-      → reconstructedBy mins m M c pts normals room words floats ≡ reconstructedUnsplit pts normals c room words floats
+      → reconstructed_by mins m M c pts normals room words floats ≡ reconstructed_unsplit pts normals c room words floats
 
--- The claim, for every `min` and `max` that Rust allows, all settings and points. `no-matter` proves it.
+-- The claim, for every `min` and `max` that Rust allows, all settings and points. `no_matter` proves it.
 abbrev pub EitherZero : Type 0
 EitherZero =
     (mins : ℕ → Float → Float → Float) (m M : Float → Float → Float)

@@ -5,21 +5,21 @@ use Rattle.std.specs.Float.{binary32, inf}
 use Rattle.std.specs.Float.Ieee.{lt, le, fits}
 use Rattle.numbers.specs.Rounded.{f32, ◌⊕◌, ◌⊗◌}
 use Rattle.numbers.specs.Root.{root}
-use Rattle.vector.specs.Vector.{point, difference, magnitudeSquared, magnitude, cross}
+use Rattle.vector.specs.Vector.{point, difference, magnitude_squared, magnitude, cross}
 use Rattle.quality.specs.Measures.{half, one, tiny}
 use Rattle.vector.specs.declared.Point3f.{Point3f}
 
 -- the cross product with a plus for each minus: it bounds the cross product of the vectors that v and w bound
-unfoldable pub crossBound : Point3f → Point3f → Point3f
-crossBound v w = point (v.y ⊗ w.z ⊕ v.z ⊗ w.y) (v.z ⊗ w.x ⊕ v.x ⊗ w.z) (v.x ⊗ w.y ⊕ v.y ⊗ w.x)
+unfoldable pub cross_bound : Point3f → Point3f → Point3f
+cross_bound v w = point (v.y ⊗ w.z ⊕ v.z ⊗ w.y) (v.z ⊗ w.x ⊕ v.x ⊗ w.z) (v.x ⊗ w.y ⊕ v.y ⊗ w.x)
 
 -- half its length: it bounds the area where v and w bound two edges
-unfoldable pub areaBound : Point3f → Point3f → Float
-areaBound v w = magnitude (crossBound v w) ⊗ half
+unfoldable pub area_bound : Point3f → Point3f → Float
+area_bound v w = magnitude (cross_bound v w) ⊗ half
 
 -- the square of the cross product's length, that is of twice the area
-unfoldable pub crossSquared : Point3f → Point3f → Point3f → Float
-crossSquared p1 p2 p3 = magnitudeSquared (cross (difference p2 p1) (difference p3 p1))
+unfoldable pub cross_squared : Point3f → Point3f → Point3f → Float
+cross_squared p1 p2 p3 = magnitude_squared (cross (difference p2 p1) (difference p3 p1))
 
 -- such a square is that of an area below m if it is at most t
 pub record AreaLimit (m t : Float) : Type 0 where

@@ -3,14 +3,14 @@ use borrow.Author.Rules.{rules}
 use Rattle.axis_orders.proofs.bound.Statement.{statement}
 use Rattle.axis_orders.proofs.bound.Tie as tie
 
-box-of-requires : tie.Need-box-of-requires
-box-of-requires c κs = search rules
+box_of_requires : tie.Need-box-of-requires
+box_of_requires c κs = search rules
 
-put-box-requires : tie.Need-put-box-requires
-put-box-requires c κs = search rules
+put_box_requires : tie.Need-put-box-requires
+put_box_requires c κs = search rules
 
-longest-requires : tie.Need-longest-requires
-longest-requires c κs = search rules
+longest_requires : tie.Need-longest-requires
+longest_requires c κs = search rules
 
 same_length : tie.Need-same-length
 same_length c = search rules
@@ -22,4 +22,4 @@ returns c =
 
 pub bound-spec : {M : Type 1} → statement M
 bound-spec =
-    tie.close (tie.spec box-of-requires put-box-requires longest-requires same_length returns)
+    tie.close (tie.spec box_of_requires put_box_requires longest_requires same_length returns)

@@ -4,14 +4,14 @@ use borrow.Author.Rules.{rules}
 use Rattle.bounds.proofs.covering.Statement.{statement}
 use Rattle.bounds.proofs.covering.Tie as tie
 
-interval-requires : tie.Need-interval-requires
-interval-requires c κs = search rules
+interval_requires : tie.Need-interval-requires
+interval_requires c κs = search rules
 
-interval-requires-2 : tie.Need-interval-requires-2
-interval-requires-2 c κs = search rules
+interval_requires_2 : tie.Need-interval-requires-2
+interval_requires_2 c κs = search rules
 
-interval-requires-3 : tie.Need-interval-requires-3
-interval-requires-3 c κs = search rules
+interval_requires_3 : tie.Need-interval-requires-3
+interval_requires_3 c κs = search rules
 
 returns : tie.Need-returns
 returns c =
@@ -20,4 +20,4 @@ returns c =
 
 pub covering-spec : {M : Type 1} → statement M
 covering-spec =
-    tie.close (tie.spec interval-requires interval-requires-2 interval-requires-3 returns)
+    tie.close (tie.spec interval_requires interval_requires_2 interval_requires_3 returns)

@@ -10,8 +10,8 @@ abbrev pub between : Float → Float → Float → Bool
 between lo hi v = le lo v && le v hi
 
 -- the interval has v, and the squares at both ends are above t
-unfoldable pub isCovering : Float → Float → Float → Float → Bool
-isCovering v t lo hi = le lo v && (le v hi && (lt t ((lo ⊖ v) ⊗ (lo ⊖ v)) && lt t ((hi ⊖ v) ⊗ (hi ⊖ v))))
+unfoldable pub is_covering : Float → Float → Float → Float → Bool
+is_covering v t lo hi = le lo v && (le v hi && (lt t ((lo ⊖ v) ⊗ (lo ⊖ v)) && lt t ((hi ⊖ v) ⊗ (hi ⊖ v))))
 
 -- every coordinate outside the interval has a squared difference above t from v
 abbrev pub CoversOn : Float → Float → Interval → Type 0

@@ -9,35 +9,35 @@ use Rattle.box_filters.proofs.are_low.Tie as tie
 returns : tie.Need-returns
 returns c = λ h. absurd (subst T (sym h) tt)
 
-least-angle-requires : tie.Need-least-angle-requires
-least-angle-requires c κs = search rules
+least_angle_requires : tie.Need-least-angle-requires
+least_angle_requires c κs = search rules
 
-min-requires : tie.Need-min-requires
-min-requires c κs = search rules
+min_requires : tie.Need-min-requires
+min_requires c κs = search rules
 
-min-requires-2 : tie.Need-min-requires-2
-min-requires-2 c κs = search rules
+min_requires_2 : tie.Need-min-requires-2
+min_requires_2 c κs = search rules
 
-sqrt-requires : tie.Need-sqrt-requires
-sqrt-requires c κs = search rules
+sqrt_requires : tie.Need-sqrt-requires
+sqrt_requires c κs = search rules
 
-sqrt-requires-2 : tie.Need-sqrt-requires-2
-sqrt-requires-2 c κs = search rules
+sqrt_requires_2 : tie.Need-sqrt-requires-2
+sqrt_requires_2 c κs = search rules
 
-sqrt-requires-3 : tie.Need-sqrt-requires-3
-sqrt-requires-3 c κs = search rules
+sqrt_requires_3 : tie.Need-sqrt-requires-3
+sqrt_requires_3 c κs = search rules
 
-sqrt-requires-4 : tie.Need-sqrt-requires-4
-sqrt-requires-4 c κs = search rules
+sqrt_requires_4 : tie.Need-sqrt-requires-4
+sqrt_requires_4 c κs = search rules
 
-sqrt-requires-5 : tie.Need-sqrt-requires-5
-sqrt-requires-5 c κs = search rules
+sqrt_requires_5 : tie.Need-sqrt-requires-5
+sqrt_requires_5 c κs = search rules
 
-is-low-from-requires : tie.Need-is-low-from-requires
-is-low-from-requires c κs = search rules
+is_low_from_requires : tie.Need-is-low-from-requires
+is_low_from_requires c κs = search rules
 
-returns-2 : tie.Need-returns-2
-returns-2 c =
+returns_2 : tie.Need-returns-2
+returns_2 c =
     let r = c.before.before.before.before.before in
     let g = r.before.before.before in
     let s = g.before.before in
@@ -51,13 +51,13 @@ are-low-spec =
     tie.close
     (tie.spec
     returns
-    least-angle-requires
-    min-requires
-    min-requires-2
-    sqrt-requires
-    sqrt-requires-2
-    sqrt-requires-3
-    sqrt-requires-4
-    sqrt-requires-5
-    is-low-from-requires
-    returns-2)
+    least_angle_requires
+    min_requires
+    min_requires_2
+    sqrt_requires
+    sqrt_requires_2
+    sqrt_requires_3
+    sqrt_requires_4
+    sqrt_requires_5
+    is_low_from_requires
+    returns_2)

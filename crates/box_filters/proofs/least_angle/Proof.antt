@@ -1,42 +1,42 @@
 -- `least_angle` meets its contract. Assumes nothing.
-use Rattle.box_filters.proofs.Needles.{second-within, third-within}
+use Rattle.box_filters.proofs.Needles.{second_within, third_within}
 use borrow.Author.Rules.{rules}
 use Rattle.box_filters.proofs.least_angle.Statement.{statement}
 use Rattle.box_filters.proofs.least_angle.Tie as tie
 
-needle-angle-requires : tie.Need-needle-angle-requires
-needle-angle-requires c κs = search rules
+needle_angle_requires : tie.Need-needle-angle-requires
+needle_angle_requires c κs = search rules
 
 returns : tie.Need-returns
 returns c = c.needle-angle.ensures
 
-needle-angle-requires-2 : tie.Need-needle-angle-requires-2
-needle-angle-requires-2 c κs = search rules
+needle_angle_requires_2 : tie.Need-needle-angle-requires-2
+needle_angle_requires_2 c κs = search rules
 
-returns-2 : tie.Need-returns-2
-returns-2 c = third-within c.needle-angle2.ensures
+returns_2 : tie.Need-returns-2
+returns_2 c = third_within c.needle-angle2.ensures
 
-needle-angle-requires-3 : tie.Need-needle-angle-requires-3
-needle-angle-requires-3 c κs = search rules
+needle_angle_requires_3 : tie.Need-needle-angle-requires-3
+needle_angle_requires_3 c κs = search rules
 
-returns-3 : tie.Need-returns-3
-returns-3 c = second-within c.needle-angle3.ensures
+returns_3 : tie.Need-returns-3
+returns_3 c = second_within c.needle-angle3.ensures
 
-needle-angle-requires-4 : tie.Need-needle-angle-requires-4
-needle-angle-requires-4 c κs = search rules
+needle_angle_requires_4 : tie.Need-needle-angle-requires-4
+needle_angle_requires_4 c κs = search rules
 
-returns-4 : tie.Need-returns-4
-returns-4 c = third-within c.needle-angle4.ensures
+returns_4 : tie.Need-returns-4
+returns_4 c = third_within c.needle-angle4.ensures
 
 pub least-angle-spec : {M : Type 1} → statement M
 least-angle-spec =
     tie.close
     (tie.spec
-    needle-angle-requires
+    needle_angle_requires
     returns
-    needle-angle-requires-2
-    returns-2
-    needle-angle-requires-3
-    returns-3
-    needle-angle-requires-4
-    returns-4)
+    needle_angle_requires_2
+    returns_2
+    needle_angle_requires_3
+    returns_3
+    needle_angle_requires_4
+    returns_4)

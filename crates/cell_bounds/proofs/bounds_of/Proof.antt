@@ -4,14 +4,14 @@ use Rattle.cell_bounds.proofs.Ends.{holding}
 use Rattle.cell_bounds.proofs.bounds_of.Statement.{statement}
 use Rattle.cell_bounds.proofs.bounds_of.Tie as tie
 
-interval-requires : tie.Need-interval-requires
-interval-requires c κs = search rules
+interval_requires : tie.Need-interval-requires
+interval_requires c κs = search rules
 
-interval-requires-2 : tie.Need-interval-requires-2
-interval-requires-2 c κs = search rules
+interval_requires_2 : tie.Need-interval-requires-2
+interval_requires_2 c κs = search rules
 
-interval-requires-3 : tie.Need-interval-requires-3
-interval-requires-3 c κs = search rules
+interval_requires_3 : tie.Need-interval-requires-3
+interval_requires_3 c κs = search rules
 
 returns : tie.Need-returns
 returns c =
@@ -20,4 +20,4 @@ returns c =
     c.interval3.ensures
 
 pub bounds-of-spec : {M : Type 1} → statement M
-bounds-of-spec = tie.close (tie.spec interval-requires interval-requires-2 interval-requires-3 returns)
+bounds-of-spec = tie.close (tie.spec interval_requires interval_requires_2 interval_requires_3 returns)

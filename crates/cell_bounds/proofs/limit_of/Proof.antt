@@ -4,14 +4,14 @@ use Rattle.cell_bounds.proofs.Reach.{reaching}
 use Rattle.cell_bounds.proofs.limit_of.Statement.{statement}
 use Rattle.cell_bounds.proofs.limit_of.Tie as tie
 
-farthest-requires : tie.Need-farthest-requires
-farthest-requires c κs = c.requires.x-finite
+farthest_requires : tie.Need-farthest-requires
+farthest_requires c κs = c.requires.x_finite
 
-farthest-requires-2 : tie.Need-farthest-requires-2
-farthest-requires-2 c κs = c.before.requires.y-finite
+farthest_requires_2 : tie.Need-farthest-requires-2
+farthest_requires_2 c κs = c.before.requires.y_finite
 
-farthest-requires-3 : tie.Need-farthest-requires-3
-farthest-requires-3 c κs = c.before.before.requires.z-finite
+farthest_requires_3 : tie.Need-farthest-requires-3
+farthest_requires_3 c κs = c.before.before.requires.z_finite
 
 returns : tie.Need-returns
 returns c =
@@ -20,4 +20,4 @@ returns c =
     c.farthest3.ensures refl
 
 pub limit-of-spec : {M : Type 1} → statement M
-limit-of-spec = tie.close (tie.spec farthest-requires farthest-requires-2 farthest-requires-3 returns)
+limit-of-spec = tie.close (tie.spec farthest_requires farthest_requires_2 farthest_requires_3 returns)

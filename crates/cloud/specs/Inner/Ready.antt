@@ -3,18 +3,18 @@ use Rattle.std.specs.Prelude.{ℕ, ◌*◌, ◌≤◌, ◌≡◌, List, map, len
 use Rattle.cloud_lines.specs.declared.line.Triple.{Triple}
 use Rattle.cloud_lines.specs.declared.line.Point.{Point}
 use Rattle.cloud.specs.Format.{body, PointLines, good, wrong}
-use Rattle.cloud.specs.Answers.{coordinatesOf, overFront}
+use Rattle.cloud.specs.Answers.{coordinates_of, over_front}
 
 -- the lines from a place on are well formed, so many, and both slices have room for their points
 pub record Fitting (s : List ℕ) (from count : ℕ) (points normals : List Float) : Type 0 where
   pub read : List Point
-  pub lines-good : body (drop from s) ≡ good read
+  pub lines_good : body (drop from s) ≡ good read
   pub as_many : length read ≡ count
-  pub points-fit : 3 * length read ≤ length points
-  pub normals-fit : 3 * length read ≤ length normals
+  pub points_fit : 3 * length read ≤ length points
+  pub normals_fit : 3 * length read ≤ length normals
 
 -- one part of each point of some lines, in front of a list
-unfoldable pub laidOut : (Point → Triple) → PointLines → List Float → List Float
-unfolding coordinatesOf overFront
-laidOut part (good ps) old = overFront (coordinatesOf (map part ps)) old
-laidOut part (wrong line) old = old
+unfoldable pub laid_out : (Point → Triple) → PointLines → List Float → List Float
+unfolding coordinates_of over_front
+laid_out part (good ps) old = over_front (coordinates_of (map part ps)) old
+laid_out part (wrong line) old = old

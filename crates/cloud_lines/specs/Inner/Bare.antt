@@ -8,6 +8,6 @@ bare (parsed a rest) = parsed tt rest
 bare malformed = malformed
 
 -- a place behind something stands for the bytes s from there on; 0, which is behind nothing, for none of its kind
-unfoldable pub skipMeans : List ℕ → ℕ → Parsed Unit
-skipMeans s zero = malformed
-skipMeans s (suc n) = parsed tt (drop (suc n) s)
+unfoldable pub skip_means : List ℕ → ℕ → Parsed Unit
+skip_means s zero = malformed
+skip_means s (suc n) = parsed tt (drop (suc n) s)

@@ -8,8 +8,8 @@ use Rattle.cloud_lines.specs.Reading.{Stepped}
 abbrev pub position_of : Point → Triple
 position_of p = p.position
 
-abbrev pub normalOf : Point → Triple
-normalOf p = p.normal
+abbrev pub normal_of : Point → Triple
+normal_of p = p.normal
 
 -- three numbers at place 3k of a list, where it has room for them
 unfoldable pub placed : ℕ → Triple → List Float → List Float
@@ -29,4 +29,4 @@ StoredLines s from zero at points₀ normals₀ points normals = (at ≡ from) �
 StoredLines s from (suc k) at points₀ normals₀ points normals =
     (b : ℕ) × ((ps : List Float) × ((ns : List Float) × ((read : LineRead)
     × (StoredLines s from k b points₀ normals₀ ps ns × (Stepped s b read at
-    × ((points ≡ placed_of position_of k read ps) × (normals ≡ placed_of normalOf k read ns)))))))
+    × ((points ≡ placed_of position_of k read ps) × (normals ≡ placed_of normal_of k read ns)))))))

@@ -3,11 +3,11 @@ use borrow.Author.Rules.{rules}
 use Rattle.cosines.proofs.is_narrow.Statement.{statement}
 use Rattle.cosines.proofs.is_narrow.Tie as tie
 
-passes-requires : tie.Need-passes-requires
-passes-requires c κs = search rules
+passes_requires : tie.Need-passes-requires
+passes_requires c κs = search rules
 
 returns : tie.Need-returns
 returns c = c.passes.ensures
 
 pub is-narrow-spec : {M : Type 1} → statement M
-is-narrow-spec = tie.close (tie.spec passes-requires returns)
+is-narrow-spec = tie.close (tie.spec passes_requires returns)

@@ -3,87 +3,87 @@
 use Prim.Native.Nat.{◌+◌, ◌*◌, ◌<◌}
 use native.Mathlib.Omega.{arith}
 use lib.Ieee.Nearest.{closest}
-use Rattle.numbers.proofs.RootPattern.{no-nan-bits}
+use Rattle.numbers.proofs.RootPattern.{no_nan_bits}
 use Rattle.decimals.specs.Inner.Ready.{Scaling}
-use Rattle.decimals.proofs.Nearest.{Rounded, number-no-nan, positive, at_most, scaling-start, scaling-more, scaling-next, scaling-end, scaling-no-tie}
+use Rattle.decimals.proofs.Nearest.{Rounded, number_no_nan, positive, at_most, scaling_start, scaling_more, scaling_next, scaling_end, scaling_no_tie}
 use Rattle.decimals.proofs.doubled_bits.Statement.{statement}
 use Rattle.decimals.proofs.doubled_bits.Tie as tie
 
-abbrev invariant-loop : tie.invariant-loop
-invariant-loop m d least n₀ h₀ n h = Scaling m d n h
+abbrev invariant_loop : tie.invariant-loop
+invariant_loop m d least n₀ h₀ n h = Scaling m d n h
 
-abbrev decreases-loop : tie.decreases-loop
-decreases-loop m d least n₀ h₀ n h = h
+abbrev decreases_loop : tie.decreases-loop
+decreases_loop m d least n₀ h₀ n h = h
 
-mul-least : tie.Need-overflow-mul-least invariant-loop decreases-loop
-mul-least c = let l = at_most _ _ c.requires.1 in omega arith
+mul_least : tie.Need-overflow-mul-least invariant_loop decreases_loop
+mul_least c = let l = at_most _ _ c.requires.1 in omega arith
 
-mul-n : tie.Need-overflow-mul-n invariant-loop decreases-loop
-mul-n c = let s = (scaling-start _ _ c.requires.0 c.requires.1).high in let l = at_most _ _ c.requires.1 in omega arith
+mul_n : tie.Need-overflow-mul-n invariant_loop decreases_loop
+mul_n c = let s = (scaling_start _ _ c.requires.0 c.requires.1).high in let l = at_most _ _ c.requires.1 in omega arith
 
-loop-holds : tie.Need-loop-init invariant-loop decreases-loop
-loop-holds c = scaling-start _ _ c.requires.0 c.requires.1
+loop_holds : tie.Need-loop-init invariant_loop decreases_loop
+loop_holds c = scaling_start _ _ c.requires.0 c.requires.1
 
 -- where the loop goes on
-again : (c : tie.In-loop invariant-loop decreases-loop) → c.before.loop.n < 8388608 * c.before.before.args.d
+again : (c : tie.In-loop invariant_loop decreases_loop) → c.before.loop.n < 8388608 * c.before.before.args.d
 again c = let h = c.loop-test.true in omega arith
 
-mul-n-2 : tie.Need-overflow-mul-n-2 invariant-loop decreases-loop
-mul-n-2 c = let h = again c in let l = at_most _ _ c.before.before.requires.1 in omega arith
+mul_n_2 : tie.Need-overflow-mul-n-2 invariant_loop decreases_loop
+mul_n_2 c = let h = again c in let l = at_most _ _ c.before.before.requires.1 in omega arith
 
-sub-h : tie.Need-overflow-sub-h invariant-loop decreases-loop
-sub-h c = let h = scaling-more _ _ _ _ c.before.loop.invariant (again c) in omega arith
+sub_h : tie.Need-overflow-sub-h invariant_loop decreases_loop
+sub_h c = let h = scaling_more _ _ _ _ c.before.loop.invariant (again c) in omega arith
 
-loop-less : tie.Need-loop-smaller invariant-loop decreases-loop
-loop-less c = let h = scaling-more _ _ _ _ c.before.loop.invariant (again c) in omega arith
+loop_less : tie.Need-loop-smaller invariant_loop decreases_loop
+loop_less c = let h = scaling_more _ _ _ _ c.before.loop.invariant (again c) in omega arith
 
-loop-again : tie.Need-loop-preserved invariant-loop decreases-loop
-loop-again c = scaling-next _ _ _ _ c.before.loop.invariant (again c)
+loop_again : tie.Need-loop-preserved invariant_loop decreases_loop
+loop_again c = scaling_next _ _ _ _ c.before.loop.invariant (again c)
 
 -- where it ends
-rounded : (c : tie.After-loop invariant-loop decreases-loop)
+rounded : (c : tie.After-loop invariant_loop decreases_loop)
     → Rounded c.before.before.args.m c.before.before.args.d
     (c.before.loop.h * 8388608 + closest c.before.loop.n c.before.before.args.d)
-rounded c = scaling-end _ _ _ _ c.before.loop.invariant c.before.before.requires.1 (let h = c.loop-test.false in omega arith)
+rounded c = scaling_end _ _ _ _ c.before.loop.invariant c.before.before.requires.1 (let h = c.loop-test.false in omega arith)
 
-pattern : (c : tie.After-nearest-quotient invariant-loop decreases-loop) → c.before.before.loop.h * 8388608 + c.nearest-quotient.result < 0x7f800000
+pattern : (c : tie.After-nearest-quotient invariant_loop decreases_loop) → c.before.before.loop.h * 8388608 + c.nearest-quotient.result < 0x7f800000
 pattern c = let n = (rounded c.before).nearest.number in let e = c.nearest-quotient.ensures in omega arith
 
-mul-result : tie.Need-overflow-mul-result invariant-loop decreases-loop
-mul-result c = let h = c.before.loop.invariant.high-h in omega arith
+mul_result : tie.Need-overflow-mul-result invariant_loop decreases_loop
+mul_result c = let h = c.before.loop.invariant.high_h in omega arith
 
-nearest-quotient-requires : tie.Need-nearest-quotient-requires invariant-loop decreases-loop
-nearest-quotient-requires c κs =
+nearest_quotient_requires : tie.Need-nearest-quotient-requires invariant_loop decreases_loop
+nearest_quotient_requires c κs =
     let t = c.before.before.requires.1 in
     let l = at_most _ _ t in
     let s = c.before.loop.invariant in
     let h = s.high in
-    (positive _ _ t, l, omega arith, scaling-no-tie _ _ _ _ s t)
+    (positive _ _ t, l, omega arith, scaling_no_tie _ _ _ _ s t)
 
-cast-result : tie.Need-overflow-cast-result invariant-loop decreases-loop
-cast-result c = let h = pattern c in omega arith
+cast_result : tie.Need-overflow-cast-result invariant_loop decreases_loop
+cast_result c = let h = pattern c in omega arith
 
-add-result : tie.Need-overflow-add-result invariant-loop decreases-loop
-add-result c = let h = pattern c in omega arith
+add_result : tie.Need-overflow-add-result invariant_loop decreases_loop
+add_result c = let h = pattern c in omega arith
 
-returns : tie.Need-returns invariant-loop decreases-loop
-returns c = (rw c.nearest-quotient.ensures (rounded c.before).value, no-nan-bits _ (number-no-nan _ (pattern c)))
+returns : tie.Need-returns invariant_loop decreases_loop
+returns c = (rw c.nearest-quotient.ensures (rounded c.before).value, no_nan_bits _ (number_no_nan _ (pattern c)))
 
 pub doubled-bits-spec : {M : Type 1} → statement M
 doubled-bits-spec =
     tie.close
     (tie.spec
-    invariant-loop
-    decreases-loop
-    mul-least
-    mul-n
-    loop-holds
-    mul-n-2
-    sub-h
-    loop-less
-    loop-again
-    mul-result
-    nearest-quotient-requires
-    cast-result
-    add-result
+    invariant_loop
+    decreases_loop
+    mul_least
+    mul_n
+    loop_holds
+    mul_n_2
+    sub_h
+    loop_less
+    loop_again
+    mul_result
+    nearest_quotient_requires
+    cast_result
+    add_result
     returns)

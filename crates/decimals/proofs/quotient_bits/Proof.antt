@@ -7,9 +7,9 @@ use native.Mathlib.Omega.{arith}
 use borrow.Author.Rules.{rules}
 use lib.Dec.{lit<}
 use lib.Pow.{pow_pos}
-use Rattle.numbers.proofs.RootPattern.{no-nan-bits}
+use Rattle.numbers.proofs.RootPattern.{no_nan_bits}
 use Rattle.decimals.specs.Inner.Ready.{Tenths}
-use Rattle.decimals.proofs.Nearest.{Rounded, number-no-nan, at_most, guessed}
+use Rattle.decimals.proofs.Nearest.{Rounded, number_no_nan, at_most, guessed}
 use Rattle.decimals.proofs.quotient_bits.Statement.{statement}
 use Rattle.decimals.proofs.quotient_bits.Tie as tie
 
@@ -39,61 +39,61 @@ found : (c : tie.Then1)
     ((149 - (22 - c.before.before.guess.result / 8388608 % 16)) * 8388608 + (c.before.before.guess.result % 8388608 + 8388608))
 found c = tested _ _ _ _ c.before.before.before.requires.1 (omega arith) (omega arith) (omega arith) (c.before.is-nearest.ensures c.if1.true)
 
-guess-requires : tie.Need-guess-requires
-guess-requires c κs = let t = c.requires.1 in (small _ _ t, at_most _ _ t)
+guess_requires : tie.Need-guess-requires
+guess_requires c κs = let t = c.requires.1 in (small _ _ t, at_most _ _ t)
 
-sub-s : tie.Need-overflow-sub-s
-sub-s c = search rules
+sub_s : tie.Need-overflow-sub-s
+sub_s c = search rules
 
-add-q : tie.Need-overflow-add-q
-add-q c = search rules
+add_q : tie.Need-overflow-add-q
+add_q c = search rules
 
-cast-is-nearest : tie.Need-overflow-cast-is-nearest
-cast-is-nearest c = search rules
+cast_is_nearest : tie.Need-overflow-cast-is-nearest
+cast_is_nearest c = search rules
 
-shl-is-nearest : tie.Need-overflow-shl-is-nearest
-shl-is-nearest c = search rules
+shl_is_nearest : tie.Need-overflow-shl-is-nearest
+shl_is_nearest c = search rules
 
-cast-is-nearest-2 : tie.Need-overflow-cast-is-nearest-2
-cast-is-nearest-2 c = search rules
+cast_is_nearest_2 : tie.Need-overflow-cast-is-nearest-2
+cast_is_nearest_2 c = search rules
 
-is-nearest-requires : tie.Need-is-nearest-requires
-is-nearest-requires c κs =
+is_nearest_requires : tie.Need-is-nearest-requires
+is_nearest_requires c κs =
     let t = c.before.requires.1 in let h = short c.before.args.m (22 - c.guess.result / 8388608 % 16) (small _ _ t) (omega arith) in
     (rw (unmoved c.before.args.m (22 - c.guess.result / 8388608 % 16) (small _ _ t) (omega arith)) (omega arith), at_most _ _ t, omega arith)
 
-sub-result : tie.Need-overflow-sub-result
-sub-result c = search rules
+sub_result : tie.Need-overflow-sub-result
+sub_result c = search rules
 
-mul-result : tie.Need-overflow-mul-result
-mul-result c = search rules
+mul_result : tie.Need-overflow-mul-result
+mul_result c = search rules
 
-add-result : tie.Need-overflow-add-result
-add-result c = search rules
+add_result : tie.Need-overflow-add-result
+add_result c = search rules
 
-doubled-bits-requires : tie.Need-doubled-bits-requires
-doubled-bits-requires c κs = search rules
+doubled_bits_requires : tie.Need-doubled-bits-requires
+doubled_bits_requires c κs = search rules
 
 returns : tie.Need-returns
-returns c = let r = found c in (r.value, no-nan-bits _ (number-no-nan _ r.nearest.number))
+returns c = let r = found c in (r.value, no_nan_bits _ (number_no_nan _ r.nearest.number))
 
-returns-2 : tie.Need-returns-2
-returns-2 c = search rules
+returns_2 : tie.Need-returns-2
+returns_2 c = search rules
 
 pub quotient-bits-spec : {M : Type 1} → statement M
 quotient-bits-spec =
     tie.close
     (tie.spec
-    guess-requires
-    sub-s
-    add-q
-    cast-is-nearest
-    shl-is-nearest
-    cast-is-nearest-2
-    is-nearest-requires
-    sub-result
-    mul-result
-    add-result
-    doubled-bits-requires
+    guess_requires
+    sub_s
+    add_q
+    cast_is_nearest
+    shl_is_nearest
+    cast_is_nearest_2
+    is_nearest_requires
+    sub_result
+    mul_result
+    add_result
+    doubled_bits_requires
     returns
-    returns-2)
+    returns_2)

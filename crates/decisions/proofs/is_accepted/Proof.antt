@@ -4,12 +4,12 @@ use Rattle.decisions.specs.Decisions.{accepts}
 use Rattle.decisions.proofs.is_accepted.Statement.{statement}
 use Rattle.decisions.proofs.is_accepted.Tie as tie
 
-is-triangle-acceptable-requires : tie.Need-is-triangle-acceptable-requires
-is-triangle-acceptable-requires c κs = search rules
+is_triangle_acceptable_requires : tie.Need-is-triangle-acceptable-requires
+is_triangle_acceptable_requires c κs = search rules
 
 returns : tie.Need-returns
 unfolding accepts
 returns c = cc
 
 pub is-accepted-spec : {M : Type 1} → statement M
-is-accepted-spec = tie.close (tie.spec is-triangle-acceptable-requires returns)
+is-accepted-spec = tie.close (tie.spec is_triangle_acceptable_requires returns)

@@ -4,14 +4,14 @@ use Rattle.decisions.specs.Decisions.{middle}
 use Rattle.decisions.proofs.middle_of.Statement.{statement}
 use Rattle.decisions.proofs.middle_of.Tie as tie
 
-halfway-to-requires : tie.Need-halfway-to-requires
-halfway-to-requires c κs = search rules
+halfway_to_requires : tie.Need-halfway-to-requires
+halfway_to_requires c κs = search rules
 
-halfway-to-requires-2 : tie.Need-halfway-to-requires-2
-halfway-to-requires-2 c κs = search rules
+halfway_to_requires_2 : tie.Need-halfway-to-requires-2
+halfway_to_requires_2 c κs = search rules
 
-halfway-to-requires-3 : tie.Need-halfway-to-requires-3
-halfway-to-requires-3 c κs = search rules
+halfway_to_requires_3 : tie.Need-halfway-to-requires-3
+halfway_to_requires_3 c κs = search rules
 
 returns : tie.Need-returns
 unfolding middle
@@ -19,4 +19,4 @@ returns c = cc
 
 pub middle-of-spec : {M : Type 1} → statement M
 middle-of-spec =
-    tie.close (tie.spec halfway-to-requires halfway-to-requires-2 halfway-to-requires-3 returns)
+    tie.close (tie.spec halfway_to_requires halfway_to_requires_2 halfway_to_requires_3 returns)

@@ -10,13 +10,13 @@ use Rattle.cosines.specs.Inner.Cosine.{Coordinates}
 use Rattle.sliver_filters.specs.Inner.SliversWithin.{LowEach}
 
 -- 1.00001 or more
-unfoldable pub isOutOfReach : Float → Bool
-isOutOfReach threshold = le (f32 0x3f800054) threshold
+unfoldable pub is_out_of_reach : Float → Bool
+is_out_of_reach threshold = le (f32 0x3f800054) threshold
 
 -- triangles whose squares of the edges P Q, Q T and P T lie in intervals have a score below every such threshold, in
 -- each order of their points
 pub record OutOfReach (a b c : Interval) : Type 0 where
-  pub low : (threshold : Float) → T (isOutOfReach threshold)
+  pub low : (threshold : Float) → T (is_out_of_reach threshold)
       → (p q t : Point3f) → Coordinates p → Coordinates q → Coordinates t
       → IntervalHolds a (squared p q) → IntervalHolds b (squared q t) → IntervalHolds c (squared p t)
       → LowEach threshold p q t

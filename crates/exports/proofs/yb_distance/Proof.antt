@@ -5,14 +5,14 @@ use Rattle.vector.specs.Vector.{distance}
 use Rattle.exports.proofs.yb_distance.Statement.{statement}
 use Rattle.exports.proofs.yb_distance.Tie as tie
 
-point-requires : tie.Need-point-requires
-point-requires c κs = search rules
+point_requires : tie.Need-point-requires
+point_requires c κs = search rules
 
-point-requires-2 : tie.Need-point-requires-2
-point-requires-2 c κs = search rules
+point_requires_2 : tie.Need-point-requires-2
+point_requires_2 c κs = search rules
 
-distance-requires : tie.Need-distance-requires
-distance-requires c κs = search rules
+distance_requires : tie.Need-distance-requires
+distance_requires c κs = search rules
 
 returns : tie.Need-returns
 returns c = c.distance.ensures ∙ ap₂ distance c.before.before.point.ensures c.before.point2.ensures
@@ -21,7 +21,7 @@ pub yb-distance-spec : {M : Type 1} → statement M
 yb-distance-spec =
     tie.close
     (tie.spec
-    point-requires
-    point-requires-2
-    distance-requires
+    point_requires
+    point_requires_2
+    distance_requires
     returns)

@@ -1,28 +1,28 @@
 -- `figures::figures_of` meets its contract. Assumes nothing.
 use mathlib.Core.Path.{sym, ◌∙◌}
-use borrow.Author.Tests.{not-true, not-false, eq-eqb, ne_eqb}
+use borrow.Author.Tests.{not_true, not-false, eq-eqb, ne_eqb}
 use borrow.Author.Rules.{rules}
-use Rattle.figures.specs.Working.{figuresOf}
-use Rattle.tally.proofs.Told.{sound-told, above-none}
+use Rattle.figures.specs.Working.{figures_of}
+use Rattle.tally.proofs.Told.{sound_told, above_none}
 use Rattle.figures.proofs.figures_of.Statement.{statement}
 use Rattle.figures.proofs.figures_of.Tie as tie
 
-is-sound-requires : tie.Need-is-sound-requires
-is-sound-requires c κs = search rules
+is_sound_requires : tie.Need-is-sound-requires
+is_sound_requires c κs = search rules
 
-no-figures-requires : tie.Need-no-figures-requires
-no-figures-requires c κs = search rules
+no_figures_requires : tie.Need-no-figures-requires
+no_figures_requires c κs = search rules
 
 returns : tie.Need-returns
-unfolding figuresOf
-returns c = rw (← c.before.before.is-sound.ensures, not-true c.before.before.is-sound.result c.before.if1.true, c.no-figures.ensures)
+unfolding figures_of
+returns c = rw (← c.before.before.is-sound.ensures, not_true c.before.before.is-sound.result c.before.if1.true, c.no-figures.ensures)
 
-no-figures-requires-2 : tie.Need-no-figures-requires-2
-no-figures-requires-2 c κs = search rules
+no_figures_requires_2 : tie.Need-no-figures-requires-2
+no_figures_requires_2 c κs = search rules
 
-returns-2 : tie.Need-returns-2
-unfolding figuresOf
-returns-2 c =
+returns_2 : tie.Need-returns-2
+unfolding figures_of
+returns_2 c =
     rw (
       ← c.before.before.before.before.is-sound.ensures,
       not-false c.before.before.before.before.is-sound.result
@@ -31,16 +31,16 @@ returns-2 c =
       c.no-figures2.ensures,
     )
 
-sound-figures-requires : tie.Need-sound-figures-requires
-sound-figures-requires c κs = (
-  sound-told _ (sym c.before.before.before.is-sound.ensures ∙ not-false c.before.before.before.is-sound.result
+sound_figures_requires : tie.Need-sound-figures-requires
+sound_figures_requires c κs = (
+  sound_told _ (sym c.before.before.before.is-sound.ensures ∙ not-false c.before.before.before.is-sound.result
       c.before.before.if1.false),
-  above-none _ c.if2.false,
+  above_none _ c.if2.false,
 )
 
-returns-3 : tie.Need-returns-3
-unfolding figuresOf
-returns-3 c =
+returns_3 : tie.Need-returns-3
+unfolding figures_of
+returns_3 c =
     rw (
       ← c.before.before.before.before.is-sound.ensures,
       not-false c.before.before.before.before.is-sound.result
@@ -50,4 +50,4 @@ returns-3 c =
     )
 
 pub figures-of-spec : {M : Type 1} → statement M
-figures-of-spec = tie.close (tie.spec is-sound-requires no-figures-requires returns no-figures-requires-2 returns-2 sound-figures-requires returns-3)
+figures-of-spec = tie.close (tie.spec is_sound_requires no_figures_requires returns no_figures_requires_2 returns_2 sound_figures_requires returns_3)

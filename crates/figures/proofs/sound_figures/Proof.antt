@@ -1,41 +1,41 @@
 -- `figures::sound_figures` meets its contract. Assumes nothing.
 use native.Mathlib.Omega.{arith}
 use borrow.Author.Rules.{rules}
-use Rattle.tally.proofs.Told.{squares-fit, faces-fit, product, square-some}
-use Rattle.figures.specs.Working.{soundFigures, varianceOf}
+use Rattle.tally.proofs.Told.{squares_fit, faces_fit, product, square_some}
+use Rattle.figures.specs.Working.{sound_figures, variance_of}
 use Rattle.figures.proofs.sound_figures.Statement.{statement}
 use Rattle.figures.proofs.sound_figures.Tie as tie
 
-lowest-requires : tie.Need-lowest-requires
-lowest-requires c κs = search rules
+lowest_requires : tie.Need-lowest-requires
+lowest_requires c κs = search rules
 
-mul-lowest : tie.Need-overflow-mul-lowest
-mul-lowest c = record { fits = omega (arith, squares-fit _ c.before.before.before.before.requires.0.sums) }
+mul_lowest : tie.Need-overflow-mul-lowest
+mul_lowest c = record { fits = omega (arith, squares_fit _ c.before.before.before.before.requires.0.sums) }
 
-mul-lowest-2 : tie.Need-overflow-mul-lowest-2
-mul-lowest-2 c = record { fits = omega (arith, faces-fit _ c.before.before.before.before.requires.0.sums) }
+mul_lowest_2 : tie.Need-overflow-mul-lowest-2
+mul_lowest_2 c = record { fits = omega (arith, faces_fit _ c.before.before.before.before.requires.0.sums) }
 
-sub-lowest : tie.Need-overflow-sub-lowest
-sub-lowest c = search rules
+sub_lowest : tie.Need-overflow-sub-lowest
+sub_lowest c = search rules
 
-mul-lowest-3 : tie.Need-overflow-mul-lowest-3
-mul-lowest-3 c = let m = c.before.before.before.before.requires.0.sums.patches in record { fits = omega (arith, product m m) }
+mul_lowest_3 : tie.Need-overflow-mul-lowest-3
+mul_lowest_3 c = let m = c.before.before.before.before.requires.0.sums.patches in record { fits = omega (arith, product m m) }
 
-lowest-requires-2 : tie.Need-lowest-requires-2
-lowest-requires-2 c κs = square-some _ c.before.before.before.before.requires.1
+lowest_requires_2 : tie.Need-lowest-requires-2
+lowest_requires_2 c κs = square_some _ c.before.before.before.before.requires.1
 
-lowest-requires-3 : tie.Need-lowest-requires-3
-lowest-requires-3 c κs = search rules
+lowest_requires_3 : tie.Need-lowest-requires-3
+lowest_requires_3 c κs = search rules
 
-coverage-of-requires : tie.Need-coverage-of-requires
-coverage-of-requires c κs = (c.before.before.before.before.before.before.requires.0.ends c.before.before.before.before.before.before.requires.1).0.some
+coverage_of_requires : tie.Need-coverage-of-requires
+coverage_of_requires c κs = (c.before.before.before.before.before.before.requires.0.ends c.before.before.before.before.before.before.requires.1).0.some
 
-coverage-of-requires-2 : tie.Need-coverage-of-requires-2
-coverage-of-requires-2 c κs =
+coverage_of_requires_2 : tie.Need-coverage-of-requires-2
+coverage_of_requires_2 c κs =
     (c.before.before.before.before.before.before.before.requires.0.ends c.before.before.before.before.before.before.before.requires.1).1.some
 
 returns : tie.Need-returns
-unfolding soundFigures varianceOf
+unfolding sound_figures variance_of
 returns c =
     rw (
       c.before.before.before.before.before.lowest.ensures,
@@ -47,5 +47,5 @@ returns c =
 
 pub sound-figures-spec : {M : Type 1} → statement M
 sound-figures-spec =
-    tie.close (tie.spec lowest-requires mul-lowest mul-lowest-2 sub-lowest mul-lowest-3 lowest-requires-2 lowest-requires-3 coverage-of-requires
-    coverage-of-requires-2 returns)
+    tie.close (tie.spec lowest_requires mul_lowest mul_lowest_2 sub_lowest mul_lowest_3 lowest_requires_2 lowest_requires_3 coverage_of_requires
+    coverage_of_requires_2 returns)

@@ -1,77 +1,77 @@
 use native.Mathlib.Omega.{arith}
 use borrow.Author.Rules.{rules}
-use Rattle.filling.proofs.Fill.{Bitten, bits-start, bits-size, bits-step, bits-end}
+use Rattle.filling.proofs.Fill.{Bitten, bits_start, bits_size, bits_step, bits_end}
 use lib.ListN.{length}
 use Prim.Native.Nat.{◌-◌}
 use Rattle.filling.proofs.put_bits.Statement.{statement}
 use Rattle.filling.proofs.put_bits.Tie as tie
 
-abbrev invariant-loop : tie.invariant-loop
-invariant-loop floats index₀ at i₀ index i = Bitten floats index₀ index at i
+abbrev invariant_loop : tie.invariant-loop
+invariant_loop floats index₀ at i₀ index i = Bitten floats index₀ index at i
 
-abbrev decreases-loop : tie.decreases-loop
-decreases-loop floats index₀ at i₀ index i = length floats - i
+abbrev decreases_loop : tie.decreases-loop
+decreases_loop floats index₀ at i₀ index i = length floats - i
 
-loop-holds : tie.Need-loop-init invariant-loop decreases-loop
-loop-holds c = bits-start _ _ _
+loop_holds : tie.Need-loop-init invariant_loop decreases_loop
+loop_holds c = bits_start _ _ _
 
-mul-bits-of : tie.Need-overflow-mul-bits-of invariant-loop decreases-loop
-mul-bits-of c = search rules
+mul_bits_of : tie.Need-overflow-mul-bits-of invariant_loop decreases_loop
+mul_bits_of c = search rules
 
-shared-slice-read-bits-of : tie.Need-shared-slice-read-bits-of invariant-loop decreases-loop
-shared-slice-read-bits-of c = search rules
+shared_slice_read_bits_of : tie.Need-shared-slice-read-bits-of invariant_loop decreases_loop
+shared_slice_read_bits_of c = search rules
 
-bits-of-requires : tie.Need-bits-of-requires invariant-loop decreases-loop
-bits-of-requires c κs = search rules
+bits_of_requires : tie.Need-bits-of-requires invariant_loop decreases_loop
+bits_of_requires c κs = search rules
 
-add-index : tie.Need-overflow-add-index invariant-loop decreases-loop
-add-index c = search rules
+add_index : tie.Need-overflow-add-index invariant_loop decreases_loop
+add_index c = search rules
 
-mul-index : tie.Need-overflow-mul-index invariant-loop decreases-loop
-mul-index c = search rules
+mul_index : tie.Need-overflow-mul-index invariant_loop decreases_loop
+mul_index c = search rules
 
-slice-write-index : tie.Need-slice-write-index invariant-loop decreases-loop
-slice-write-index c =
+slice_write_index : tie.Need-slice-write-index invariant_loop decreases_loop
+slice_write_index c =
     omega (
       arith,
       c.before.before.before.before.before.before.requires,
       c.before.before.loop-test.true,
-      bits-size c.before.before.before.loop.invariant
+      bits_size c.before.before.before.loop.invariant
           c.before.before.before.before.before.before.requires,
     )
 
-add-i : tie.Need-overflow-add-i invariant-loop decreases-loop
-add-i c = search rules
+add_i : tie.Need-overflow-add-i invariant_loop decreases_loop
+add_i c = search rules
 
-loop-less : tie.Need-loop-smaller invariant-loop decreases-loop
-loop-less c = search rules
+loop_less : tie.Need-loop-smaller invariant_loop decreases_loop
+loop_less c = search rules
 
-loop-again : tie.Need-loop-preserved invariant-loop decreases-loop
-loop-again c =
-    bits-step c.before.before.before.loop.invariant c.before.before.before.before.before.before.requires c.before.before.loop-test.true
+loop_again : tie.Need-loop-preserved invariant_loop decreases_loop
+loop_again c =
+    bits_step c.before.before.before.loop.invariant c.before.before.before.before.before.before.requires c.before.before.loop-test.true
     c.bits_of.ensures
 
-same_length : tie.Need-same-length invariant-loop decreases-loop
-same_length c = bits-size c.before.loop.invariant c.before.before.before.before.requires
+same_length : tie.Need-same-length invariant_loop decreases_loop
+same_length c = bits_size c.before.loop.invariant c.before.before.before.before.requires
 
-returns : tie.Need-returns invariant-loop decreases-loop
-returns c = bits-end c.before.loop.invariant c.loop-test.false
+returns : tie.Need-returns invariant_loop decreases_loop
+returns c = bits_end c.before.loop.invariant c.loop-test.false
 
 pub put-bits-spec : {M : Type 1} → statement M
 put-bits-spec =
     tie.close
     (tie.spec
-    invariant-loop
-    decreases-loop
-    loop-holds
-    mul-bits-of
-    shared-slice-read-bits-of
-    bits-of-requires
-    add-index
-    mul-index
-    slice-write-index
-    add-i
-    loop-less
-    loop-again
+    invariant_loop
+    decreases_loop
+    loop_holds
+    mul_bits_of
+    shared_slice_read_bits_of
+    bits_of_requires
+    add_index
+    mul_index
+    slice_write_index
+    add_i
+    loop_less
+    loop_again
     same_length
     returns)

@@ -6,23 +6,23 @@ use borrow.Author.Tests.{not-false}
 use Rattle.filters.proofs.are_long.Statement.{statement}
 use Rattle.filters.proofs.are_long.Tie as tie
 
-is-long-requires : tie.Need-is-long-requires
-is-long-requires c κs = search rules
+is_long_requires : tie.Need-is-long-requires
+is_long_requires c κs = search rules
 
 returns : tie.Need-returns
 returns c = λ h. absurd (subst T (sym h) tt)
 
-is-long-requires-2 : tie.Need-is-long-requires-2
-is-long-requires-2 c κs = search rules
+is_long_requires_2 : tie.Need-is-long-requires-2
+is_long_requires_2 c κs = search rules
 
-returns-2 : tie.Need-returns-2
-returns-2 c = λ h. absurd (subst T (sym h) tt)
+returns_2 : tie.Need-returns-2
+returns_2 c = λ h. absurd (subst T (sym h) tt)
 
-is-long-requires-3 : tie.Need-is-long-requires-3
-is-long-requires-3 c κs = search rules
+is_long_requires_3 : tie.Need-is-long-requires-3
+is_long_requires_3 c κs = search rules
 
-returns-3 : tie.Need-returns-3
-returns-3 c =
+returns_3 : tie.Need-returns-3
+returns_3 c =
     let x = c.before.before.before.before.is-long in
     let y = c.before.before.is-long2 in
     λ h. (
@@ -33,4 +33,4 @@ returns-3 c =
     )
 
 pub are-long-spec : {M : Type 1} → statement M
-are-long-spec = tie.close (tie.spec is-long-requires returns is-long-requires-2 returns-2 is-long-requires-3 returns-3)
+are-long-spec = tie.close (tie.spec is_long_requires returns is_long_requires_2 returns_2 is_long_requires_3 returns_3)

@@ -3,26 +3,26 @@ use borrow.Author.Rules.{rules}
 use Rattle.filters.proofs.limits_of.Statement.{statement}
 use Rattle.filters.proofs.limits_of.Tie as tie
 
-least-area-requires : tie.Need-least-area-requires
-least-area-requires c κs = search rules
+least_area_requires : tie.Need-least-area-requires
+least_area_requires c κs = search rules
 
-area-limit-requires : tie.Need-area-limit-requires
-area-limit-requires c κs = search rules
+area_limit_requires : tie.Need-area-limit-requires
+area_limit_requires c κs = search rules
 
-large-limit-requires : tie.Need-large-limit-requires
-large-limit-requires c κs = search rules
+large_limit_requires : tie.Need-large-limit-requires
+large_limit_requires c κs = search rules
 
-square-limit-requires : tie.Need-square-limit-requires
-square-limit-requires c κs = search rules
+square_limit_requires : tie.Need-square-limit-requires
+square_limit_requires c κs = search rules
 
-aspect-limit-requires : tie.Need-aspect-limit-requires
-aspect-limit-requires c κs = search rules
+aspect_limit_requires : tie.Need-aspect-limit-requires
+aspect_limit_requires c κs = search rules
 
-thin-limit-requires : tie.Need-thin-limit-requires
-thin-limit-requires c κs = search rules
+thin_limit_requires : tie.Need-thin-limit-requires
+thin_limit_requires c κs = search rules
 
-sliver-filter-of-requires : tie.Need-sliver-filter-of-requires
-sliver-filter-of-requires c κs = search rules
+sliver_filter_of_requires : tie.Need-sliver-filter-of-requires
+sliver_filter_of_requires c κs = search rules
 
 returns : tie.Need-returns
 returns c =
@@ -42,5 +42,5 @@ returns c =
 
 pub limits-of-spec : {M : Type 1} → statement M
 limits-of-spec =
-    tie.close (tie.spec least-area-requires area-limit-requires large-limit-requires square-limit-requires aspect-limit-requires thin-limit-requires
-    sliver-filter-of-requires returns)
+    tie.close (tie.spec least_area_requires area_limit_requires large_limit_requires square_limit_requires aspect_limit_requires thin_limit_requires
+    sliver_filter_of_requires returns)

@@ -12,11 +12,11 @@ use Rattle.filters.proofs.refuses_all.Tie as tie
 returns : tie.Need-returns
 returns c = λ h. absurd (subst T (sym h) tt)
 
-is-too-long-requires : tie.Need-is-too-long-requires
-is-too-long-requires c κs = search rules
+is_too_long_requires : tie.Need-is-too-long-requires
+is_too_long_requires c κs = search rules
 
-returns-2 : tie.Need-returns-2
-returns-2 c =
+returns_2 : tie.Need-returns-2
+returns_2 c =
     let a = c.before.before.args in
     λ h. record {
       bounded = rw (← infinite, not-false (lt (a.radius ⊗ f32 0x40000000) (f32 0x3f800000 ⊘ f32 0)) c.before.if1.false) tt;
@@ -24,4 +24,4 @@ returns-2 c =
     }
 
 pub refuses-all-spec : {M : Type 1} → statement M
-refuses-all-spec = tie.close (tie.spec returns is-too-long-requires returns-2)
+refuses-all-spec = tie.close (tie.spec returns is_too_long_requires returns_2)

@@ -6,7 +6,7 @@ use Rattle.vector.specs.Vector.{squared}
 use Rattle.triangle.specs.Quality.{area, quality}
 use Rattle.score_bounds.specs.Inner.Bound.{AspectLimit}
 use Rattle.vector.specs.declared.Point3f.{Point3f}
-use Rattle.area_bounds.specs.Inner.AreaBound.{crossSquared, AreaLimit, TooLong, LargeLimit}
+use Rattle.area_bounds.specs.Inner.AreaBound.{cross_squared, AreaLimit, TooLong, LargeLimit}
 use Rattle.thin.specs.Inner.Thin.{ThinLimit, AllThin}
 use Rattle.bounds.specs.declared.Interval.{Interval}
 use Rattle.bounds.specs.Inner.Within.{Limit}
@@ -37,10 +37,10 @@ pub record Limiting (s : Scene) (r : Float) (l : Limits) : Type 0 where
 -- limits refuse the triangle of p, q and t: its area is too small or too large, q and t are too far apart, or it is too
 -- thin
 pub data Refused (l : Limits) (p q t : Point3f) : Type 0 where
-  small : T (le (crossSquared p q t) l.small) → Refused l p q t
-  large : T (le l.large (crossSquared p q t)) → Refused l p q t
+  small : T (le (cross_squared p q t) l.small) → Refused l p q t
+  large : T (le l.large (cross_squared p q t)) → Refused l p q t
   far : T (lt l.far (squared q t)) → Refused l p q t
-  thin : AllThin l.thin (squared p q) (squared p t) (squared q t) (crossSquared p q t) → Refused l p q t
+  thin : AllThin l.thin (squared p q) (squared p t) (squared q t) (cross_squared p q t) → Refused l p q t
 
 -- the score of the triangle of p, q and t is too low in each order of them, if the limits are those of a threshold
 pub record Sliver (l : Limits) (p q t : Point3f) : Type 0 where
@@ -50,7 +50,7 @@ pub record Sliver (l : Limits) (p q t : Point3f) : Type 0 where
 pub record SliverOf (l : Limits) (pq pt qt x y z : Float) : Type 0 where
   pub is : (p q t : Point3f) → Coordinates p × Coordinates q × Coordinates t
       → pq ≡ squared p q → pt ≡ squared p t → qt ≡ squared q t
-      → x ≡ crossSquared p q t → y ≡ crossSquared q p t → z ≡ crossSquared t p q → Sliver l p q t
+      → x ≡ cross_squared p q t → y ≡ cross_squared q p t → z ≡ cross_squared t p q → Sliver l p q t
 
 -- limits refuse the triangle of p, q and t whichever of them comes first: q and t are too far apart, it is a sliver, or
 -- it is refused in each order

@@ -7,28 +7,28 @@ use Rattle.numbers.specs.Rounded.{◌⊖◌, ◌⊗◌}
 use Rattle.numbers.specs.Inner.Bounds.{unsigned, Bounded}
 use Rattle.vector.specs.declared.Point3f.{Point3f}
 use Rattle.quality.specs.Measures.{tiny}
-use Rattle.area_bounds.specs.Inner.AreaBound.{areaBound}
+use Rattle.area_bounds.specs.Inner.AreaBound.{area_bound}
 use Rattle.decisions.specs.declared.Scene.{Scene}
-use Rattle.decisions.specs.Decisions.{accepts, qualityAt}
+use Rattle.decisions.specs.Decisions.{accepts, quality_at}
 
 -- two edges that v bounds make a triangle that is too small, or next to none
-unfoldable pub tooSmall : Scene → Point3f → Bool
-tooSmall s v = lt (areaBound v v) s.min_triangle_area || lt (areaBound v v) tiny
+unfoldable pub too_small : Scene → Point3f → Bool
+too_small s v = lt (area_bound v v) s.min_triangle_area || lt (area_bound v v) tiny
 
 -- no three points of the cloud make an acceptable triangle, at any radius at which edges are limited at all
 abbrev pub Flat : Scene → List Float → Type 0
 Flat s pts = (r : Float) → T (lt (r ⊗ s.max_edge_factor) (inf false)) → (i j k : ℕ) → i < s.n → j < s.n → k < s.n
-    → accepts s r (qualityAt pts i j k) ≡ false
+    → accepts s r (quality_at pts i j k) ≡ false
 
 -- the coordinate of point k on an axis
-abbrev pub onAxis : List Float → ℕ → ℕ → Float
-onAxis pts axis k = get_or pts (3 * k + axis) nan
+abbrev pub on_axis : List Float → ℕ → ℕ → Float
+on_axis pts axis k = get_or pts (3 * k + axis) nan
 
 -- the coordinates of n points on an axis are finite
 abbrev pub AxisFinite : List Float → ℕ → ℕ → Type 0
-AxisFinite pts axis n = (k : ℕ) → k < n → T (finite (onAxis pts axis k))
+AxisFinite pts axis n = (k : ℕ) → k < n → T (finite (on_axis pts axis k))
 
 -- v bounds how far any two of n points are apart on an axis
 pub record Extent (pts : List Float) (axis n : ℕ) (v : Float) : Type 0 where
   pub sign : T (unsigned v)
-  pub bounds : (j k : ℕ) → j < n → k < n → Bounded (onAxis pts axis j ⊖ onAxis pts axis k) v
+  pub bounds : (j k : ℕ) → j < n → k < n → Bounded (on_axis pts axis j ⊖ on_axis pts axis k) v

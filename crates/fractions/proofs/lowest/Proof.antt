@@ -7,18 +7,18 @@ use Rattle.fractions.proofs.LowestTerms.{divisor}
 use Rattle.fractions.proofs.lowest.Statement.{statement}
 use Rattle.fractions.proofs.lowest.Tie as tie
 
-greatest-divisor-requires : tie.Need-greatest-divisor-requires
-greatest-divisor-requires c κs = search rules
+greatest_divisor_requires : tie.Need-greatest-divisor-requires
+greatest_divisor_requires c κs = search rules
 
-div-t4 : tie.Need-nonzero-div-t4
-div-t4 c = subst (λ (n : ℕ). 0 < n) (sym c.greatest-divisor.ensures) (divisor _ _ c.before.requires)
+div_t4 : tie.Need-nonzero-div-t4
+div_t4 c = subst (λ (n : ℕ). 0 < n) (sym c.greatest-divisor.ensures) (divisor _ _ c.before.requires)
 
-div-t5 : tie.Need-nonzero-div-t5
-div-t5 c = div-t4 c
+div_t5 : tie.Need-nonzero-div-t5
+div_t5 c = div_t4 c
 
 returns : tie.Need-returns
 unfolding lowest
 returns c = rw c.greatest-divisor.ensures
 
 pub lowest-spec : {M : Type 1} → statement M
-lowest-spec = tie.close (tie.spec greatest-divisor-requires div-t4 div-t5 returns)
+lowest-spec = tie.close (tie.spec greatest_divisor_requires div_t4 div_t5 returns)

@@ -6,11 +6,11 @@ use Rattle.vector.specs.declared.Point3f.{Point3f}
 use Rattle.grid.proofs.build_spatial_grid.Statement.{statement}
 use Rattle.grid.proofs.build_spatial_grid.Tie as tie
 
-bounds-min-requires : tie.Need-bounds-min-requires
-bounds-min-requires c κs = search rules
+bounds_min_requires : tie.Need-bounds-min-requires
+bounds_min_requires c κs = search rules
 
-fill-cells-requires : tie.Need-fill-cells-requires
-fill-cells-requires c κs = search rules
+fill_cells_requires : tie.Need-fill-cells-requires
+fill_cells_requires c κs = search rules
 
 same_length : tie.Need-same-length
 same_length c = search rules
@@ -19,10 +19,10 @@ returns : tie.Need-returns
 returns c =
     let s = c.before.before.before.before.before.before.before in
     let f = c.before.before.fill-cells in (
-      ap (λ (p : Point3f). record { cell_size = s.args.cell-size; bounds_min = p }) c.before.before.before.before.bounds-min.ensures,
+      ap (λ (p : Point3f). record { cell_size = s.args.cell_size; bounds_min = p }) c.before.before.before.before.bounds-min.ensures,
       record { few = s.requires.0; room = omega (arith, s.requires.2, f.auto.1.1.1.0); cells = f.ensures.0 },
       f.ensures.1,
     )
 
 pub build-spatial-grid-spec : {M : Type 1} → statement M
-build-spatial-grid-spec = tie.close (tie.spec bounds-min-requires fill-cells-requires same_length returns)
+build-spatial-grid-spec = tie.close (tie.spec bounds_min_requires fill_cells_requires same_length returns)

@@ -1,35 +1,35 @@
 use native.Mathlib.Omega.{arith}
 use Prim.Native.Nat.{◌-◌}
-use Rattle.index_search.proofs.Widths.{Grown, grown-start, grown-step, grown-end, power-some}
+use Rattle.index_search.proofs.Widths.{Grown, grown_start, grown_step, grown_end, power_some}
 use Rattle.index_search.proofs.width_of.Statement.{statement}
 use Rattle.index_search.proofs.width_of.Tie as tie
 use Rattle.index_search.proofs.width_of.Reads as reads
 use Rattle.index_search.proofs.width_of.Lts as lts
 
-abbrev invariant-loop : tie.invariant-loop
-invariant-loop n width₀ width = Grown n width
+abbrev invariant_loop : tie.invariant-loop
+invariant_loop n width₀ width = Grown n width
 
-abbrev decreases-loop : tie.decreases-loop
-decreases-loop n width₀ width = n - width
+abbrev decreases_loop : tie.decreases-loop
+decreases_loop n width₀ width = n - width
 
-loop-holds : tie.Need-loop-init invariant-loop decreases-loop
-loop-holds c = grown-start _
+loop_holds : tie.Need-loop-init invariant_loop decreases_loop
+loop_holds c = grown_start _
 
-mul-loop : tie.Need-overflow-mul-loop invariant-loop decreases-loop
-mul-loop c = omega (arith, c.loop.invariant.small)
+mul_loop : tie.Need-overflow-mul-loop invariant_loop decreases_loop
+mul_loop c = omega (arith, c.loop.invariant.small)
 
-mul-width : tie.Need-overflow-mul-width invariant-loop decreases-loop
-mul-width c = omega (arith, c.before.loop.invariant.small)
+mul_width : tie.Need-overflow-mul-width invariant_loop decreases_loop
+mul_width c = omega (arith, c.before.loop.invariant.small)
 
-loop-less : tie.Need-loop-smaller invariant-loop decreases-loop
-loop-less c = omega (arith, c.loop-test.true, power-some c.before.loop.invariant.power)
+loop_less : tie.Need-loop-smaller invariant_loop decreases_loop
+loop_less c = omega (arith, c.loop-test.true, power_some c.before.loop.invariant.power)
 
-loop-again : tie.Need-loop-preserved invariant-loop decreases-loop
-loop-again c = grown-step c.before.loop.invariant c.before.before.requires.1 c.loop-test.true
+loop_again : tie.Need-loop-preserved invariant_loop decreases_loop
+loop_again c = grown_step c.before.loop.invariant c.before.before.requires.1 c.loop-test.true
 
-returns : tie.Need-returns invariant-loop decreases-loop
-returns c = grown-end c.before.loop.invariant c.loop-test.false
+returns : tie.Need-returns invariant_loop decreases_loop
+returns c = grown_end c.before.loop.invariant c.loop-test.false
 
 pub width-of-spec : {M : Type 1} → statement M
 width-of-spec =
-    tie.close (tie.spec invariant-loop decreases-loop loop-holds mul-loop mul-width loop-less loop-again returns)
+    tie.close (tie.spec invariant_loop decreases_loop loop_holds mul_loop mul_width loop_less loop_again returns)

@@ -5,7 +5,7 @@ use Rattle.std.specs.Float.Ieee.{le, fits}
 use Rattle.std.specs.Float.Ieee.Scale.{finite}
 use Rattle.numbers.specs.Inner.Bounds.{unsigned}
 use Rattle.numbers.specs.Rounded.{f32, ◌⊖◌, ◌⊗◌}
-use Rattle.vector.specs.Vector.{difference, magnitudeSquared, cross}
+use Rattle.vector.specs.Vector.{difference, magnitude_squared, cross}
 use Rattle.vector.specs.Inner.Numbers.{Finite}
 use Rattle.vector.specs.declared.Point3f.{Point3f}
 use Rattle.bounds.specs.declared.Interval.{Interval}
@@ -23,8 +23,8 @@ IntervalHolds i x = Between i.lo i.hi x
 
 -- both ends have a finite square, so no product of such ends is infinite
 pub record Moderate (lo hi : Float) : Type 0 where
-  pub lo-square : T (finite (lo ⊗ lo))
-  pub hi-square : T (finite (hi ⊗ hi))
+  pub lo_square : T (finite (lo ⊗ lo))
+  pub hi_square : T (finite (hi ⊗ hi))
 
 -- the interval r holds the squares of the numbers from lo to hi, and neither of its ends has a minus sign; if it has a
 -- finite end, the ends are moderate
@@ -53,21 +53,21 @@ pub record Joined (a b r : Interval) : Type 0 where
   pub holds : (x y : Float) → IntervalHolds a x → IntervalHolds b y → IntervalHolds r x × IntervalHolds r y
 
 -- the least and the greatest differences of the points of two boxes
-unfoldable pub differencesOf : Bounds → Bounds → Bounds
-differencesOf p q = record { lo = difference p.lo q.hi; hi = difference p.hi q.lo }
+unfoldable pub differences_of : Bounds → Bounds → Bounds
+differences_of p q = record { lo = difference p.lo q.hi; hi = difference p.hi q.lo }
 
 -- the ends of a box are moderate on each axis
 pub record ModerateBox (v : Bounds) : Type 0 where
-  pub x-moderate : Moderate v.lo.x v.hi.x
-  pub y-moderate : Moderate v.lo.y v.hi.y
-  pub z-moderate : Moderate v.lo.z v.hi.z
+  pub x_moderate : Moderate v.lo.x v.hi.x
+  pub y_moderate : Moderate v.lo.y v.hi.y
+  pub z_moderate : Moderate v.lo.z v.hi.z
 
 -- r holds the squared lengths of the vectors of a box, and begins at zero or above; if it has a finite end, the box is
 -- moderate
 pub record Magnitudes (v : Bounds) (r : Interval) : Type 0 where
   pub held : T (fits binary32 r.lo) × T (fits binary32 r.hi)
   pub above : (u : Point3f) → T (within v u) → T (le (f32 0) r.lo)
-  pub holds : (u : Point3f) → T (within v u) → IntervalHolds r (magnitudeSquared u)
+  pub holds : (u : Point3f) → T (within v u) → IntervalHolds r (magnitude_squared u)
   pub moderate : T (finite r.hi) → (u : Point3f) → T (within v u) → ModerateBox v
 
 -- r has the cross products of the vectors of two boxes
@@ -77,4 +77,4 @@ pub record Crosses (v w r : Bounds) : Type 0 where
 -- r holds the squared lengths of their cross products
 pub record CrossSquares (v w : Bounds) (r : Interval) : Type 0 where
   pub holds : ModerateBox v → ModerateBox w
-      → (a b : Point3f) → T (within v a) → T (within w b) → IntervalHolds r (magnitudeSquared (cross a b))
+      → (a b : Point3f) → T (within v a) → T (within w b) → IntervalHolds r (magnitude_squared (cross a b))

@@ -3,59 +3,59 @@
 use Prim.Native.Nat.{ℕ, ◌-◌}
 use native.Mathlib.Omega.{arith}
 use mathlib.Core.Bool.{Bool}
-use Rattle.judged.specs.Inner.Triples.{isBesideBoth}
-use Rattle.judged.proofs.Triples.{Seeking, seek-start, seek_hit, seek-miss, seek-end}
+use Rattle.judged.specs.Inner.Triples.{is_beside_both}
+use Rattle.judged.proofs.Triples.{Seeking, seek_start, seek_hit, seek_miss, seek_end}
 use Rattle.judged.proofs.find_third.Statement.{statement}
 use Rattle.judged.proofs.find_third.Tie as tie
 use Rattle.judged.proofs.find_third.Proof.Places.*
 mod Places
 
-abbrev invariant-loop : tie.invariant-loop
-invariant-loop s points w count radius f i j m₀ m = Seeking (isBesideBoth s points radius i j) s w count m
+abbrev invariant_loop : tie.invariant-loop
+invariant_loop s points w count radius f i j m₀ m = Seeking (is_beside_both s points radius i j) s w count m
 
-abbrev decreases-loop : tie.decreases-loop
-decreases-loop s points w count radius f i j m₀ m = count - m
+abbrev decreases_loop : tie.decreases-loop
+decreases_loop s points w count radius f i j m₀ m = count - m
 
 -- what is looked for
-abbrev sought : tie.Start invariant-loop decreases-loop → ℕ → Bool
-sought a = let x = a.args in isBesideBoth x.s x.points.now x.radius x.i x.j
+abbrev sought : tie.Start invariant_loop decreases_loop → ℕ → Bool
+sought a = let x = a.args in is_beside_both x.s x.points.now x.radius x.i x.j
 
-loop-holds : tie.Need-loop-init invariant-loop decreases-loop
-loop-holds c = let a = c.before.before in seek-start (sought a) a.requires.0.held a.requires.1
+loop_holds : tie.Need-loop-init invariant_loop decreases_loop
+loop_holds c = let a = c.before.before in seek_start (sought a) a.requires.0.held a.requires.1
 
-listed-point-requires : tie.Need-listed-point-requires invariant-loop decreases-loop
-listed-point-requires c κs =
-    let a = start-of-in-loop c in
-    (a.pre.0.held.few, a.pre.0.held.work-long, a.pre.1, c.loop-test.true)
+listed_point_requires : tie.Need-listed-point-requires invariant_loop decreases_loop
+listed_point_requires c κs =
+    let a = start_of_in_loop c in
+    (a.pre.0.held.few, a.pre.0.held.work_long, a.pre.1, c.loop-test.true)
 
-add-m : tie.Need-overflow-add-m invariant-loop decreases-loop
-add-m c =
-    let a = start-of-listed-point c in
+add_m : tie.Need-overflow-add-m invariant_loop decreases_loop
+add_m c =
+    let a = start_of_listed_point c in
     omega (arith, c.before.loop-test.true, a.pre.1.most, a.pre.0.held.few)
 
-is-beside-both-requires : tie.Need-is-beside-both-requires invariant-loop decreases-loop
-is-beside-both-requires c κs = let a = start-of-listed-point c in
+is_beside_both_requires : tie.Need-is-beside-both-requires invariant_loop decreases_loop
+is_beside_both_requires c κs = let a = start_of_listed_point c in
     (a.pre.0, a.pre.2, c.listed-point.ensures.1)
 
-returns : tie.Need-returns invariant-loop decreases-loop
+returns : tie.Need-returns invariant_loop decreases_loop
 returns c =
     let p = c.before.before in
     let l = p.before.before in
     seek_hit (sought l.before.before.before) l.loop.invariant p.before.loop-test.true p.listed-point.ensures.0
     c.before.is-beside-both.ensures c.if1.true
 
-loop-less : tie.Need-loop-smaller invariant-loop decreases-loop
-loop-less c = omega (arith, c.before.before.before.loop-test.true)
+loop_less : tie.Need-loop-smaller invariant_loop decreases_loop
+loop_less c = omega (arith, c.before.before.before.loop-test.true)
 
-loop-again : tie.Need-loop-preserved invariant-loop decreases-loop
-loop-again c =
+loop_again : tie.Need-loop-preserved invariant_loop decreases_loop
+loop_again c =
     let p = c.before.before in
     let l = p.before.before in
-    seek-miss (sought l.before.before.before) l.loop.invariant p.before.loop-test.true p.listed-point.ensures.0
+    seek_miss (sought l.before.before.before) l.loop.invariant p.before.loop-test.true p.listed-point.ensures.0
     c.before.is-beside-both.ensures c.if1.false
 
-returns-2 : tie.Need-returns-2 invariant-loop decreases-loop
-returns-2 c = let l = c.before in seek-end (sought l.before.before.before) l.loop.invariant c.loop-test.false
+returns_2 : tie.Need-returns-2 invariant_loop decreases_loop
+returns_2 c = let l = c.before in seek_end (sought l.before.before.before) l.loop.invariant c.loop-test.false
 
 pub find-third-spec : {M : Type 1} → statement M
-find-third-spec = tie.close (tie.spec invariant-loop decreases-loop loop-holds listed-point-requires add-m is-beside-both-requires returns loop-less loop-again returns-2)
+find-third-spec = tie.close (tie.spec invariant_loop decreases_loop loop_holds listed_point_requires add_m is_beside_both_requires returns loop_less loop_again returns_2)

@@ -7,17 +7,17 @@ returns : tie.Need-returns
 unfolding longest
 returns c = (rw (c.before.if1.true, c.if2.true), search rules)
 
-returns-2 : tie.Need-returns-2
+returns_2 : tie.Need-returns-2
 unfolding longest
-returns-2 c = (rw (c.before.if1.true, c.if2.false), search rules)
+returns_2 c = (rw (c.before.if1.true, c.if2.false), search rules)
 
-returns-3 : tie.Need-returns-3
+returns_3 : tie.Need-returns-3
 unfolding longest
-returns-3 c = (rw (c.before.if1.false, c.if3.true), search rules)
+returns_3 c = (rw (c.before.if1.false, c.if3.true), search rules)
 
-returns-4 : tie.Need-returns-4
+returns_4 : tie.Need-returns-4
 unfolding longest
-returns-4 c = (rw (c.before.if1.false, c.if3.false), search rules)
+returns_4 c = (rw (c.before.if1.false, c.if3.false), search rules)
 
 pub longest-spec : {M : Type 1} → statement M
-longest-spec = tie.close (tie.spec returns returns-2 returns-3 returns-4)
+longest-spec = tie.close (tie.spec returns returns_2 returns_3 returns_4)

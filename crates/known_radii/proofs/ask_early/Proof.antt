@@ -10,26 +10,26 @@ use Rattle.known_radii.proofs.ask_early.Tie as tie
 returns : tie.Need-returns
 returns c = (λ h. absurd (subst T (sym h) tt), kept_self c.before.before.before.args.p.scene c.before.before.before.args.w.now)
 
-is-within-budget-requires : tie.Need-is-within-budget-requires
-is-within-budget-requires c κs =
+is_within_budget_requires : tie.Need-is-within-budget-requires
+is_within_budget_requires c κs =
     (c.before.before.before.before.requires.0.few, omega (arith, c.before.before.before.before.requires.2, c.before.before.before.before.requires.0.few))
 
-returns-2 : tie.Need-returns-2
-returns-2 c = (
+returns_2 : tie.Need-returns-2
+returns_2 c = (
   λ h. absurd (subst T (sym h) tt),
   kept_self c.before.before.before.before.before.before.args.p.scene
       c.before.before.before.before.before.before.args.w.now,
 )
 
-is-seedless-to-requires : tie.Need-is-seedless-to-requires
-is-seedless-to-requires c κs =
+is_seedless_to_requires : tie.Need-is-seedless-to-requires
+is_seedless_to_requires c κs =
     (c.before.before.before.before.before.before.before.requires.0, c.before.before.before.before.before.before.before.requires.1)
 
 same_length : tie.Need-same-length
 same_length c = search rules
 
-returns-3 : tie.Need-returns-3
-returns-3 c = c.before.before.is-seedless-to.ensures
+returns_3 : tie.Need-returns-3
+returns_3 c = c.before.before.is-seedless-to.ensures
 
 pub ask-early-spec : {M : Type 1} → statement M
-ask-early-spec = tie.close (tie.spec returns is-within-budget-requires returns-2 is-seedless-to-requires same_length returns-3)
+ask-early-spec = tie.close (tie.spec returns is_within_budget_requires returns_2 is_seedless_to_requires same_length returns_3)

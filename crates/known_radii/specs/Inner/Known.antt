@@ -7,7 +7,7 @@ use Rattle.std.specs.Float.Ieee.Scale.{finite}
 use Rattle.numbers.specs.Rounded.{f32, ◌⊗◌}
 use Rattle.patch.specs.Search.{searching}
 use Rattle.decisions.specs.declared.Scene.{Scene}
-use Rattle.decisions.specs.Decisions.{floatsOf}
+use Rattle.decisions.specs.Decisions.{floats_of}
 
 -- a number from 0 on
 pub record Number (x : Float) : Type 0 where
@@ -22,7 +22,7 @@ pub record Growing (s : Scene) (r : Float) : Type 0 where
 -- no radius from 0 up to another has a seed
 abbrev pub NothingTo : Scene → List Float → List ℕ → Float → Type 0
 NothingTo s pts used upto = (r : Float) → T (le (f32 0) r) → T (le r upto)
-    → (searching (floatsOf s pts) s.n).seedOf r used ≡ none
+    → (searching (floats_of s pts) s.n).seed_of r used ≡ none
 
 -- no radius from 0 on is up to it
 abbrev pub Silent : Float → Type 0
@@ -30,5 +30,5 @@ Silent upto = (r : Float) → T (le (f32 0) r) → T (le r upto) → ⊥
 
 -- a radius is one of those, or the cloud is flat and edges are limited at that radius
 pub data RadiusKnown (s : Scene) (flat : Bool) (r upto : Float) : Type 0 where
-  flat-cloud : flat ≡ true → T (lt (r ⊗ s.max_edge_factor) (inf false)) → RadiusKnown s flat r upto
+  flat_cloud : flat ≡ true → T (lt (r ⊗ s.max_edge_factor) (inf false)) → RadiusKnown s flat r upto
   up_to : T (le (f32 0) r) → T (le r upto) → RadiusKnown s flat r upto

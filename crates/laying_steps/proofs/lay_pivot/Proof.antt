@@ -1,35 +1,35 @@
 -- `laying_steps::lay_pivot` meets its contract. Assumes nothing.
-use Rattle.laying_steps.proofs.Work.{pivot-takes, face-only}
+use Rattle.laying_steps.proofs.Work.{pivot_takes, face_only}
 use borrow.Author.Rules.{rules}
 use Rattle.laying_steps.proofs.lay_pivot.Statement.{statement}
 use Rattle.laying_steps.proofs.lay_pivot.Tie as tie
 
-put-face-requires : tie.Need-put-face-requires
-put-face-requires c κs = search rules
+put_face_requires : tie.Need-put-face-requires
+put_face_requires c κs = search rules
 
-mark-used-requires : tie.Need-mark-used-requires
-mark-used-requires c κs = search rules
+mark_used_requires : tie.Need-mark-used-requires
+mark_used_requires c κs = search rules
 
-add-add-triangle-edges-to-frontier : tie.Need-overflow-add-add-triangle-edges-to-frontier
-add-add-triangle-edges-to-frontier c = search rules
+add_add_triangle_edges_to_frontier : tie.Need-overflow-add-add-triangle-edges-to-frontier
+add_add_triangle_edges_to_frontier c = search rules
 
-add-triangle-edges-to-frontier-requires : tie.Need-add-triangle-edges-to-frontier-requires
-add-triangle-edges-to-frontier-requires c κs = search rules
+add_triangle_edges_to_frontier_requires : tie.Need-add-triangle-edges-to-frontier-requires
+add_triangle_edges_to_frontier_requires c κs = search rules
 
 add_r : tie.Need-overflow-add-r
 add_r c = search rules
 
-add-r-2 : tie.Need-overflow-add-r-2
-add-r-2 c = search rules
+add_r_2 : tie.Need-overflow-add-r-2
+add_r_2 c = search rules
 
-add-r-3 : tie.Need-overflow-add-r-3
-add-r-3 c = search rules
+add_r_3 : tie.Need-overflow-add-r-3
+add_r_3 c = search rules
 
 same_length : tie.Need-same-length
 same_length c = search rules
 
-same-length-2 : tie.Need-same-length-2
-same-length-2 c = search rules
+same_length_2 : tie.Need-same-length-2
+same_length_2 c = search rules
 
 returns : tie.Need-returns
 returns c =
@@ -40,22 +40,22 @@ returns c =
     let pushed = p.add-triangle-edges-to-frontier in
     let marked = m.mark-used in
     let wrote = f.put-face in (
-      pivot-takes s.args.n s.args.c s.args.w.now marked.new.0 pushed.new.0 s.args.faces.now wrote.new.0 s.args.a
+      pivot_takes s.args.n s.args.c s.args.w.now marked.new.0 pushed.new.0 s.args.faces.now wrote.new.0 s.args.a
           s.args.b s.args.k wrote.ensures marked.ensures pushed.ensures,
-      face-only s.args.n _ _ _ s.args.w.now marked.new.0 pushed.new.0 marked.ensures pushed.ensures,
+      face_only s.args.n _ _ _ s.args.w.now marked.new.0 pushed.new.0 marked.ensures pushed.ensures,
     )
 
 pub lay-pivot-spec : {M : Type 1} → statement M
 lay-pivot-spec =
     tie.close
     (tie.spec
-    put-face-requires
-    mark-used-requires
-    add-add-triangle-edges-to-frontier
-    add-triangle-edges-to-frontier-requires
+    put_face_requires
+    mark_used_requires
+    add_add_triangle_edges_to_frontier
+    add_triangle_edges_to_frontier_requires
     add_r
-    add-r-2
-    add-r-3
+    add_r_2
+    add_r_3
     same_length
-    same-length-2
+    same_length_2
     returns)

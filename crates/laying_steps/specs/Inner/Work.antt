@@ -1,12 +1,12 @@
 -- What the lent slices and the counts hold of a state of the laying, and what each part of a step asks and
 -- changes. Definitions only.
 use Rattle.std.specs.Prelude.{ℕ, ◌+◌, ◌*◌, ◌≤◌, ◌<◌, ◌≡◌, ◌≢◌, false, List, [], ◌∷◌, map, length}
-use Rattle.regions.specs.Inner.Regions.{usedIn}
+use Rattle.regions.specs.Inner.Regions.{used_in}
 use Rattle.lists.specs.Lists.{bit, any}
-use Rattle.patch.specs.Lay.{Edge, edge, same, State, Pop, seedsOf, popped, cleared, pivoted, blank}
+use Rattle.patch.specs.Lay.{Edge, edge, same, State, Pop, seeds_of, popped, cleared, pivoted, blank}
 use Rattle.patch.specs.Inner.Entries.{encode}
 use Rattle.patch.specs.View.{written}
-use Rattle.laying_words.specs.Inner.Words.{entriesIn, flag, WordsSized}
+use Rattle.laying_words.specs.Inner.Words.{entries_in, flag, WordsSized}
 use Rattle.laying_steps.specs.declared.Counts.{Counts}
 use Rattle.laying_steps.specs.declared.Entry.{Entry}
 
@@ -16,15 +16,15 @@ entry_of processed e = encode e + bit (any (same e) processed) * flag
 
 -- a state s, held by counts, work slice and face slice; `lent` is the face slice as it was lent
 pub record HoldsState (n : ℕ) (lent : List ℕ) (s : State) (c : Counts) (w slice : List ℕ) : Type 0 where
-  pub faces-count : c.faces ≡ length s.faces
-  pub seeds-count : c.seeds ≡ seedsOf s
-  pub frontier-count : c.frontier ≡ length s.frontier
+  pub faces_count : c.faces ≡ length s.faces
+  pub seeds_count : c.seeds ≡ seeds_of s
+  pub frontier_count : c.frontier ≡ length s.frontier
   pub looks : c.looks ≡ s.looks
   pub pivots : c.pivots ≡ s.pivots
-  pub used : usedIn n w ≡ s.used
-  pub frontier : entriesIn n c.first c.frontier w ≡ map (entry_of s.processed) s.frontier
+  pub used : used_in n w ≡ s.used
+  pub frontier : entries_in n c.first c.frontier w ≡ map (entry_of s.processed) s.frontier
   -- no more entries stand before the first than were popped
-  pub first-most : c.first ≤ c.looks
+  pub first_most : c.first ≤ c.looks
   pub faces : slice ≡ written s.faces lent
 
 -- a function that turns c, w and slice into r, u and back takes the step, from each held state of which `asked` holds
@@ -57,13 +57,13 @@ TellsEntry word r = (processed : List Edge) (e : Edge) → e.v1 < 4096 → e.v2 
 -- the edge e is not processed, and no entry of it waits
 pub record NoEntryWaits (e : Edge) (s : State) : Type 0 where
   pub unprocessed : any (same e) s.processed ≡ false
-  pub none-waits : any (same e) s.frontier ≡ false
+  pub none_waits : any (same e) s.frontier ≡ false
 
 -- nor are the edges processed that join it to the point k
 pub record Open (e : Edge) (k : ℕ) (s : State) : Type 0 where
   pub alone : NoEntryWaits e s
   pub not_first : k ≢ e.v1
-  pub not-second : k ≢ e.v2
+  pub not_second : k ≢ e.v2
   pub second : any (same (edge e.v2 k)) s.processed ≡ false
   pub third : any (same (edge k e.v1)) s.processed ≡ false
 

@@ -12,20 +12,20 @@ mul_at c = search rules
 add_at : tie.Need-overflow-add-at
 add_at c = search rules
 
-mul-pop : tie.Need-overflow-mul-pop
-mul-pop c = search rules
+mul_pop : tie.Need-overflow-mul-pop
+mul_pop c = search rules
 
-sub-pop : tie.Need-overflow-sub-pop
-sub-pop c = search rules
+sub_pop : tie.Need-overflow-sub-pop
+sub_pop c = search rules
 
-part-pop-start : tie.Need-slice-bounds-pop-start
-part-pop-start c = search rules
+part_pop_start : tie.Need-slice-bounds-pop-start
+part_pop_start c = search rules
 
-part-pop-end : tie.Need-slice-bounds-pop-end
-part-pop-end c = search rules
+part_pop_end : tie.Need-slice-bounds-pop-end
+part_pop_end c = search rules
 
-pop-requires : tie.Need-pop-requires
-pop-requires c κs = search rules
+pop_requires : tie.Need-pop-requires
+pop_requires c κs = search rules
 
 same_length : tie.Need-same-length
 same_length c = search rules
@@ -40,4 +40,4 @@ returns c =
 pub pop-frontier-spec : {M : Type 1} → statement M
 pop-frontier-spec =
     tie.close
-    (tie.spec mul_at add_at mul-pop sub-pop part-pop-start part-pop-end pop-requires same_length returns)
+    (tie.spec mul_at add_at mul_pop sub_pop part_pop_start part_pop_end pop_requires same_length returns)

@@ -2,7 +2,7 @@
 use Rattle.std.specs.Prelude.{ℕ, ◌/◌, ◌≤◌, ◌<◌, ◌≡◌, List, T, eqb, Float, length, get_or}
 use Rattle.lists.specs.Lists.{count}
 use Rattle.vector.specs.Inner.Numbers.{Finite}
-use Rattle.points.specs.Points.{pointAt}
+use Rattle.points.specs.Points.{point_at}
 use Rattle.bounds.specs.declared.Bounds.{Bounds}
 use Rattle.bounds.specs.Inner.Within.{within}
 
@@ -13,5 +13,5 @@ pub record SameWords (w u : List ℕ) : Type 0 where
 
 -- where all coordinates are numbers, a box has the points that stand in a list from a place to another
 pub record RangeBoxed (pts : List Float) (list : List ℕ) (from to : ℕ) (b : Bounds) : Type 0 where
-  pub has : ((k : ℕ) → k < length pts / 3 → Finite (pointAt pts k))
-      → (m : ℕ) → from ≤ m → m < to → get_or list m 0 < length pts / 3 → T (within b (pointAt pts (get_or list m 0)))
+  pub has : ((k : ℕ) → k < length pts / 3 → Finite (point_at pts k))
+      → (m : ℕ) → from ≤ m → m < to → get_or list m 0 < length pts / 3 → T (within b (point_at pts (get_or list m 0)))

@@ -7,21 +7,21 @@ use Rattle.numbers.specs.Rounded.{f32, ◌⊗◌, ◌⊘◌}
 use Rattle.numbers.specs.Root.{root}
 use Rattle.quality.specs.Measures.{half}
 
-unfoldable pub edgeBetween : Float → Float → Float → Bool
-edgeBetween x lo hi = le lo x && le x hi
+unfoldable pub edge_between : Float → Float → Float → Bool
+edge_between x lo hi = le lo x && le x hi
 
 -- squares of lengths from 2 ^ -20 to 2 ^ 13
-unfoldable pub isPlainTriple : Float → Float → Float → Bool
-isPlainTriple a b c =
-    edgeBetween a (f32 0x2b800000) (f32 0x4c800000)
-    && (edgeBetween b (f32 0x2b800000) (f32 0x4c800000) && edgeBetween c (f32 0x2b800000) (f32 0x4c800000))
+unfoldable pub is_plain_triple : Float → Float → Float → Bool
+is_plain_triple a b c =
+    edge_between a (f32 0x2b800000) (f32 0x4c800000)
+    && (edge_between b (f32 0x2b800000) (f32 0x4c800000) && edge_between c (f32 0x2b800000) (f32 0x4c800000))
 
 -- the squares of a longest edge from 2 ^ -13 on and of a cross product from 2 ^ -30 to 2 ^ 30 pass a limit: the fourth
 -- power of the ratio of two edges times the square of the cross product's length is above it
-unfoldable pub isBeyond : Float → Float → Float → Float → Bool
-isBeyond short long cross limit =
-    edgeBetween long (f32 0x32800000) (f32 0x4c800000)
-    && (edgeBetween cross (f32 0x21800000) (f32 0x5d800000)
+unfoldable pub is_beyond : Float → Float → Float → Float → Bool
+is_beyond short long cross limit =
+    edge_between long (f32 0x32800000) (f32 0x4c800000)
+    && (edge_between cross (f32 0x21800000) (f32 0x5d800000)
     && lt (limit ⊗ (short ⊗ short)) (long ⊗ long ⊗ cross))
 
 -- the ratio of two edges times the root of the area, from the squares
@@ -31,8 +31,8 @@ extent short long cross = (root long ⊘ root short) ⊗ root (root cross ⊗ ha
 -- t is a limit for the bound ℓ: what passes it is above the bound
 pub record LongLimit (ℓ t : Float) : Type 0 where
   pub above : (short long cross : Float) → T (fits binary32 short) → T (fits binary32 long)
-      → T (fits binary32 cross) → T (edgeBetween short (f32 0x2b800000) (f32 0x4c800000))
-      → T (isBeyond short long cross t) → T (lt ℓ (extent short long cross))
+      → T (fits binary32 cross) → T (edge_between short (f32 0x2b800000) (f32 0x4c800000))
+      → T (is_beyond short long cross t) → T (lt ℓ (extent short long cross))
 
 -- x is one of three
 pub data OneOf (x a b c : Float) : Type 0 where
@@ -44,7 +44,7 @@ pub data OneOf (x a b c : Float) : Type 0 where
 pub record Long (limit a b c cross : Float) : Type 0 where
   pub short : Float
   pub long : Float
-  pub short-of : OneOf short a b c
+  pub short_of : OneOf short a b c
   pub long_of : OneOf long a b c
-  pub plain : (x : Float) → OneOf x a b c → T (edgeBetween x (f32 0x2b800000) (f32 0x4c800000))
-  pub beyond : T (isBeyond short long cross limit)
+  pub plain : (x : Float) → OneOf x a b c → T (edge_between x (f32 0x2b800000) (f32 0x4c800000))
+  pub beyond : T (is_beyond short long cross limit)

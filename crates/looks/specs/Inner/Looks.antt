@@ -1,6 +1,6 @@
 -- Which way the faces look whose parents stand in a slice, two numbers a face. Definitions only.
 use Rattle.std.specs.Prelude.{◌≡◌, ℕ, ◌*◌, ◌/◌, ◌≤◌, ◌<◌, cond, List, ltb, length, get_or}
-use Rattle.origins.specs.Sides.{looksIn}
+use Rattle.origins.specs.Sides.{looks_in}
 
 -- the parent's number; a face past the end of the slice has none, and stands for itself
 unfoldable pub parent_in : List ℕ → ℕ → ℕ
@@ -8,7 +8,7 @@ parent_in origins face = cond (ltb face (length origins / 2)) (get_or origins (2
 
 -- 1 where the face looks in, else 0
 unfoldable pub side_of : List ℕ → ℕ → ℕ
-side_of origins face = cond (looksIn (parent_in origins) face) 1 0
+side_of origins face = cond (looks_in (parent_in origins) face) 1 0
 
 -- the list has the sides of the first n faces
 pub record HasSides (origins sides : List ℕ) (n : ℕ) : Type 0 where

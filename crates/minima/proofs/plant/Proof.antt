@@ -4,11 +4,11 @@ use Rattle.minima.proofs.Trees.{planted}
 use Rattle.minima.proofs.plant.Statement.{statement}
 use Rattle.minima.proofs.plant.Tie as tie
 
-set-leaves-requires : tie.Need-set-leaves-requires
-set-leaves-requires c κs = search rules
+set_leaves_requires : tie.Need-set-leaves-requires
+set_leaves_requires c κs = search rules
 
-set-nodes-requires : tie.Need-set-nodes-requires
-set-nodes-requires c κs = search rules
+set_nodes_requires : tie.Need-set-nodes-requires
+set_nodes_requires c κs = search rules
 
 same_length : tie.Need-same-length
 same_length c = search rules
@@ -22,4 +22,4 @@ returns c =
     nodes.ensures.1
 
 pub plant-spec : {M : Type 1} → statement M
-plant-spec = tie.close (tie.spec set-leaves-requires set-nodes-requires same_length returns)
+plant-spec = tie.close (tie.spec set_leaves_requires set_nodes_requires same_length returns)

@@ -3,68 +3,68 @@
 use Prim.Native.Nat.{◌+◌, ◌-◌, ◌*◌, ◌≤◌}
 use mathlib.Core.Path.{◌≡◌, refl}
 use lib.ListN.{length, length-set}
-use Rattle.minima.proofs.Trees.{NodesFrom, InnerOnly, nodes-stored, inner-stored}
+use Rattle.minima.proofs.Trees.{NodesFrom, InnerOnly, nodes_stored, inner_stored}
 use native.Mathlib.Omega.{arith}
 use borrow.Author.Rules.{rules}
 use Rattle.minima.proofs.set_nodes.Statement.{statement}
 use Rattle.minima.proofs.set_nodes.Tie as tie
 
-abbrev invariant-loop : tie.invariant-loop
-invariant-loop base count words₀ k₀ words k = (length words ≡ length words₀) × (k ≤ count) × NodesFrom base count k words × InnerOnly base count words₀ words
+abbrev invariant_loop : tie.invariant-loop
+invariant_loop base count words₀ k₀ words k = (length words ≡ length words₀) × (k ≤ count) × NodesFrom base count k words × InnerOnly base count words₀ words
 
-abbrev decreases-loop : tie.decreases-loop
-decreases-loop base count words₀ k₀ words k = k
+abbrev decreases_loop : tie.decreases-loop
+decreases_loop base count words₀ k₀ words k = k
 
-loop-holds : tie.Need-loop-init invariant-loop decreases-loop
-loop-holds c = (refl, search rules, (λ k a b d. absurd (omega arith)), λ j s. refl)
+loop_holds : tie.Need-loop-init invariant_loop decreases_loop
+loop_holds c = (refl, search rules, (λ k a b d. absurd (omega arith)), λ j s. refl)
 
-sub-k : tie.Need-overflow-sub-k invariant-loop decreases-loop
-sub-k c = search rules
+sub_k : tie.Need-overflow-sub-k invariant_loop decreases_loop
+sub_k c = search rules
 
-mul-least : tie.Need-overflow-mul-least invariant-loop decreases-loop
-mul-least c = search rules
+mul_least : tie.Need-overflow-mul-least invariant_loop decreases_loop
+mul_least c = search rules
 
-add-least : tie.Need-overflow-add-least invariant-loop decreases-loop
-add-least c = search rules
+add_least : tie.Need-overflow-add-least invariant_loop decreases_loop
+add_least c = search rules
 
-mul-least-2 : tie.Need-overflow-mul-least-2 invariant-loop decreases-loop
-mul-least-2 c = search rules
+mul_least_2 : tie.Need-overflow-mul-least-2 invariant_loop decreases_loop
+mul_least_2 c = search rules
 
-slice-read-least : tie.Need-slice-read-least invariant-loop decreases-loop
-slice-read-least c = search rules
+slice_read_least : tie.Need-slice-read-least invariant_loop decreases_loop
+slice_read_least c = search rules
 
-mul-least-3 : tie.Need-overflow-mul-least-3 invariant-loop decreases-loop
-mul-least-3 c = search rules
+mul_least_3 : tie.Need-overflow-mul-least-3 invariant_loop decreases_loop
+mul_least_3 c = search rules
 
-add-least-2 : tie.Need-overflow-add-least-2 invariant-loop decreases-loop
-add-least-2 c = search rules
+add_least_2 : tie.Need-overflow-add-least-2 invariant_loop decreases_loop
+add_least_2 c = search rules
 
-add-least-3 : tie.Need-overflow-add-least-3 invariant-loop decreases-loop
-add-least-3 c = search rules
+add_least_3 : tie.Need-overflow-add-least-3 invariant_loop decreases_loop
+add_least_3 c = search rules
 
-mul-least-4 : tie.Need-overflow-mul-least-4 invariant-loop decreases-loop
-mul-least-4 c = search rules
+mul_least_4 : tie.Need-overflow-mul-least-4 invariant_loop decreases_loop
+mul_least_4 c = search rules
 
-slice-read-least-2 : tie.Need-slice-read-least-2 invariant-loop decreases-loop
-slice-read-least-2 c = search rules
+slice_read_least_2 : tie.Need-slice-read-least-2 invariant_loop decreases_loop
+slice_read_least_2 c = search rules
 
-least-requires : tie.Need-least-requires invariant-loop decreases-loop
-least-requires c κs = search rules
+least_requires : tie.Need-least-requires invariant_loop decreases_loop
+least_requires c κs = search rules
 
-add_words : tie.Need-overflow-add-words invariant-loop decreases-loop
+add_words : tie.Need-overflow-add-words invariant_loop decreases_loop
 add_words c = search rules
 
-mul_words : tie.Need-overflow-mul-words invariant-loop decreases-loop
+mul_words : tie.Need-overflow-mul-words invariant_loop decreases_loop
 mul_words c = search rules
 
-slice-write-words : tie.Need-slice-write-words invariant-loop decreases-loop
-slice-write-words c = search rules
+slice_write_words : tie.Need-slice-write-words invariant_loop decreases_loop
+slice_write_words c = search rules
 
-loop-less : tie.Need-loop-smaller invariant-loop decreases-loop
-loop-less c = search rules
+loop_less : tie.Need-loop-smaller invariant_loop decreases_loop
+loop_less c = search rules
 
-loop-again : tie.Need-loop-preserved invariant-loop decreases-loop
-loop-again c =
+loop_again : tie.Need-loop-preserved invariant_loop decreases_loop
+loop_again c =
     let l = c.before.before.before.before.loop in
     let s = c.before.before.before.before.before.before in
     let a = s.args in
@@ -72,15 +72,15 @@ loop-again c =
     let down : l.k - 1 + 1 ≡ l.k = omega arith in (
       simp length-set l.invariant.0,
       omega (arith, l.invariant.1),
-      nodes-stored a.base a.count (l.k - 1) c.least.result l.words (omega arith) (omega (arith, l.invariant.1)) room c.least.ensures
+      nodes_stored a.base a.count (l.k - 1) c.least.result l.words (omega arith) (omega (arith, l.invariant.1)) room c.least.ensures
           (rw down l.invariant.2),
-      inner-stored a.base a.count a.words.now l.words (l.k - 1) c.least.result (omega (arith, l.invariant.1)) l.invariant.3,
+      inner_stored a.base a.count a.words.now l.words (l.k - 1) c.least.result (omega (arith, l.invariant.1)) l.invariant.3,
     )
 
-same_length : tie.Need-same-length invariant-loop decreases-loop
+same_length : tie.Need-same-length invariant_loop decreases_loop
 same_length c = search rules
 
-returns : tie.Need-returns invariant-loop decreases-loop
+returns : tie.Need-returns invariant_loop decreases_loop
 returns c =
     let l = c.before.loop in
     let a = c.before.before.before.args in
@@ -90,24 +90,24 @@ pub set-nodes-spec : {M : Type 1} → statement M
 set-nodes-spec =
     tie.close
     (tie.spec
-    invariant-loop
-    decreases-loop
-    loop-holds
-    sub-k
-    mul-least
-    add-least
-    mul-least-2
-    slice-read-least
-    mul-least-3
-    add-least-2
-    add-least-3
-    mul-least-4
-    slice-read-least-2
-    least-requires
+    invariant_loop
+    decreases_loop
+    loop_holds
+    sub_k
+    mul_least
+    add_least
+    mul_least_2
+    slice_read_least
+    mul_least_3
+    add_least_2
+    add_least_3
+    mul_least_4
+    slice_read_least_2
+    least_requires
     add_words
     mul_words
-    slice-write-words
-    loop-less
-    loop-again
+    slice_write_words
+    loop_less
+    loop_again
     same_length
     returns)

@@ -4,8 +4,8 @@ use Rattle.nearby.proofs.Narrowing.{collected}
 use Rattle.nearby.proofs.gather_near.Statement.{statement}
 use Rattle.nearby.proofs.gather_near.Tie as tie
 
-gather-within-requires : tie.Need-gather-within-requires
-gather-within-requires c κs = search rules
+gather_within_requires : tie.Need-gather-within-requires
+gather_within_requires c κs = search rules
 
 same_length : tie.Need-same-length
 same_length c = search rules
@@ -14,4 +14,4 @@ returns : tie.Need-returns
 returns c = collected c.before.before.before.before.before.before.requires.0 c.before.before.gather-within.ensures
 
 pub gather-near-spec : {M : Type 1} → statement M
-gather-near-spec = tie.close (tie.spec gather-within-requires same_length returns)
+gather-near-spec = tie.close (tie.spec gather_within_requires same_length returns)

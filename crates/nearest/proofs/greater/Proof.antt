@@ -6,9 +6,9 @@ returns : tie.Need-returns
 unfolding greater
 returns c = rw c.if1.true
 
-returns-2 : tie.Need-returns-2
+returns_2 : tie.Need-returns-2
 unfolding greater
-returns-2 c = rw c.if1.false
+returns_2 c = rw c.if1.false
 
 pub greater-spec : {M : Type 1} → statement M
-greater-spec = tie.close (tie.spec returns returns-2)
+greater-spec = tie.close (tie.spec returns returns_2)

@@ -6,9 +6,9 @@ returns : tie.Need-returns
 unfolding lesser
 returns c = rw c.if1.true
 
-returns-2 : tie.Need-returns-2
+returns_2 : tie.Need-returns-2
 unfolding lesser
-returns-2 c = rw c.if1.false
+returns_2 c = rw c.if1.false
 
 pub lesser-spec : {M : Type 1} → statement M
-lesser-spec = tie.close (tie.spec returns returns-2)
+lesser-spec = tie.close (tie.spec returns returns_2)

@@ -1,6 +1,6 @@
 use mathlib.Core.Path.{sym, subst}
 use lib.Dec.{T}
-use Rattle.nearest.proofs.Margin.{raised-limit, root-limit}
+use Rattle.nearest.proofs.Margin.{raised_limit, root_limit}
 use borrow.Author.Rules.{rules}
 use Rattle.nearest.proofs.limit_of.Statement.{statement}
 use Rattle.nearest.proofs.limit_of.Tie as tie
@@ -10,22 +10,22 @@ use Rattle.bounds.proofs.square_limit.Reads as square-limit-reads
 use Rattle.nearest.proofs.greater.Reads as greater-reads
 use Rattle.numbers.proofs.sqrt.Reads as sqrt-reads
 
-greater-requires : tie.Need-greater-requires
-greater-requires c κs = search rules
+greater_requires : tie.Need-greater-requires
+greater_requires c κs = search rules
 
 returns : tie.Need-returns
 returns c =
-    raised-limit c.before.before.before.args.square c.before.before.before.requires (subst T (sym c.before.before.if1.true) tt)
+    raised_limit c.before.before.before.args.square c.before.before.before.requires (subst T (sym c.before.before.if1.true) tt)
     (subst T (sym c.before.if2.true) tt) c.greater.ensures
 
-sqrt-requires : tie.Need-sqrt-requires
-sqrt-requires c κs = search rules
+sqrt_requires : tie.Need-sqrt-requires
+sqrt_requires c κs = search rules
 
-square-limit-requires : tie.Need-square-limit-requires
-square-limit-requires c κs = search rules
+square_limit_requires : tie.Need-square-limit-requires
+square_limit_requires c κs = search rules
 
-returns-2 : tie.Need-returns-2
-returns-2 c = root-limit c.before.before.before.args.square _ c.before.sqrt.ensures c.square-limit.ensures
+returns_2 : tie.Need-returns-2
+returns_2 c = root_limit c.before.before.before.args.square _ c.before.sqrt.ensures c.square-limit.ensures
 
 pub limit-of-spec : {M : Type 1} → statement M
-limit-of-spec = tie.close (tie.spec greater-requires returns sqrt-requires square-limit-requires returns-2)
+limit-of-spec = tie.close (tie.spec greater_requires returns sqrt_requires square_limit_requires returns_2)

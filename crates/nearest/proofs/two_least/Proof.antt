@@ -2,8 +2,8 @@ use native.Mathlib.Omega.{arith}
 use borrow.Author.Rules.{rules}
 use lib.ListN.{length, get_or}
 use Prim.Native.Nat.{◌-◌}
-use Rattle.lists.proofs.Members.{in-at}
-use Rattle.nearest.specs.Least.{squareTo}
+use Rattle.lists.proofs.Members.{in_at}
+use Rattle.nearest.specs.Least.{square_to}
 use Rattle.nearest.proofs.Settling.{Seen, seen_start, seen_next, seen_end}
 use Rattle.nearest.proofs.two_least.Statement.{statement}
 use Rattle.nearest.proofs.two_least.Tie as tie
@@ -13,64 +13,64 @@ use Rattle.nearest.proofs.next_least.Reads as next-least-reads
 use Rattle.points.proofs.point_at.Reads as point-at-reads
 use Rattle.vector.proofs.distance_squared.Reads as distance-squared-reads
 
-abbrev invariant-loop : tie.invariant-loop
-invariant-loop points spot order least₀ i₀ least i = Seen (squareTo points spot) order i least
+abbrev invariant_loop : tie.invariant-loop
+invariant_loop points spot order least₀ i₀ least i = Seen (square_to points spot) order i least
 
-abbrev decreases-loop : tie.decreases-loop
-decreases-loop points spot order least₀ i₀ least i = length order - i
+abbrev decreases_loop : tie.decreases-loop
+decreases_loop points spot order least₀ i₀ least i = length order - i
 
-loop-holds : tie.Need-loop-init invariant-loop decreases-loop
-loop-holds c = seen_start _ _
+loop_holds : tie.Need-loop-init invariant_loop decreases_loop
+loop_holds c = seen_start _ _
 
-mul-number : tie.Need-overflow-mul-number invariant-loop decreases-loop
-mul-number c = search rules
+mul_number : tie.Need-overflow-mul-number invariant_loop decreases_loop
+mul_number c = search rules
 
-shared-slice-read-number : tie.Need-shared-slice-read-number invariant-loop decreases-loop
-shared-slice-read-number c = search rules
+shared_slice_read_number : tie.Need-shared-slice-read-number invariant_loop decreases_loop
+shared_slice_read_number c = search rules
 
-cast-point-at : tie.Need-overflow-cast-point-at invariant-loop decreases-loop
-cast-point-at c = omega (arith, c.shared-slice-known3.given c.before.before.loop.i)
+cast_point_at : tie.Need-overflow-cast-point-at invariant_loop decreases_loop
+cast_point_at c = omega (arith, c.shared-slice-known3.given c.before.before.loop.i)
 
-point-at-requires : tie.Need-point-at-requires invariant-loop decreases-loop
-point-at-requires c κs =
+point_at_requires : tie.Need-point-at-requires invariant_loop decreases_loop
+point_at_requires c κs =
     let o = c.before.before.before.before.before.args.order.now in c.before.before.before.before.before.requires.0
-    (get_or o c.before.before.loop.i 0) (in-at o c.before.before.loop.i c.before.loop-test.true)
+    (get_or o c.before.before.loop.i 0) (in_at o c.before.before.loop.i c.before.loop-test.true)
 
-distance-squared-requires : tie.Need-distance-squared-requires invariant-loop decreases-loop
-distance-squared-requires c κs = search rules
+distance_squared_requires : tie.Need-distance-squared-requires invariant_loop decreases_loop
+distance_squared_requires c κs = search rules
 
-next-least-requires : tie.Need-next-least-requires invariant-loop decreases-loop
-next-least-requires c κs = search rules
+next_least_requires : tie.Need-next-least-requires invariant_loop decreases_loop
+next_least_requires c κs = search rules
 
-add-i : tie.Need-overflow-add-i invariant-loop decreases-loop
-add-i c = search rules
+add_i : tie.Need-overflow-add-i invariant_loop decreases_loop
+add_i c = search rules
 
-loop-less : tie.Need-loop-smaller invariant-loop decreases-loop
-loop-less c = search rules
+loop_less : tie.Need-loop-smaller invariant_loop decreases_loop
+loop_less c = search rules
 
-loop-again : tie.Need-loop-preserved invariant-loop decreases-loop
-loop-again c =
+loop_again : tie.Need-loop-preserved invariant_loop decreases_loop
+loop_again c =
     seen_next c.before.before.before.before.before.before.before.before.requires.1 c.before.before.before.before.before.loop.invariant
-    c.before.before.before.before.loop-test.true c.before.before.point_at.ensures c.before.distance-squared.ensures
+    c.before.before.before.before.loop-test.true c.before.before.point_at.ensures c.before.distance_squared.ensures
     c.next-least.ensures
 
-returns : tie.Need-returns invariant-loop decreases-loop
+returns : tie.Need-returns invariant_loop decreases_loop
 returns c = seen_end _ c.before.loop.invariant c.loop-test.false
 
 pub two-least-spec : {M : Type 1} → statement M
 two-least-spec =
     tie.close
     (tie.spec
-    invariant-loop
-    decreases-loop
-    loop-holds
-    mul-number
-    shared-slice-read-number
-    cast-point-at
-    point-at-requires
-    distance-squared-requires
-    next-least-requires
-    add-i
-    loop-less
-    loop-again
+    invariant_loop
+    decreases_loop
+    loop_holds
+    mul_number
+    shared_slice_read_number
+    cast_point_at
+    point_at_requires
+    distance_squared_requires
+    next_least_requires
+    add_i
+    loop_less
+    loop_again
     returns)

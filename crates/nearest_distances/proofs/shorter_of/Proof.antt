@@ -10,9 +10,9 @@ returns : tie.Need-returns
 unfolding shorter
 returns c = rw (lt-ltb _ _ c.if1.true)
 
-returns-2 : tie.Need-returns-2
+returns_2 : tie.Need-returns-2
 unfolding shorter
-returns-2 c = rw (le-ltb _ _ c.if1.false)
+returns_2 c = rw (le-ltb _ _ c.if1.false)
 
 pub shorter-of-spec : {M : Type 1} → statement M
-shorter-of-spec = tie.close (tie.spec returns returns-2)
+shorter-of-spec = tie.close (tie.spec returns returns_2)

@@ -9,10 +9,10 @@ use Rattle.numbers.specs.Rounded.{f32}
 use Rattle.ranges.proofs.Tests.{passed, failed}
 use Rattle.vector.specs.Inner.Numbers.{Finite}
 use Rattle.vector.specs.declared.Point3f.{Point3f}
-use Rattle.ranges.specs.Range.{firstOutside, farthest}
+use Rattle.ranges.specs.Range.{first_outside, farthest}
 use Rattle.nearest.specs.Scan.{nearest}
-use Rattle.nearest_points.proofs.Refused.{accepted, one-finite}
-use Rattle.nearest_points.proofs.Outcome.{detail-small, early-is, zero-answer, one-refused, one-foreign, one_found}
+use Rattle.nearest_points.proofs.Refused.{accepted, one_finite}
+use Rattle.nearest_points.proofs.Outcome.{detail_small, early_is, zero_answer, one_refused, one_foreign, one_found}
 use borrow.Author.Rules.{rules}
 use Rattle.nearest_points.proofs.nearest_point.Statement.{statement}
 use Rattle.nearest_points.proofs.nearest_point.Tie as tie
@@ -31,139 +31,139 @@ use Rattle.point_index.proofs.matches.Reads as matches-reads
 use Rattle.numbers.proofs.sqrt.Reads as sqrt-reads
 use Rattle.vector.proofs.point.Reads as point-reads
 
-spot-outside-requires : tie.Need-spot-outside-requires
-spot-outside-requires c κs = search rules
+spot_outside_requires : tie.Need-spot-outside-requires
+spot_outside_requires c κs = search rules
 
-refusal-of-search-requires : tie.Need-refusal-of-search-requires
-refusal-of-search-requires c κs = search rules
+refusal_of_search_requires : tie.Need-refusal-of-search-requires
+refusal_of_search_requires c κs = search rules
 
-cast-nearest-of : tie.Need-cast-nearest-of
-cast-nearest-of c =
-    let spot-outside = (spot-outside-of-struct-known2 c).spot-outside in
-    let start = start-of-struct-known2 c in
+cast_nearest_of : tie.Need-cast-nearest-of
+cast_nearest_of c =
+    let spot-outside = (spot_outside_of_struct_known2 c).spot-outside in
+    let start = start_of_struct_known2 c in
     let a = start.args in
     omega (
       arith,
-      detail-small (length a.points.now) (firstOutside farthest a.points.now) (length a.index.now) (length a.words.now)
+      detail_small (length a.points.now) (first_outside farthest a.points.now) (length a.index.now) (length a.words.now)
           (length a.floats.now) a.x a.y a.z spot-outside.ensures c.before.before.before.refusal-of-search.ensures,
     )
 
-nearest-of-requires : tie.Need-nearest-of-requires
-nearest-of-requires c κs = search rules
+nearest_of_requires : tie.Need-nearest-of-requires
+nearest_of_requires c κs = search rules
 
 returns : tie.Need-returns
 returns c =
-    let refusal-of-search = (refusal-of-search-of-nearest-of c).refusal-of-search in
-    let spot-outside = (spot-outside-of-nearest-of c).spot-outside in
-    let start = start-of-nearest-of c in
+    let refusal-of-search = (refusal_of_search_of_nearest_of c).refusal-of-search in
+    let spot-outside = (spot_outside_of_nearest_of c).spot-outside in
+    let start = start_of_nearest_of c in
     let a = start.args in
-    let e = early-is a.points.now (a.x ∷ a.y ∷ a.z ∷ []) a.index.now a.words.now a.floats.now spot-outside.ensures
+    let e = early_is a.points.now (a.x ∷ a.y ∷ a.z ∷ []) a.index.now a.words.now a.floats.now spot-outside.ensures
     refusal-of-search.ensures in
-    one-refused a.points.now a.x a.y a.z a.index.now a.words.now a.floats.now e c.before.before.if1.taken
+    one_refused a.points.now a.x a.y a.z a.index.now a.words.now a.floats.now e c.before.before.if1.taken
     c.nearest-of.ensures
 
-matches-requires : tie.Need-matches-requires
-matches-requires c κs =
-    let refusal-of-search = (refusal-of-search-of-matches-arg2 c).refusal-of-search in
-    let spot-outside = (spot-outside-of-matches-arg2 c).spot-outside in
-    let start = start-of-matches-arg2 c in
+matches_requires : tie.Need-matches-requires
+matches_requires c κs =
+    let refusal-of-search = (refusal_of_search_of_matches_arg2 c).refusal-of-search in
+    let spot-outside = (spot_outside_of_matches_arg2 c).spot-outside in
+    let start = start_of_matches_arg2 c in
     let a = start.args in
-    let e = early-is a.points.now (a.x ∷ a.y ∷ a.z ∷ []) a.index.now a.words.now a.floats.now spot-outside.ensures
+    let e = early_is a.points.now (a.x ∷ a.y ∷ a.z ∷ []) a.index.now a.words.now a.floats.now spot-outside.ensures
     refusal-of-search.ensures in
     let k = accepted a.points.now (a.x ∷ a.y ∷ a.z ∷ []) (length a.index.now) (length a.words.now) (length a.floats.now)
-    (zero-answer a.points.now (a.x ∷ a.y ∷ a.z ∷ []) a.index.now a.words.now a.floats.now e c.before.before.if1.left) in
-    (record { cloud = k.cloud; index-enough = k.index-enough; floats-enough = k.room.floats-enough }, omega (arith, k.room.words-enough))
+    (zero_answer a.points.now (a.x ∷ a.y ∷ a.z ∷ []) a.index.now a.words.now a.floats.now e c.before.before.if1.left) in
+    (record { cloud = k.cloud; index_enough = k.index_enough; floats_enough = k.room.floats_enough }, omega (arith, k.room.words_enough))
 
-clear-u32-requires : tie.Need-clear-u32-requires
-clear-u32-requires c κs = search rules
+clear_u32_requires : tie.Need-clear-u32-requires
+clear_u32_requires c κs = search rules
 
-clear-f32-requires : tie.Need-clear-f32-requires
-clear-f32-requires c κs = search rules
+clear_f32_requires : tie.Need-clear-f32-requires
+clear_f32_requires c κs = search rules
 
-nearest-of-requires-2 : tie.Need-nearest-of-requires-2
-nearest-of-requires-2 c κs = search rules
+nearest_of_requires_2 : tie.Need-nearest-of-requires-2
+nearest_of_requires_2 c κs = search rules
 
 same_length : tie.Need-same-length
 same_length c = search rules
 
-same-length-2 : tie.Need-same-length-2
-same-length-2 c = search rules
+same_length_2 : tie.Need-same-length-2
+same_length_2 c = search rules
 
-returns-2 : tie.Need-returns-2
-returns-2 c =
-    let clear-f32 = (clear-f32-of-nearest-of2 c).clear-f32 in
-    let clear-u32 = (clear-u32-of-nearest-of2 c).clear-u32 in
-    let matches = (matches-of-nearest-of2 c).matches in
-    let if1 = (else1-of-nearest-of2 c).if1 in
-    let refusal-of-search = (refusal-of-search-of-nearest-of2 c).refusal-of-search in
-    let spot-outside = (spot-outside-of-nearest-of2 c).spot-outside in
-    let start = start-of-nearest-of2 c in
+returns_2 : tie.Need-returns-2
+returns_2 c =
+    let clear-f32 = (clear_f32_of_nearest_of2 c).clear-f32 in
+    let clear-u32 = (clear_u32_of_nearest_of2 c).clear-u32 in
+    let matches = (matches_of_nearest_of2 c).matches in
+    let if1 = (else1_of_nearest_of2 c).if1 in
+    let refusal-of-search = (refusal_of_search_of_nearest_of2 c).refusal-of-search in
+    let spot-outside = (spot_outside_of_nearest_of2 c).spot-outside in
+    let start = start_of_nearest_of2 c in
     let a = start.args in
-    let e = early-is a.points.now (a.x ∷ a.y ∷ a.z ∷ []) a.index.now a.words.now a.floats.now spot-outside.ensures
+    let e = early_is a.points.now (a.x ∷ a.y ∷ a.z ∷ []) a.index.now a.words.now a.floats.now spot-outside.ensures
     refusal-of-search.ensures in
-    one-foreign a.points.now a.x a.y a.z a.index.now a.words.now a.floats.now e if1.left
+    one_foreign a.points.now a.x a.y a.z a.index.now a.words.now a.floats.now e if1.left
     (clear-u32.ensures ∙ ap (λ (n : ℕ). replicate n 0) matches.kept.1.1.0)
     (clear-f32.ensures ∙ ap (λ (n : ℕ). replicate n (f32 0)) matches.kept.1.1.1.0) (failed matches.ensures c.before.if2.taken)
     c.nearest-of2.ensures
 
-width-of-requires : tie.Need-width-of-requires
-width-of-requires c κs =
-    let if1 = (else1-of-else2 c).if1 in
-    let refusal-of-search = (refusal-of-search-of-else2 c).refusal-of-search in
-    let spot-outside = (spot-outside-of-else2 c).spot-outside in
-    let start = start-of-else2 c in
+width_of_requires : tie.Need-width-of-requires
+width_of_requires c κs =
+    let if1 = (else1_of_else2 c).if1 in
+    let refusal-of-search = (refusal_of_search_of_else2 c).refusal-of-search in
+    let spot-outside = (spot_outside_of_else2 c).spot-outside in
+    let start = start_of_else2 c in
     let a = start.args in
-    let e = early-is a.points.now (a.x ∷ a.y ∷ a.z ∷ []) a.index.now a.words.now a.floats.now spot-outside.ensures
+    let e = early_is a.points.now (a.x ∷ a.y ∷ a.z ∷ []) a.index.now a.words.now a.floats.now spot-outside.ensures
     refusal-of-search.ensures in
     let k = accepted a.points.now (a.x ∷ a.y ∷ a.z ∷ []) (length a.index.now) (length a.words.now) (length a.floats.now)
-    (zero-answer a.points.now (a.x ∷ a.y ∷ a.z ∷ []) a.index.now a.words.now a.floats.now e if1.left) in
+    (zero_answer a.points.now (a.x ∷ a.y ∷ a.z ∷ []) a.index.now a.words.now a.floats.now e if1.left) in
     (k.cloud.some, k.cloud.few)
 
-point-requires : tie.Need-point-requires
-point-requires c κs = search rules
+point_requires : tie.Need-point-requires
+point_requires c κs = search rules
 
-nearest-in-requires : tie.Need-nearest-in-requires
-nearest-in-requires c κs =
-    let matches = (matches-of-point c).matches in
-    let if1 = (else1-of-point c).if1 in
-    let refusal-of-search = (refusal-of-search-of-point c).refusal-of-search in
-    let spot-outside = (spot-outside-of-point c).spot-outside in
-    let start = start-of-point c in
+nearest_in_requires : tie.Need-nearest-in-requires
+nearest_in_requires c κs =
+    let matches = (matches_of_point c).matches in
+    let if1 = (else1_of_point c).if1 in
+    let refusal-of-search = (refusal_of_search_of_point c).refusal-of-search in
+    let spot-outside = (spot_outside_of_point c).spot-outside in
+    let start = start_of_point c in
     let a = start.args in
-    let e = early-is a.points.now (a.x ∷ a.y ∷ a.z ∷ []) a.index.now a.words.now a.floats.now spot-outside.ensures
+    let e = early_is a.points.now (a.x ∷ a.y ∷ a.z ∷ []) a.index.now a.words.now a.floats.now spot-outside.ensures
     refusal-of-search.ensures in
     let k = accepted a.points.now (a.x ∷ a.y ∷ a.z ∷ []) (length a.index.now) (length a.words.now) (length a.floats.now)
-    (zero-answer a.points.now (a.x ∷ a.y ∷ a.z ∷ []) a.index.now a.words.now a.floats.now e if1.left) in (
+    (zero_answer a.points.now (a.x ∷ a.y ∷ a.z ∷ []) a.index.now a.words.now a.floats.now e if1.left) in (
       record { cloud = k.cloud; own = passed matches.ensures c.before.before.if2.left },
       c.before.width_of_lem.ensures.0,
       c.before.width_of_lem.ensures.1,
-      subst⁻¹ Finite c.point.ensures (one-finite a.x a.y a.z k.near),
+      subst⁻¹ Finite c.point.ensures (one_finite a.x a.y a.z k.near),
     )
 
-sqrt-requires : tie.Need-sqrt-requires
-sqrt-requires c κs = search rules
+sqrt_requires : tie.Need-sqrt-requires
+sqrt_requires c κs = search rules
 
-nearest-of-requires-3 : tie.Need-nearest-of-requires-3
-nearest-of-requires-3 c κs = search rules
+nearest_of_requires_3 : tie.Need-nearest-of-requires-3
+nearest_of_requires_3 c κs = search rules
 
-same-length-3 : tie.Need-same-length-3
-same-length-3 c = search rules
+same_length_3 : tie.Need-same-length-3
+same_length_3 c = search rules
 
-same-length-4 : tie.Need-same-length-4
-same-length-4 c = search rules
+same_length_4 : tie.Need-same-length-4
+same_length_4 c = search rules
 
-returns-3 : tie.Need-returns-3
-returns-3 c =
-    let if2 = (else2-of-nearest-of3 c).if2 in
-    let clear-f32 = (clear-f32-of-nearest-of3 c).clear-f32 in
-    let clear-u32 = (clear-u32-of-nearest-of3 c).clear-u32 in
-    let matches = (matches-of-nearest-of3 c).matches in
-    let if1 = (else1-of-nearest-of3 c).if1 in
-    let refusal-of-search = (refusal-of-search-of-nearest-of3 c).refusal-of-search in
-    let spot-outside = (spot-outside-of-nearest-of3 c).spot-outside in
-    let start = start-of-nearest-of3 c in
+returns_3 : tie.Need-returns-3
+returns_3 c =
+    let if2 = (else2_of_nearest_of3 c).if2 in
+    let clear-f32 = (clear_f32_of_nearest_of3 c).clear-f32 in
+    let clear-u32 = (clear_u32_of_nearest_of3 c).clear-u32 in
+    let matches = (matches_of_nearest_of3 c).matches in
+    let if1 = (else1_of_nearest_of3 c).if1 in
+    let refusal-of-search = (refusal_of_search_of_nearest_of3 c).refusal-of-search in
+    let spot-outside = (spot_outside_of_nearest_of3 c).spot-outside in
+    let start = start_of_nearest_of3 c in
     let a = start.args in
-    let e = early-is a.points.now (a.x ∷ a.y ∷ a.z ∷ []) a.index.now a.words.now a.floats.now spot-outside.ensures
+    let e = early_is a.points.now (a.x ∷ a.y ∷ a.z ∷ []) a.index.now a.words.now a.floats.now spot-outside.ensures
     refusal-of-search.ensures in
     one_found a.points.now a.x a.y a.z a.index.now a.words.now a.floats.now e if1.left
     (clear-u32.ensures ∙ ap (λ (n : ℕ). replicate n 0) matches.kept.1.1.0)
@@ -178,23 +178,23 @@ pub nearest-point-spec : {M : Type 1} → statement M
 nearest-point-spec =
     tie.close
     (tie.spec
-    spot-outside-requires
-    refusal-of-search-requires
-    cast-nearest-of
-    nearest-of-requires
+    spot_outside_requires
+    refusal_of_search_requires
+    cast_nearest_of
+    nearest_of_requires
     returns
-    matches-requires
-    clear-u32-requires
-    clear-f32-requires
-    nearest-of-requires-2
+    matches_requires
+    clear_u32_requires
+    clear_f32_requires
+    nearest_of_requires_2
     same_length
-    same-length-2
-    returns-2
-    width-of-requires
-    point-requires
-    nearest-in-requires
-    sqrt-requires
-    nearest-of-requires-3
-    same-length-3
-    same-length-4
-    returns-3)
+    same_length_2
+    returns_2
+    width_of_requires
+    point_requires
+    nearest_in_requires
+    sqrt_requires
+    nearest_of_requires_3
+    same_length_3
+    same_length_4
+    returns_3)

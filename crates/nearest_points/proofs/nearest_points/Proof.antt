@@ -7,7 +7,7 @@ use lib.ListN.{length, replicate}
 use Rattle.numbers.specs.Rounded.{f32}
 use Rattle.ranges.proofs.Tests.{passed, failed}
 use Rattle.nearest_points.proofs.Refused.{accepted}
-use Rattle.nearest_points.proofs.Outcome.{early-is, zero-answer, late-short, late-foreign, late-none, many-refused, many-left, many-found}
+use Rattle.nearest_points.proofs.Outcome.{early_is, zero_answer, late_short, late_foreign, late_none, many_refused, many_left, many_found}
 use borrow.Author.Rules.{rules}
 use Rattle.nearest_points.proofs.nearest_points.Statement.{statement}
 use Rattle.nearest_points.proofs.nearest_points.Tie as tie
@@ -24,110 +24,110 @@ use Rattle.nearest_points.proofs.refusal_of_search.Reads as refusal-of-search-re
 use Rattle.point_index.proofs.matches.Reads as matches-reads
 use Rattle.ranges.proofs.first_outside.Reads as first-outside-reads
 
-first-outside-requires : tie.Need-first-outside-requires
-first-outside-requires c κs = search rules
+first_outside_requires : tie.Need-first-outside-requires
+first_outside_requires c κs = search rules
 
-refusal-of-search-requires : tie.Need-refusal-of-search-requires
-refusal-of-search-requires c κs = search rules
+refusal_of_search_requires : tie.Need-refusal-of-search-requires
+refusal_of_search_requires c κs = search rules
 
 returns : tie.Need-returns
-returns c = let a = (start-of-then1 c).args in
-    let e = early-is a.points.now a.spots.now a.index.now a.words.now a.floats.now c.before.before.before.first-outside.ensures
+returns c = let a = (start_of_then1 c).args in
+    let e = early_is a.points.now a.spots.now a.index.now a.words.now a.floats.now c.before.before.before.first-outside.ensures
     c.before.before.refusal-of-search.ensures in
-    many-refused a.points.now a.spots.now a.index.now a.words.now a.floats.now e a.found.now c.if1.taken
+    many_refused a.points.now a.spots.now a.index.now a.words.now a.floats.now e a.found.now c.if1.taken
 
-matches-requires : tie.Need-matches-requires
-matches-requires c κs =
-    let refusal-of-search = (refusal-of-search-of-matches-arg2 c).refusal-of-search in
-    let first-outside = (first-outside-of-matches-arg2 c).first-outside in
-    let start = start-of-matches-arg2 c in
+matches_requires : tie.Need-matches-requires
+matches_requires c κs =
+    let refusal-of-search = (refusal_of_search_of_matches_arg2 c).refusal-of-search in
+    let first-outside = (first_outside_of_matches_arg2 c).first-outside in
+    let start = start_of_matches_arg2 c in
     let a = start.args in
-    let e = early-is a.points.now a.spots.now a.index.now a.words.now a.floats.now first-outside.ensures refusal-of-search.ensures in
+    let e = early_is a.points.now a.spots.now a.index.now a.words.now a.floats.now first-outside.ensures refusal-of-search.ensures in
     let k = accepted a.points.now a.spots.now (length a.index.now) (length a.words.now) (length a.floats.now)
-    (zero-answer a.points.now a.spots.now a.index.now a.words.now a.floats.now e c.before.before.if1.left) in
-    (record { cloud = k.cloud; index-enough = k.index-enough; floats-enough = k.room.floats-enough }, omega (arith, k.room.words-enough))
+    (zero_answer a.points.now a.spots.now a.index.now a.words.now a.floats.now e c.before.before.if1.left) in
+    (record { cloud = k.cloud; index_enough = k.index_enough; floats_enough = k.room.floats_enough }, omega (arith, k.room.words_enough))
 
-clear-u32-requires : tie.Need-clear-u32-requires
-clear-u32-requires c κs = search rules
+clear_u32_requires : tie.Need-clear-u32-requires
+clear_u32_requires c κs = search rules
 
-clear-f32-requires : tie.Need-clear-f32-requires
-clear-f32-requires c κs = search rules
+clear_f32_requires : tie.Need-clear-f32-requires
+clear_f32_requires c κs = search rules
 
-answer-of-requires : tie.Need-answer-of-requires
-answer-of-requires c κs = search rules
+answer_of_requires : tie.Need-answer-of-requires
+answer_of_requires c κs = search rules
 
 same_length : tie.Need-same-length
 same_length c = search rules
 
-same-length-2 : tie.Need-same-length-2
-same-length-2 c = search rules
+same_length_2 : tie.Need-same-length-2
+same_length_2 c = search rules
 
-returns-2 : tie.Need-returns-2
-returns-2 c =
-    let clear-f32 = (clear-f32-of-answer-of c).clear-f32 in
-    let clear-u32 = (clear-u32-of-answer-of c).clear-u32 in
-    let matches = (matches-of-answer-of c).matches in
-    let if1 = (else1-of-answer-of c).if1 in
-    let refusal-of-search = (refusal-of-search-of-answer-of c).refusal-of-search in
-    let first-outside = (first-outside-of-answer-of c).first-outside in
-    let start = start-of-answer-of c in
+returns_2 : tie.Need-returns-2
+returns_2 c =
+    let clear-f32 = (clear_f32_of_answer_of c).clear-f32 in
+    let clear-u32 = (clear_u32_of_answer_of c).clear-u32 in
+    let matches = (matches_of_answer_of c).matches in
+    let if1 = (else1_of_answer_of c).if1 in
+    let refusal-of-search = (refusal_of_search_of_answer_of c).refusal-of-search in
+    let first-outside = (first_outside_of_answer_of c).first-outside in
+    let start = start_of_answer_of c in
     let a = start.args in
-    let e = early-is a.points.now a.spots.now a.index.now a.words.now a.floats.now first-outside.ensures refusal-of-search.ensures in
-    many-left a.points.now a.spots.now a.index.now a.words.now a.floats.now e a.found.now if1.left
+    let e = early_is a.points.now a.spots.now a.index.now a.words.now a.floats.now first-outside.ensures refusal-of-search.ensures in
+    many_left a.points.now a.spots.now a.index.now a.words.now a.floats.now e a.found.now if1.left
     (clear-u32.ensures ∙ ap (λ (n : ℕ). replicate n 0) matches.kept.1.1.0)
     (clear-f32.ensures ∙ ap (λ (n : ℕ). replicate n (f32 0)) matches.kept.1.1.1.0) 13 (λ z. omega (arith, z)) c.answer-of.ensures
-    (late-short a.points.now a.spots.now a.index.now a.words.now a.floats.now e (length a.found.now) if1.left
+    (late_short a.points.now a.spots.now a.index.now a.words.now a.floats.now e (length a.found.now) if1.left
     c.before.if2.taken)
 
-answer-of-requires-2 : tie.Need-answer-of-requires-2
-answer-of-requires-2 c κs = search rules
+answer_of_requires_2 : tie.Need-answer-of-requires-2
+answer_of_requires_2 c κs = search rules
 
-same-length-3 : tie.Need-same-length-3
-same-length-3 c = search rules
+same_length_3 : tie.Need-same-length-3
+same_length_3 c = search rules
 
-same-length-4 : tie.Need-same-length-4
-same-length-4 c = search rules
+same_length_4 : tie.Need-same-length-4
+same_length_4 c = search rules
 
-returns-3 : tie.Need-returns-3
-returns-3 c =
-    let clear-f32 = (clear-f32-of-answer-of2 c).clear-f32 in
-    let clear-u32 = (clear-u32-of-answer-of2 c).clear-u32 in
-    let matches = (matches-of-answer-of2 c).matches in
-    let if1 = (else1-of-answer-of2 c).if1 in
-    let refusal-of-search = (refusal-of-search-of-answer-of2 c).refusal-of-search in
-    let first-outside = (first-outside-of-answer-of2 c).first-outside in
-    let start = start-of-answer-of2 c in
+returns_3 : tie.Need-returns-3
+returns_3 c =
+    let clear-f32 = (clear_f32_of_answer_of2 c).clear-f32 in
+    let clear-u32 = (clear_u32_of_answer_of2 c).clear-u32 in
+    let matches = (matches_of_answer_of2 c).matches in
+    let if1 = (else1_of_answer_of2 c).if1 in
+    let refusal-of-search = (refusal_of_search_of_answer_of2 c).refusal-of-search in
+    let first-outside = (first_outside_of_answer_of2 c).first-outside in
+    let start = start_of_answer_of2 c in
     let a = start.args in
-    let e = early-is a.points.now a.spots.now a.index.now a.words.now a.floats.now first-outside.ensures refusal-of-search.ensures in
-    many-left a.points.now a.spots.now a.index.now a.words.now a.floats.now e a.found.now if1.left
+    let e = early_is a.points.now a.spots.now a.index.now a.words.now a.floats.now first-outside.ensures refusal-of-search.ensures in
+    many_left a.points.now a.spots.now a.index.now a.words.now a.floats.now e a.found.now if1.left
     (clear-u32.ensures ∙ ap (λ (n : ℕ). replicate n 0) matches.kept.1.1.0)
     (clear-f32.ensures ∙ ap (λ (n : ℕ). replicate n (f32 0)) matches.kept.1.1.1.0) 22 (λ z. omega (arith, z)) c.answer-of2.ensures
-    (late-foreign a.points.now a.spots.now a.index.now a.words.now a.floats.now e (length a.found.now) if1.left
+    (late_foreign a.points.now a.spots.now a.index.now a.words.now a.floats.now e (length a.found.now) if1.left
     c.before.before.if2.left (failed matches.ensures c.before.if3.taken))
 
-width-of-requires : tie.Need-width-of-requires
-width-of-requires c κs =
-    let if1 = (else1-of-else3 c).if1 in
-    let refusal-of-search = (refusal-of-search-of-else3 c).refusal-of-search in
-    let first-outside = (first-outside-of-else3 c).first-outside in
-    let start = start-of-else3 c in
+width_of_requires : tie.Need-width-of-requires
+width_of_requires c κs =
+    let if1 = (else1_of_else3 c).if1 in
+    let refusal-of-search = (refusal_of_search_of_else3 c).refusal-of-search in
+    let first-outside = (first_outside_of_else3 c).first-outside in
+    let start = start_of_else3 c in
     let a = start.args in
-    let e = early-is a.points.now a.spots.now a.index.now a.words.now a.floats.now first-outside.ensures refusal-of-search.ensures in
+    let e = early_is a.points.now a.spots.now a.index.now a.words.now a.floats.now first-outside.ensures refusal-of-search.ensures in
     let k = accepted a.points.now a.spots.now (length a.index.now) (length a.words.now) (length a.floats.now)
-    (zero-answer a.points.now a.spots.now a.index.now a.words.now a.floats.now e if1.left) in
+    (zero_answer a.points.now a.spots.now a.index.now a.words.now a.floats.now e if1.left) in
     (k.cloud.some, k.cloud.few)
 
-fill-requires : tie.Need-fill-requires
-fill-requires c κs =
-    let matches = (matches-of-fill-arg c).matches in
-    let if1 = (else1-of-fill-arg c).if1 in
-    let refusal-of-search = (refusal-of-search-of-fill-arg c).refusal-of-search in
-    let first-outside = (first-outside-of-fill-arg c).first-outside in
-    let start = start-of-fill-arg c in
+fill_requires : tie.Need-fill-requires
+fill_requires c κs =
+    let matches = (matches_of_fill_arg c).matches in
+    let if1 = (else1_of_fill_arg c).if1 in
+    let refusal-of-search = (refusal_of_search_of_fill_arg c).refusal-of-search in
+    let first-outside = (first_outside_of_fill_arg c).first-outside in
+    let start = start_of_fill_arg c in
     let a = start.args in
-    let e = early-is a.points.now a.spots.now a.index.now a.words.now a.floats.now first-outside.ensures refusal-of-search.ensures in
+    let e = early_is a.points.now a.spots.now a.index.now a.words.now a.floats.now first-outside.ensures refusal-of-search.ensures in
     let k = accepted a.points.now a.spots.now (length a.index.now) (length a.words.now) (length a.floats.now)
-    (zero-answer a.points.now a.spots.now a.index.now a.words.now a.floats.now e if1.left) in (
+    (zero_answer a.points.now a.spots.now a.index.now a.words.now a.floats.now e if1.left) in (
       (
         record { cloud = k.cloud; own = passed matches.ensures c.before.before.if3.left },
         c.before.width_of_lem.ensures.0,
@@ -136,59 +136,59 @@ fill-requires c κs =
       (k.near, c.before.before.before.if2.left),
     )
 
-answer-of-requires-3 : tie.Need-answer-of-requires-3
-answer-of-requires-3 c κs = search rules
+answer_of_requires_3 : tie.Need-answer-of-requires-3
+answer_of_requires_3 c κs = search rules
 
-same-length-5 : tie.Need-same-length-5
-same-length-5 c = search rules
+same_length_5 : tie.Need-same-length-5
+same_length_5 c = search rules
 
-same-length-6 : tie.Need-same-length-6
-same-length-6 c = search rules
+same_length_6 : tie.Need-same-length-6
+same_length_6 c = search rules
 
-same-length-7 : tie.Need-same-length-7
-same-length-7 c = search rules
+same_length_7 : tie.Need-same-length-7
+same_length_7 c = search rules
 
-returns-4 : tie.Need-returns-4
-returns-4 c =
-    let if3 = (else3-of-answer-of3 c).if3 in
-    let if2 = (else2-of-answer-of3 c).if2 in
-    let clear-f32 = (clear-f32-of-answer-of3 c).clear-f32 in
-    let clear-u32 = (clear-u32-of-answer-of3 c).clear-u32 in
-    let matches = (matches-of-answer-of3 c).matches in
-    let if1 = (else1-of-answer-of3 c).if1 in
-    let refusal-of-search = (refusal-of-search-of-answer-of3 c).refusal-of-search in
-    let first-outside = (first-outside-of-answer-of3 c).first-outside in
-    let start = start-of-answer-of3 c in
+returns_4 : tie.Need-returns-4
+returns_4 c =
+    let if3 = (else3_of_answer_of3 c).if3 in
+    let if2 = (else2_of_answer_of3 c).if2 in
+    let clear-f32 = (clear_f32_of_answer_of3 c).clear-f32 in
+    let clear-u32 = (clear_u32_of_answer_of3 c).clear-u32 in
+    let matches = (matches_of_answer_of3 c).matches in
+    let if1 = (else1_of_answer_of3 c).if1 in
+    let refusal-of-search = (refusal_of_search_of_answer_of3 c).refusal-of-search in
+    let first-outside = (first_outside_of_answer_of3 c).first-outside in
+    let start = start_of_answer_of3 c in
     let a = start.args in
-    let e = early-is a.points.now a.spots.now a.index.now a.words.now a.floats.now first-outside.ensures refusal-of-search.ensures in
-    many-found a.points.now a.spots.now a.index.now a.words.now a.floats.now e a.found.now if1.left
+    let e = early_is a.points.now a.spots.now a.index.now a.words.now a.floats.now first-outside.ensures refusal-of-search.ensures in
+    many_found a.points.now a.spots.now a.index.now a.words.now a.floats.now e a.found.now if1.left
     (clear-u32.ensures ∙ ap (λ (n : ℕ). replicate n 0) matches.kept.1.1.0)
     (clear-f32.ensures ∙ ap (λ (n : ℕ). replicate n (f32 0)) matches.kept.1.1.1.0) c.answer-of3.ensures
-    (late-none a.points.now a.spots.now a.index.now a.words.now a.floats.now e (length a.found.now) if1.left if2.left
+    (late_none a.points.now a.spots.now a.index.now a.words.now a.floats.now e (length a.found.now) if1.left if2.left
     (passed matches.ensures if3.left)) c.before.before.before.fill.ensures
 
 pub nearest-points-spec : {M : Type 1} → statement M
 nearest-points-spec =
     tie.close
     (tie.spec
-    first-outside-requires
-    refusal-of-search-requires
+    first_outside_requires
+    refusal_of_search_requires
     returns
-    matches-requires
-    clear-u32-requires
-    clear-f32-requires
-    answer-of-requires
+    matches_requires
+    clear_u32_requires
+    clear_f32_requires
+    answer_of_requires
     same_length
-    same-length-2
-    returns-2
-    answer-of-requires-2
-    same-length-3
-    same-length-4
-    returns-3
-    width-of-requires
-    fill-requires
-    answer-of-requires-3
-    same-length-5
-    same-length-6
-    same-length-7
-    returns-4)
+    same_length_2
+    returns_2
+    answer_of_requires_2
+    same_length_3
+    same_length_4
+    returns_3
+    width_of_requires
+    fill_requires
+    answer_of_requires_3
+    same_length_5
+    same_length_6
+    same_length_7
+    returns_4)

@@ -4,7 +4,7 @@ use mathlib.Core.Bool.{false, not}
 use lib.Ieee.{Float, le}
 use borrow.Author.Tests.{not-false}
 use Rattle.numbers.specs.Rounded.{f32, ◌⊗◌}
-use Rattle.needle_angles.proofs.Squares.{Plain, needle-10, needle-16, needle-32, needle-64, needle-128, no-needle}
+use Rattle.needle_angles.proofs.Squares.{Plain, needle_10, needle_16, needle_32, needle_64, needle_128, no_needle}
 use Rattle.needle_angles.proofs.needle_class.Statement.{statement}
 use Rattle.needle_angles.proofs.needle_class.Tie as tie
 
@@ -12,62 +12,62 @@ plain : (least most long : Float) → not (le (f32 0x2b800000) least) ≡ false 
     → not (le long (least ⊗ f32 0x4c800000)) ≡ false → Plain least most long
 plain least most long h i j k = record {
   from = rw (not-false (le (f32 0x2b800000) least) h) tt;
-  most-under = rw (not-false (le most (f32 0x4c800000)) i) tt;
-  long-under = rw (not-false (le long (f32 0x4c800000)) j) tt;
+  most_under = rw (not-false (le most (f32 0x4c800000)) i) tt;
+  long_under = rw (not-false (le long (f32 0x4c800000)) j) tt;
   far = rw (not-false (le long (least ⊗ f32 0x4c800000)) k) tt;
 }
 
 returns : tie.Need-returns
-returns c = no-needle _ _ _ _
+returns c = no_needle _ _ _ _
 
-returns-2 : tie.Need-returns-2
-returns-2 c = no-needle _ _ _ _
+returns_2 : tie.Need-returns-2
+returns_2 c = no_needle _ _ _ _
 
-returns-3 : tie.Need-returns-3
-returns-3 c = no-needle _ _ _ _
+returns_3 : tie.Need-returns-3
+returns_3 c = no_needle _ _ _ _
 
-returns-4 : tie.Need-returns-4
-returns-4 c = no-needle _ _ _ _
+returns_4 : tie.Need-returns-4
+returns_4 c = no_needle _ _ _ _
 
-returns-5 : tie.Need-returns-5
-returns-5 c =
+returns_5 : tie.Need-returns-5
+returns_5 c =
     let x = c.before in
     let a = x.before.before.before.before.args in
-    needle-128 (plain a.least a.most a.long x.before.before.before.if1.false x.before.before.if2.false x.before.if3.false
+    needle_128 (plain a.least a.most a.long x.before.before.before.if1.false x.before.before.if2.false x.before.if3.false
     x.if4.false) (rw c.if5.true tt)
 
-returns-6 : tie.Need-returns-6
-returns-6 c =
+returns_6 : tie.Need-returns-6
+returns_6 c =
     let x = c.before.before in
     let a = x.before.before.before.before.args in
-    needle-64 (plain a.least a.most a.long x.before.before.before.if1.false x.before.before.if2.false x.before.if3.false x.if4.false)
+    needle_64 (plain a.least a.most a.long x.before.before.before.if1.false x.before.before.if2.false x.before.if3.false x.if4.false)
     (rw c.if6.true tt)
 
-returns-7 : tie.Need-returns-7
-returns-7 c =
+returns_7 : tie.Need-returns-7
+returns_7 c =
     let x = c.before.before.before in
     let a = x.before.before.before.before.args in
-    needle-32 (plain a.least a.most a.long x.before.before.before.if1.false x.before.before.if2.false x.before.if3.false x.if4.false)
+    needle_32 (plain a.least a.most a.long x.before.before.before.if1.false x.before.before.if2.false x.before.if3.false x.if4.false)
     (rw c.if7.true tt)
 
-returns-8 : tie.Need-returns-8
-returns-8 c =
+returns_8 : tie.Need-returns-8
+returns_8 c =
     let x = c.before.before.before.before in
     let a = x.before.before.before.before.args in
-    needle-16 (plain a.least a.most a.long x.before.before.before.if1.false x.before.before.if2.false x.before.if3.false x.if4.false)
+    needle_16 (plain a.least a.most a.long x.before.before.before.if1.false x.before.before.if2.false x.before.if3.false x.if4.false)
     (rw c.if8.true tt)
 
-returns-9 : tie.Need-returns-9
-returns-9 c =
+returns_9 : tie.Need-returns-9
+returns_9 c =
     let x = c.before.before.before.before.before in
     let a = x.before.before.before.before.args in
-    needle-10 (plain a.least a.most a.long x.before.before.before.if1.false x.before.before.if2.false x.before.if3.false x.if4.false)
+    needle_10 (plain a.least a.most a.long x.before.before.before.if1.false x.before.before.if2.false x.before.if3.false x.if4.false)
     (rw c.if9.true tt)
 
-returns-10 : tie.Need-returns-10
-returns-10 c = no-needle _ _ _ _
+returns_10 : tie.Need-returns-10
+returns_10 c = no_needle _ _ _ _
 
 pub needle-class-spec : {M : Type 1} → statement M
 needle-class-spec =
     tie.close
-    (tie.spec returns returns-2 returns-3 returns-4 returns-5 returns-6 returns-7 returns-8 returns-9 returns-10)
+    (tie.spec returns returns_2 returns_3 returns_4 returns_5 returns_6 returns_7 returns_8 returns_9 returns_10)

@@ -20,20 +20,20 @@ pub record NeedleRatio (least most short long r : Float) : Type 0 where
       → EdgeBound (root x) (root y) (root z) r
 
 -- the classes of needles, whose other two edges are 10, 16, 32, 64 and 128 times as long: the bound of the edge ratio
-unfoldable pub ratioOf : ℕ → Float
-ratioOf k =
+unfoldable pub ratio_of : ℕ → Float
+ratio_of k =
     cond (eqb k 10) (f32 0x41200000)
     (cond (eqb k 16) (f32 0x41800000)
     (cond (eqb k 32) (f32 0x42000000) (cond (eqb k 64) (f32 0x42800000) (cond (eqb k 128) (f32 0x43000000) nan))))
 
 -- the bound of a class's least angle
-unfoldable pub angleOf : ℕ → Float
-angleOf k =
+unfoldable pub angle_of : ℕ → Float
+angle_of k =
     cond (eqb k 10) (f32 0x3e570a3d)
     (cond (eqb k 16) (f32 0x3e051eb8)
     (cond (eqb k 32) (f32 0x3d8f5c29) (cond (eqb k 64) (f32 0x3d4ccccd) (cond (eqb k 128) (f32 0x3d23d70a) nan))))
 
 -- all such triangles are of class k, if there is one
 pub record NeedleClass (least most short long : Float) (k : ℕ) : Type 0 where
-  pub angle : NeedleAngle least most short long (angleOf k)
-  pub ratio : NeedleRatio least most short long (ratioOf k)
+  pub angle : NeedleAngle least most short long (angle_of k)
+  pub ratio : NeedleRatio least most short long (ratio_of k)

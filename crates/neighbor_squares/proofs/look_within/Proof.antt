@@ -10,32 +10,32 @@ use Rattle.neighbor_squares.proofs.look_within.Tie as tie
 use Rattle.neighbor_squares.proofs.look_within.Proof.Places.*
 mod Places
 
-point-at-requires : tie.Need-point-at-requires
-point-at-requires c κs = let s = c.before.before.before in omega (arith, s.requires.inside, s.requires.hashed.linked.ready.points-long)
+point_at_requires : tie.Need-point-at-requires
+point_at_requires c κs = let s = c.before.before.before in omega (arith, s.requires.inside, s.requires.hashed.linked.ready.points_long)
 
-sqrt-requires : tie.Need-sqrt-requires
-sqrt-requires c κs = search rules
+sqrt_requires : tie.Need-sqrt-requires
+sqrt_requires c κs = search rules
 
-gather-within-requires : tie.Need-gather-within-requires
-gather-within-requires c κs =
-    let s = start-of-gather-within-arg c in (
+gather_within_requires : tie.Need-gather-within-requires
+gather_within_requires c κs =
+    let s = start_of_gather_within_arg c in (
       s.pre.hashed.linked,
       subst (λ (p : Point3f). Finite p) (sym c.before.before.point_at.ensures)
           (s.pre.hashed.linked.ready.numbers s.args.i s.pre.inside),
     )
 
-least-squares-requires : tie.Need-least-squares-requires
-least-squares-requires c κs =
-    let gather-within = (gather-within-of-least-squares-arg2 c).gather-within in
-    let start = start-of-least-squares-arg2 c in
+least_squares_requires : tie.Need-least-squares-requires
+least_squares_requires c κs =
+    let gather-within = (gather_within_of_least_squares_arg2 c).gather-within in
+    let start = start_of_least_squares_arg2 c in
     let s = start in
     let g = gather-within in
     let r = s.pre.hashed.linked.ready in (
       s.pre.inside,
       r.few,
       g.ensures.most,
-      r.points-long,
-      omega (arith, r.work-long, g.kept.1.0),
+      r.points_long,
+      omega (arith, r.work_long, g.kept.1.0),
       s.pre.room,
       g.ensures.surrounds.below,
       r.numbers,
@@ -44,16 +44,16 @@ least-squares-requires c κs =
 same_length : tie.Need-same-length
 same_length c = search rules
 
-same-length-2 : tie.Need-same-length-2
-same-length-2 c = search rules
+same_length_2 : tie.Need-same-length-2
+same_length_2 c = search rules
 
 returns : tie.Need-returns
 returns c =
-    let gather-within = (gather-within-of-slice-known4 c).gather-within in
-    let point_at = (point-at-of-slice-known4 c).point_at in
-    let start = start-of-slice-known4 c in
+    let gather-within = (gather_within_of_slice_known4 c).gather-within in
+    let point_at_lem = (point_at_of_slice_known4 c).point_at in
+    let start = start_of_slice_known4 c in
     let s = start in
-    let p = point_at in
+    let p = point_at_lem in
     let g = gather-within in
     let q = c.before.before.least-squares in
     looked s.args.around s.args.points.now s.args.n s.args.i s.args.limit s.args.w.now g.last.1.0 s.args.f.now
@@ -61,4 +61,4 @@ returns c =
     s.pre q.auto.1.1.1.1.1.1.1.0 p.ensures g.ensures q.ensures.0 q.ensures.1 q.ensures.2
 
 pub look-within-spec : {M : Type 1} → statement M
-look-within-spec = tie.close (tie.spec point-at-requires sqrt-requires gather-within-requires least-squares-requires same_length same-length-2 returns)
+look-within-spec = tie.close (tie.spec point_at_requires sqrt_requires gather_within_requires least_squares_requires same_length same_length_2 returns)

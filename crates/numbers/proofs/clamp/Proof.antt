@@ -15,9 +15,9 @@ returns : tie.Need-returns
 unfolding clamp
 returns c = rw (raised c.before, c.if2.true)
 
-returns-2 : tie.Need-returns-2
+returns_2 : tie.Need-returns-2
 unfolding clamp
-returns-2 c = rw (raised c.before, c.if2.false)
+returns_2 c = rw (raised c.before, c.if2.false)
 
 pub clamp_spec : {M : Type 1} → statement M
-clamp_spec = tie.close (tie.spec returns returns-2)
+clamp_spec = tie.close (tie.spec returns returns_2)

@@ -8,9 +8,9 @@ returns : tie.Need-returns
 unfolding few
 returns c = rw (le-leb _ _ c.if1.true)
 
-returns-2 : tie.Need-returns-2
+returns_2 : tie.Need-returns-2
 unfolding few
-returns-2 c = rw (lt-leb _ _ c.if1.false)
+returns_2 c = rw (lt-leb _ _ c.if1.false)
 
 pub is-few-spec : {M : Type 1} → statement M
-is-few-spec = tie.close (tie.spec returns returns-2)
+is-few-spec = tie.close (tie.spec returns returns_2)

@@ -2,15 +2,15 @@
 -- inside. Definitions only.
 use Rattle.std.specs.Prelude.{ℕ, suc, ◌+◌, ◌≡◌, Bool, true, false, List, [], ◌∷◌, length}
 use Rattle.lists.specs.Lists.{bit, count}
-use Rattle.patch.specs.Lay.{Face, State, Rules, Pop, layOne}
-use Rattle.orders.specs.Order.{faceAt}
-use Rattle.origins.specs.Origins.{Entry, PopEntry, edgesIn}
+use Rattle.patch.specs.Lay.{Face, State, Rules, Pop, lay_one}
+use Rattle.orders.specs.Order.{face_at}
+use Rattle.origins.specs.Origins.{Entry, PopEntry, edges_in}
 use Rattle.origins.specs.Turned.{runs}
 
 -- it is the order over edges, whatever the numbers
 pub record Follows (popEntry : PopEntry) (pop : Pop) : Type 0 where
-  pub first : (x : Entry) (xs : List Entry) → (popEntry x xs).0.along ≡ (pop x.along (edgesIn xs)).0
-  pub rest : (x : Entry) (xs : List Entry) → edgesIn (popEntry x xs).1 ≡ (pop x.along (edgesIn xs)).1
+  pub first : (x : Entry) (xs : List Entry) → (popEntry x xs).0.along ≡ (pop x.along (edges_in xs)).0
+  pub rest : (x : Entry) (xs : List Entry) → edges_in (popEntry x xs).1 ≡ (pop x.along (edges_in xs)).1
 
 -- and it loses and repeats no entry
 abbrev pub KeepsEntries : PopEntry → Type 0
@@ -25,11 +25,11 @@ find p (f ∷ fs) = elim (p f) [ true ↦ 0 | false ↦ suc (find p fs) ]
 
 -- the first face in which an edge runs as the first one of face i: for a seed itself
 unfoldable pub parent_of : List Face → ℕ → ℕ
-parent_of fs i = find (runs (faceAt fs i).a (faceAt fs i).b) fs
+parent_of fs i = find (runs (face_at fs i).a (face_at fs i).b) fs
 
 -- how many faces there are after each radius
-unfoldable pub marksFrom : {R : Type 0} → Rules R → Pop → ℕ → List R → State → List ℕ
-marksFrom rules pop n [] s = []
-marksFrom rules pop n (r ∷ rs) s =
-    let t = layOne rules pop n r s in
-    length t.faces ∷ marksFrom rules pop n rs t
+unfoldable pub marks_from : {R : Type 0} → Rules R → Pop → ℕ → List R → State → List ℕ
+marks_from rules pop n [] s = []
+marks_from rules pop n (r ∷ rs) s =
+    let t = lay_one rules pop n r s in
+    length t.faces ∷ marks_from rules pop n rs t

@@ -7,8 +7,8 @@ use Rattle.origins_outcome.proofs.is_over.Tie as tie
 returns : tie.Need-returns
 returns c = rw (lt-ltb (c.before.args.room / 3) c.before.args.count c.if1.true)
 
-returns-2 : tie.Need-returns-2
-returns-2 c = rw (le-ltb (c.before.args.room / 3) c.before.args.count c.if1.false)
+returns_2 : tie.Need-returns-2
+returns_2 c = rw (le-ltb (c.before.args.room / 3) c.before.args.count c.if1.false)
 
 pub is-over-spec : {M : Type 1} → statement M
-is-over-spec = tie.close (tie.spec returns returns-2)
+is-over-spec = tie.close (tie.spec returns returns_2)

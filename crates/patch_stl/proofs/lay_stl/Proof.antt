@@ -1,8 +1,8 @@
 -- A file that is too long, one that the reader refuses, and one whose cloud is laid. Assumes nothing.
 use native.Mathlib.Omega.{arith}
 use lib.ListN.{length, length-take}
-use Rattle.patch_text.proofs.Told.{points-inside, normals-inside}
-use Rattle.patch_stl.proofs.Outputs.{outputs-as, long-file, reader-refused, reader-accepted}
+use Rattle.patch_text.proofs.Told.{points_inside, normals_inside}
+use Rattle.patch_stl.proofs.Outputs.{outputs_as, long_file, reader_refused, reader_accepted}
 use borrow.Author.Rules.{rules}
 use Rattle.patch_stl.proofs.lay_stl.Statement.{statement}
 use Rattle.patch_stl.proofs.lay_stl.Tie as tie
@@ -12,8 +12,8 @@ use Rattle.cloud.proofs.read_cloud.Reads as read-cloud-reads
 use Rattle.patch_stl.proofs.refuse.Reads as refuse-reads
 use Rattle.patch_stl.proofs.write_patch.Reads as write-patch-reads
 
-refuse-requires : tie.Need-refuse-requires
-refuse-requires c κs = search rules
+refuse_requires : tie.Need-refuse-requires
+refuse_requires c κs = search rules
 
 same_length : tie.Need-same-length
 same_length c = search rules
@@ -21,91 +21,91 @@ same_length c = search rules
 returns : tie.Need-returns
 returns c =
     let a = c.before.before.before.before.before.before.before.before.before.before.before.before.args in
-    outputs-as _ _ _ _ _ (long-file a.input.now a.points.now a.normals.now (length a.faces.now) (length a.words.now)
+    outputs_as _ _ _ _ _ (long_file a.input.now a.points.now a.normals.now (length a.faces.now) (length a.words.now)
     (length a.floats.now) (length a.out.now) c.before.before.before.before.if1.true) c.before.before.refuse.ensures
 
-read-cloud-requires : tie.Need-read-cloud-requires
-read-cloud-requires c κs = search rules
+read_cloud_requires : tie.Need-read-cloud-requires
+read_cloud_requires c κs = search rules
 
-refuse-requires-2 : tie.Need-refuse-requires-2
-refuse-requires-2 c κs = search rules
+refuse_requires_2 : tie.Need-refuse-requires-2
+refuse_requires_2 c κs = search rules
 
-same-length-2 : tie.Need-same-length-2
-same-length-2 c = search rules
+same_length_2 : tie.Need-same-length-2
+same_length_2 c = search rules
 
-same-length-3 : tie.Need-same-length-3
-same-length-3 c = search rules
+same_length_3 : tie.Need-same-length-3
+same_length_3 c = search rules
 
-same-length-4 : tie.Need-same-length-4
-same-length-4 c = search rules
+same_length_4 : tie.Need-same-length-4
+same_length_4 c = search rules
 
-returns-2 : tie.Need-returns-2
-returns-2 c =
+returns_2 : tie.Need-returns-2
+returns_2 c =
     let a = c.before.before.before.before.before.before.before.before.before.before.before.before.before.before.before.before.before.before.before.before.before.args in
-    outputs-as _ _ _ _ _ (reader-refused a.input.now a.points.now a.normals.now (length a.faces.now) (length a.words.now)
+    outputs_as _ _ _ _ _ (reader_refused a.input.now a.points.now a.normals.now (length a.faces.now) (length a.words.now)
     (length a.floats.now) (length a.out.now) _ _ _
     c.before.before.before.before.before.before.before.before.before.before.read-cloud.ensures
     c.before.before.before.before.before.before.before.before.before.before.before.before.before.if1.false
     c.before.before.before.before.if2.true) c.before.before.refuse2.ensures
 
-mul-n : tie.Need-overflow-mul-n
-mul-n c =
+mul_n : tie.Need-overflow-mul-n
+mul_n c =
     let a = c.before.before.before.before.before.before.before.before.before.before.before.before.before.before.before.before.before.before.args in
-    let fit = points-inside a.input.now a.points.now a.normals.now 0 0 0 _ _ _
+    let fit = points_inside a.input.now a.points.now a.normals.now 0 0 0 _ _ _
     c.before.before.before.before.before.before.before.read-cloud.ensures c.before.if2.false in
     search rules
 
-slice-reshare-prefix-write-patch : tie.Need-slice-reshare-prefix-write-patch
-slice-reshare-prefix-write-patch c =
+slice_reshare_prefix_write_patch : tie.Need-slice-reshare-prefix-write-patch
+slice_reshare_prefix_write_patch c =
     let a = c.before.before.before.before.before.before.before.before.before.before.before.before.before.before.before.before.before.before.args in
-    points-inside a.input.now a.points.now a.normals.now 0 0 0 _ _ _
+    points_inside a.input.now a.points.now a.normals.now 0 0 0 _ _ _
     c.before.before.before.before.before.before.before.read-cloud.ensures c.before.if2.false
 
-slice-aggregate-write-patch : tie.Need-slice-aggregate-write-patch
-slice-aggregate-write-patch c =
+slice_aggregate_write_patch : tie.Need-slice-aggregate-write-patch
+slice_aggregate_write_patch c =
     let a = c.before.before.before.before.before.before.before.before.before.before.before.before.before.before.before.before.before.before.before.args in
-    let fit = points-inside a.input.now a.points.now a.normals.now 0 0 0 _ _ _
+    let fit = points_inside a.input.now a.points.now a.normals.now 0 0 0 _ _ _
     c.before.before.before.before.before.before.before.before.read-cloud.ensures c.before.before.if2.false in
     simp length-take (omega arith)
 
-slice-reshare-prefix-write-patch-2 : tie.Need-slice-reshare-prefix-write-patch-2
-slice-reshare-prefix-write-patch-2 c =
+slice_reshare_prefix_write_patch_2 : tie.Need-slice-reshare-prefix-write-patch-2
+slice_reshare_prefix_write_patch_2 c =
     let a = c.before.before.before.before.before.before.before.before.before.before.before.before.before.before.before.before.before.before.before.args in
-    normals-inside a.input.now a.points.now a.normals.now 0 0 0 _ _ _
+    normals_inside a.input.now a.points.now a.normals.now 0 0 0 _ _ _
     c.before.before.before.before.before.before.before.before.read-cloud.ensures c.before.before.if2.false
 
-slice-aggregate-write-patch-2 : tie.Need-slice-aggregate-write-patch-2
-slice-aggregate-write-patch-2 c =
+slice_aggregate_write_patch_2 : tie.Need-slice-aggregate-write-patch-2
+slice_aggregate_write_patch_2 c =
     let a = c.before.before.before.before.before.before.before.before.before.before.before.before.before.before.before.before.before.before.before.before.args in
-    let fit = normals-inside a.input.now a.points.now a.normals.now 0 0 0 _ _ _
+    let fit = normals_inside a.input.now a.points.now a.normals.now 0 0 0 _ _ _
     c.before.before.before.before.before.before.before.before.before.read-cloud.ensures c.before.before.before.if2.false in
     simp length-take (omega arith)
 
-write-patch-requires : tie.Need-write-patch-requires
-write-patch-requires c κs = search rules
+write_patch_requires : tie.Need-write-patch-requires
+write_patch_requires c κs = search rules
 
-same-length-5 : tie.Need-same-length-5
-same-length-5 c = search rules
+same_length_5 : tie.Need-same-length-5
+same_length_5 c = search rules
 
-same-length-6 : tie.Need-same-length-6
-same-length-6 c = search rules
+same_length_6 : tie.Need-same-length-6
+same_length_6 c = search rules
 
-same-length-7 : tie.Need-same-length-7
-same-length-7 c = search rules
+same_length_7 : tie.Need-same-length-7
+same_length_7 c = search rules
 
-same-length-8 : tie.Need-same-length-8
-same-length-8 c = search rules
+same_length_8 : tie.Need-same-length-8
+same_length_8 c = search rules
 
-same-length-9 : tie.Need-same-length-9
-same-length-9 c = search rules
+same_length_9 : tie.Need-same-length-9
+same_length_9 c = search rules
 
-same-length-10 : tie.Need-same-length-10
-same-length-10 c = search rules
+same_length_10 : tie.Need-same-length-10
+same_length_10 c = search rules
 
-returns-3 : tie.Need-returns-3
-returns-3 c =
+returns_3 : tie.Need-returns-3
+returns_3 c =
     let a = c.before.before.before.before.before.before.before.before.before.before.before.before.before.before.before.before.before.before.before.before.before.before.before.before.before.before.before.before.before.before.before.before.before.args in
-    outputs-as _ _ _ _ _ (reader-accepted a.input.now a.points.now a.normals.now (length a.faces.now) (length a.words.now)
+    outputs_as _ _ _ _ _ (reader_accepted a.input.now a.points.now a.normals.now (length a.faces.now) (length a.words.now)
     (length a.floats.now) (length a.out.now) _ _ _
     c.before.before.before.before.before.before.before.before.before.before.before.before.before.before.before.before.before.before.before.before.before.before.read-cloud.ensures c.before.before.before.before.before.before.before.before.before.before.before.before.before.before.before.before.before.before.before.before.before.before.before.before.before.if1.false c.before.before.before.before.before.before.before.before.before.before.before.before.before.before.before.before.if2.false) c.before.before.before.before.before.before.before.before.write-patch.ensures
 
@@ -113,25 +113,25 @@ pub lay-stl-spec : {M : Type 1} → statement M
 lay-stl-spec =
     tie.close
     (tie.spec
-    refuse-requires
+    refuse_requires
     same_length
     returns
-    read-cloud-requires
-    refuse-requires-2
-    same-length-2
-    same-length-3
-    same-length-4
-    returns-2
-    mul-n
-    slice-reshare-prefix-write-patch
-    slice-aggregate-write-patch
-    slice-reshare-prefix-write-patch-2
-    slice-aggregate-write-patch-2
-    write-patch-requires
-    same-length-5
-    same-length-6
-    same-length-7
-    same-length-8
-    same-length-9
-    same-length-10
-    returns-3)
+    read_cloud_requires
+    refuse_requires_2
+    same_length_2
+    same_length_3
+    same_length_4
+    returns_2
+    mul_n
+    slice_reshare_prefix_write_patch
+    slice_aggregate_write_patch
+    slice_reshare_prefix_write_patch_2
+    slice_aggregate_write_patch_2
+    write_patch_requires
+    same_length_5
+    same_length_6
+    same_length_7
+    same_length_8
+    same_length_9
+    same_length_10
+    returns_3)

@@ -1,8 +1,8 @@
 -- The faces found are written, or the main call's refusal is told. Assumes nothing.
 use native.Mathlib.Omega.{arith}
 use lib.ListN.{length-take}
-use Rattle.patch_text.proofs.Laid.{faces-inside}
-use Rattle.patch_stl.proofs.Outputs.{outputs-as, patch-refused, patch-accepted}
+use Rattle.patch_text.proofs.Laid.{faces_inside}
+use Rattle.patch_stl.proofs.Outputs.{outputs_as, patch_refused, patch_accepted}
 use borrow.Author.Rules.{rules}
 use Rattle.patch_stl.proofs.write_patch.Statement.{statement}
 use Rattle.patch_stl.proofs.write_patch.Tie as tie
@@ -13,98 +13,98 @@ use Rattle.patch_stl.proofs.refuse.Reads as refuse-reads
 use Rattle.patch_stl.proofs.write_faces.Reads as write-faces-reads
 use Rattle.settings.proofs.BallPivotingConfig.new.Reads as new-reads
 
-new-requires : tie.Need-new-requires
-new-requires c κs = search rules
+new_requires : tie.Need-new-requires
+new_requires c κs = search rules
 
-reconstruct-with-normals-requires : tie.Need-reconstruct-with-normals-requires
-reconstruct-with-normals-requires c κs = search rules
+reconstruct_with_normals_requires : tie.Need-reconstruct-with-normals-requires
+reconstruct_with_normals_requires c κs = search rules
 
-cast-refuse : tie.Need-overflow-cast-refuse
-cast-refuse c = search rules
+cast_refuse : tie.Need-overflow-cast-refuse
+cast_refuse c = search rules
 
-refuse-requires : tie.Need-refuse-requires
-refuse-requires c κs =
+refuse_requires : tie.Need-refuse-requires
+refuse_requires c κs =
     c.before.before.before.before.before.before.before.before.before.before.before.before.before.before.before.before.before.before.before.before.before.requires
 
 same_length : tie.Need-same-length
 same_length c = search rules
 
-same-length-2 : tie.Need-same-length-2
-same-length-2 c = search rules
+same_length_2 : tie.Need-same-length-2
+same_length_2 c = search rules
 
-same-length-3 : tie.Need-same-length-3
-same-length-3 c = search rules
+same_length_3 : tie.Need-same-length-3
+same_length_3 c = search rules
 
-same-length-4 : tie.Need-same-length-4
-same-length-4 c = search rules
+same_length_4 : tie.Need-same-length-4
+same_length_4 c = search rules
 
 returns : tie.Need-returns
 returns c =
     let h = c.before.before.before.before.before.before.before.before.before.before.before.before.before.reconstruct-with-normals.ensures in
-    outputs-as _ _ _ _ _ (patch-refused _ _ _ _ _ _ _ _ _ _ h _
+    outputs_as _ _ _ _ _ (patch_refused _ _ _ _ _ _ _ _ _ _ h _
     c.before.before.before.before.before.before.before.before.before.before.before.before.before.before.before.before.before.new.ensures _
     c.before.before.before.before.before.if1.true) c.before.before.refuse.ensures
 
-cast-write-faces : tie.Need-overflow-cast-write-faces
-cast-write-faces c = search rules
+cast_write_faces : tie.Need-overflow-cast-write-faces
+cast_write_faces c = search rules
 
-mul-write-faces : tie.Need-overflow-mul-write-faces
-mul-write-faces c = search rules
+mul_write_faces : tie.Need-overflow-mul-write-faces
+mul_write_faces c = search rules
 
-slice-reshare-prefix-write-faces : tie.Need-slice-reshare-prefix-write-faces
-slice-reshare-prefix-write-faces c =
-    faces-inside _ _ _ _ _ _ _ _ _ _ c.before.before.before.before.before.before.before.before.before.reconstruct-with-normals.ensures
+slice_reshare_prefix_write_faces : tie.Need-slice-reshare-prefix-write-faces
+slice_reshare_prefix_write_faces c =
+    faces_inside _ _ _ _ _ _ _ _ _ _ c.before.before.before.before.before.before.before.before.before.reconstruct-with-normals.ensures
     c.before.if1.false
 
-slice-aggregate-write-faces : tie.Need-slice-aggregate-write-faces
-slice-aggregate-write-faces c =
-    let fit = faces-inside _ _ _ _ _ _ _ _ _ _
+slice_aggregate_write_faces : tie.Need-slice-aggregate-write-faces
+slice_aggregate_write_faces c =
+    let fit = faces_inside _ _ _ _ _ _ _ _ _ _
     c.before.before.before.before.before.before.before.before.before.before.reconstruct-with-normals.ensures c.before.before.if1.false in
     simp length-take (omega arith)
 
-write-faces-requires : tie.Need-write-faces-requires
-write-faces-requires c κs =
+write_faces_requires : tie.Need-write-faces-requires
+write_faces_requires c κs =
     c.before.before.before.before.before.before.before.before.before.before.before.before.before.before.before.before.before.before.before.before.before.before.requires
 
-same-length-5 : tie.Need-same-length-5
-same-length-5 c = search rules
+same_length_5 : tie.Need-same-length-5
+same_length_5 c = search rules
 
-same-length-6 : tie.Need-same-length-6
-same-length-6 c = search rules
+same_length_6 : tie.Need-same-length-6
+same_length_6 c = search rules
 
-same-length-7 : tie.Need-same-length-7
-same-length-7 c = search rules
+same_length_7 : tie.Need-same-length-7
+same_length_7 c = search rules
 
-same-length-8 : tie.Need-same-length-8
-same-length-8 c = search rules
+same_length_8 : tie.Need-same-length-8
+same_length_8 c = search rules
 
-returns-2 : tie.Need-returns-2
-returns-2 c =
+returns_2 : tie.Need-returns-2
+returns_2 c =
     let h = c.before.before.before.before.before.before.before.before.before.before.before.before.before.before.reconstruct-with-normals.ensures
     in
-    outputs-as _ _ _ _ _ (patch-accepted _ _ _ _ _ _ _ _ _ _ h _
+    outputs_as _ _ _ _ _ (patch_accepted _ _ _ _ _ _ _ _ _ _ h _
     c.before.before.before.before.before.before.before.before.before.before.before.before.before.before.before.before.before.before.new.ensures _ c.before.before.before.before.before.before.if1.false) c.before.before.write-faces.ensures
 
 pub write-patch-spec : {M : Type 1} → statement M
 write-patch-spec =
     tie.close
     (tie.spec
-    new-requires
-    reconstruct-with-normals-requires
-    cast-refuse
-    refuse-requires
+    new_requires
+    reconstruct_with_normals_requires
+    cast_refuse
+    refuse_requires
     same_length
-    same-length-2
-    same-length-3
-    same-length-4
+    same_length_2
+    same_length_3
+    same_length_4
     returns
-    cast-write-faces
-    mul-write-faces
-    slice-reshare-prefix-write-faces
-    slice-aggregate-write-faces
-    write-faces-requires
-    same-length-5
-    same-length-6
-    same-length-7
-    same-length-8
-    returns-2)
+    cast_write_faces
+    mul_write_faces
+    slice_reshare_prefix_write_faces
+    slice_aggregate_write_faces
+    write_faces_requires
+    same_length_5
+    same_length_6
+    same_length_7
+    same_length_8
+    returns_2)

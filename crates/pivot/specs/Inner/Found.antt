@@ -6,9 +6,9 @@ use Rattle.pivot.specs.declared.Pivot.{Pivot}
 use Rattle.pivot.specs.declared.Pivot.TheVariants.{To, Nowhere}
 
 -- a pivot to a point, if there is one
-abbrev pub pivotFound : Option ℕ → Pivot
-pivotFound none = Nowhere
-pivotFound (some k) = To k
+abbrev pub pivot_found : Option ℕ → Pivot
+pivot_found none = Nowhere
+pivot_found (some k) = To k
 
 -- the point of a pivot
 abbrev pub point_of : Pivot → Option ℕ

@@ -11,9 +11,9 @@ returns : tie.Need-returns
 unfolding known
 returns c = sym (ap (λ (b : Bool). bit (not b)) (eq-eqb c.before.args.u 0 c.if1.true))
 
-returns-2 : tie.Need-returns-2
+returns_2 : tie.Need-returns-2
 unfolding known
-returns-2 c = sym (ap (λ (b : Bool). bit (not b)) (ne_eqb c.before.args.u 0 c.if1.false))
+returns_2 c = sym (ap (λ (b : Bool). bit (not b)) (ne_eqb c.before.args.u 0 c.if1.false))
 
 pub seen-spec : {M : Type 1} → statement M
-seen-spec = tie.close (tie.spec returns returns-2)
+seen-spec = tie.close (tie.spec returns returns_2)

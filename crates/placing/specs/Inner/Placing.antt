@@ -7,7 +7,7 @@ use Rattle.orders.specs.Order.{reached, joined, fits}
 use Rattle.minima.specs.Inner.Minima.{Nodes, leaf, Outside}
 use Rattle.corners.specs.Corners.{CornersLinked}
 use Rattle.offers.specs.Inner.Offers.{offered, Faces}
-use Rattle.regions.specs.Inner.Ordering.{reachedWordsAt, treeAt, treeEnd}
+use Rattle.regions.specs.Inner.Ordering.{reached_words_at, tree_at, tree_end}
 
 -- in how many faces an edge lies
 abbrev pub lies : ℕ → (ℕ → Face) → Edge → ℕ
@@ -34,13 +34,13 @@ fitting reached shared = eqb reached 0 || (shared && eqb reached 2)
 pub record SideOpened (n faces x y : ℕ) (new r : Bool) (at : ℕ → Face) (before after : List ℕ) : Type 0 where
   pub leaves :
       (g : ℕ) → g < faces
-      → leaf (treeAt n) faces after g ≡ offered (new && has (edge x y) (at g)) faces g (leaf (treeAt n) faces before g)
+      → leaf (tree_at n) faces after g ≡ offered (new && has (edge x y) (at g)) faces g (leaf (tree_at n) faces before g)
   pub few : r ≡ true → new ≡ true → lies faces at (edge x y) ≤ 2
   pub crowd : r ≡ false → 3 ≤ lies faces at (edge x y)
 
 pub record Opens (n faces x y : ℕ) (new r : Bool) (before after : List ℕ) : Type 0 where
-  pub nodes : Nodes (treeAt n) faces before → Nodes (treeAt n) faces after
-  pub outside : Outside (treeAt n) faces before after
+  pub nodes : Nodes (tree_at n) faces before → Nodes (tree_at n) faces after
+  pub outside : Outside (tree_at n) faces before after
   pub side :
       (corner : ℕ → ℕ) (at : ℕ → Face) → CornersLinked n (3 * faces) corner before → Faces faces corner at → x ≢ y
       → SideOpened n faces x y new r at before after
@@ -49,18 +49,18 @@ pub record Opens (n faces x y : ℕ) (new r : Bool) (before after : List ℕ) : 
 pub record AllSidesOpened (n faces a b c : ℕ) (ab bc ca r : Bool) (at : ℕ → Face) (before after : List ℕ) : Type 0 where
   pub leaves :
       r ≡ true → (g : ℕ) → g < faces
-      → leaf (treeAt n) faces after g
+      → leaf (tree_at n) faces after g
       ≡ offered (ca && has (edge c a) (at g)) faces g
       (offered (bc && has (edge b c) (at g)) faces g
-      (offered (ab && has (edge a b) (at g)) faces g (leaf (treeAt n) faces before g)))
-  pub few-ab : r ≡ true → ab ≡ true → lies faces at (edge a b) ≤ 2
-  pub few-bc : r ≡ true → bc ≡ true → lies faces at (edge b c) ≤ 2
-  pub few-ca : r ≡ true → ca ≡ true → lies faces at (edge c a) ≤ 2
+      (offered (ab && has (edge a b) (at g)) faces g (leaf (tree_at n) faces before g)))
+  pub few_ab : r ≡ true → ab ≡ true → lies faces at (edge a b) ≤ 2
+  pub few_bc : r ≡ true → bc ≡ true → lies faces at (edge b c) ≤ 2
+  pub few_ca : r ≡ true → ca ≡ true → lies faces at (edge c a) ≤ 2
   pub crowd : r ≡ false → (e : Edge) × (3 ≤ lies faces at e)
 
 pub record Arounds (n faces a b c : ℕ) (ab bc ca r : Bool) (before after : List ℕ) : Type 0 where
-  pub nodes : Nodes (treeAt n) faces before → Nodes (treeAt n) faces after
-  pub outside : Outside (treeAt n) faces before after
+  pub nodes : Nodes (tree_at n) faces before → Nodes (tree_at n) faces after
+  pub outside : Outside (tree_at n) faces before after
   pub sides :
       (corner : ℕ → ℕ) (at : ℕ → Face) → CornersLinked n (3 * faces) corner before → Faces faces corner at
       → a ≢ b → b ≢ c → c ≢ a → AllSidesOpened n faces a b c ab bc ca r at before after
@@ -77,9 +77,9 @@ value at faces placed g =
 -- what the words hold when the faces of `placed` are
 pub record PlacedKept (n faces : ℕ) (corner : ℕ → ℕ) (at : ℕ → Face) (placed w : List ℕ) : Type 0 where
   pub linked : CornersLinked n (3 * faces) corner w
-  pub used : (x : ℕ) → x < n → get_or w (reachedWordsAt n + x) 0 ≡ bit (reached at placed x)
-  pub nodes : Nodes (treeAt n) faces w
-  pub values : (g : ℕ) → g < faces → leaf (treeAt n) faces w g ≡ value at faces placed g
+  pub used : (x : ℕ) → x < n → get_or w (reached_words_at n + x) 0 ≡ bit (reached at placed x)
+  pub nodes : Nodes (tree_at n) faces w
+  pub values : (g : ℕ) → g < faces → leaf (tree_at n) faces w g ≡ value at faces placed g
   pub few : (e : Edge) → is_placed at placed e ≡ true → lies faces at e ≤ 2
 
 -- a face is placed, if it fits and none of its edges lies in three faces
@@ -89,7 +89,7 @@ pub record Placed (n faces i : ℕ) (r : Bool) (corner : ℕ → ℕ) (at : ℕ 
   pub unfit : r ≡ false → (fits at placed i ≡ false) ⊎ ((e : Edge) × (3 ≤ lies faces at e))
 
 pub record Places (n faces i : ℕ) (shared r : Bool) (before after : List ℕ) : Type 0 where
-  pub outside : (k : ℕ) → (k < reachedWordsAt n) ⊎ (treeEnd n ≤ k) → get_or after k 0 ≡ get_or before k 0
+  pub outside : (k : ℕ) → (k < reached_words_at n) ⊎ (tree_end n ≤ k) → get_or after k 0 ≡ get_or before k 0
   pub places :
       (corner : ℕ → ℕ) (at : ℕ → Face) (placed : List ℕ) → Faces faces corner at
       → PlacedKept n faces corner at placed before

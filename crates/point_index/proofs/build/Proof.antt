@@ -2,7 +2,7 @@
 -- parts of `built`; the rest is untouched by each of the three calls. Assumes nothing.
 use lib.Dec.{lit≤}
 use native.Mathlib.Omega.{arith}
-use Rattle.point_index.proofs.Building.{end_fits, index-fits, boxes-count, ordered-size, built-end}
+use Rattle.point_index.proofs.Building.{end_fits, index_fits, boxes_count, ordered_size, built_end}
 use lib.Seq.{length-take-le}
 use lib.ListN.{length, take}
 use Prim.Native.Nat.{◌/◌}
@@ -13,108 +13,108 @@ use Rattle.point_index.proofs.build.Tie as tie
 use Rattle.point_index.proofs.build.Proof.Places.*
 mod Places
 
-slice-relend-prefix-order-points : tie.Need-slice-relend-prefix-order-points
-slice-relend-prefix-order-points c = omega (arith, c.before.before.before.requires.index-enough)
+slice_relend_prefix_order_points : tie.Need-slice-relend-prefix-order-points
+slice_relend_prefix_order_points c = omega (arith, c.before.before.before.requires.index_enough)
 
-slice-aggregate-order-points : tie.Need-slice-aggregate-order-points
-slice-aggregate-order-points c =
-    let start = start-of-order-points-arg c in
-    sym (length-take-le (length start.args.points.now / 3) start.args.index.now (omega (arith, start.pre.index-enough)))
+slice_aggregate_order_points : tie.Need-slice-aggregate-order-points
+slice_aggregate_order_points c =
+    let start = start_of_order_points_arg c in
+    sym (length-take-le (length start.args.points.now / 3) start.args.index.now (omega (arith, start.pre.index_enough)))
 
-order-points-requires : tie.Need-order-points-requires
-order-points-requires c κs =
-    let start = start-of-order-points-arg2 c in
+order_points_requires : tie.Need-order-points-requires
+order_points_requires c κs =
+    let start = start_of_order_points_arg2 c in
     let n = length start.args.points.now / 3 in
     let l : length (take n start.args.index.now) ≡ n = length-take-le n start.args.index.now
-    (omega (arith, start.pre.index-enough)) in record {
+    (omega (arith, start.pre.index_enough)) in record {
       cloud = start.pre.cloud;
       count = l;
-      work-enough = omega arith;
-      counts-enough = lit≤ tt;
-      floats-enough = omega (arith, start.pre.floats-enough);
+      work_enough = omega arith;
+      counts_enough = lit≤ tt;
+      floats_enough = omega (arith, start.pre.floats_enough);
     }
 
-slice-reshare-prefix-put-bits : tie.Need-slice-reshare-prefix-put-bits
-slice-reshare-prefix-put-bits c =
-    let order-points = (order-points-of-slice-known4 c).order-points in
-    let start = start-of-slice-known4 c in
+slice_reshare_prefix_put_bits : tie.Need-slice-reshare-prefix-put-bits
+slice_reshare_prefix_put_bits c =
+    let order-points = (order_points_of_slice_known4 c).order-points in
+    let start = start_of_slice_known4 c in
     end_fits start.args.points.now start.args.index.now order-points.last.1.0 start.args.floats.now order-points.last.1.1.0
     order-points.result start.pre order-points.ensures order-points.kept.1.0 order-points.kept.1.1.0
 
-slice-aggregate-put-bits : tie.Need-slice-aggregate-put-bits
-slice-aggregate-put-bits c =
-    let order-points = (order-points-of-put-bits-arg c).order-points in
-    let start = start-of-put-bits-arg c in
-    sym (boxes-count start.args.points.now start.args.index.now order-points.last.1.0 start.args.floats.now order-points.last.1.1.0
+slice_aggregate_put_bits : tie.Need-slice-aggregate-put-bits
+slice_aggregate_put_bits c =
+    let order-points = (order_points_of_put_bits_arg c).order-points in
+    let start = start_of_put_bits_arg c in
+    sym (boxes_count start.args.points.now start.args.index.now order-points.last.1.0 start.args.floats.now order-points.last.1.1.0
     order-points.result start.pre order-points.ensures order-points.kept.1.0 order-points.kept.1.1.0)
 
-put-bits-requires : tie.Need-put-bits-requires
-put-bits-requires c κs =
-    let order-points = (order-points-of-put-bits-arg2 c).order-points in
-    let start = start-of-put-bits-arg2 c in
+put_bits_requires : tie.Need-put-bits-requires
+put_bits_requires c κs =
+    let order-points = (order_points_of_put_bits_arg2 c).order-points in
+    let start = start_of_put_bits_arg2 c in
     omega (
       arith,
-      boxes-count start.args.points.now start.args.index.now order-points.last.1.0 start.args.floats.now
+      boxes_count start.args.points.now start.args.index.now order-points.last.1.0 start.args.floats.now
           order-points.last.1.1.0 order-points.result start.pre order-points.ensures order-points.kept.1.0 order-points.kept.1.1.0,
-      ordered-size start.args.points.now start.args.index.now order-points.last.1.0 start.args.floats.now order-points.last.1.1.0
+      ordered_size start.args.points.now start.args.index.now order-points.last.1.0 start.args.floats.now order-points.last.1.1.0
           order-points.result start.pre order-points.ensures order-points.kept.1.0 order-points.kept.1.1.0,
-      index-fits start.args.points.now
+      index_fits start.args.points.now
           start.args.index.now order-points.last.1.0 start.args.floats.now order-points.last.1.1.0 order-points.result start.pre
           order-points.ensures order-points.kept.1.0 order-points.kept.1.1.0,
-      start.pre.index-enough,
+      start.pre.index_enough,
     )
 
-add-clear-between : tie.Need-overflow-add-clear-between
-add-clear-between c =
-    let order-points = (order-points-of-clear-between-arg c).order-points in
-    let start = start-of-clear-between-arg c in
+add_clear_between : tie.Need-overflow-add-clear-between
+add_clear_between c =
+    let order-points = (order_points_of_clear_between_arg c).order-points in
+    let start = start_of_clear_between_arg c in
     omega (
       arith,
-      index-fits start.args.points.now start.args.index.now order-points.last.1.0 start.args.floats.now
+      index_fits start.args.points.now start.args.index.now order-points.last.1.0 start.args.floats.now
           order-points.last.1.1.0 order-points.result start.pre order-points.ensures order-points.kept.1.0 order-points.kept.1.1.0,
       start.pre.cloud.few,
     )
 
-mul-clear-between : tie.Need-overflow-mul-clear-between
-mul-clear-between c = search rules
+mul_clear_between : tie.Need-overflow-mul-clear-between
+mul_clear_between c = search rules
 
-add-clear-between-2 : tie.Need-overflow-add-clear-between-2
-add-clear-between-2 c = search rules
+add_clear_between_2 : tie.Need-overflow-add-clear-between-2
+add_clear_between_2 c = search rules
 
-clear-between-requires : tie.Need-clear-between-requires
-clear-between-requires c κs =
-    let order-points = (order-points-of-clear-between-arg c).order-points in
-    let start = start-of-clear-between-arg c in (
-      index-fits start.args.points.now start.args.index.now order-points.last.1.0 start.args.floats.now order-points.last.1.1.0
+clear_between_requires : tie.Need-clear-between-requires
+clear_between_requires c κs =
+    let order-points = (order_points_of_clear_between_arg c).order-points in
+    let start = start_of_clear_between_arg c in (
+      index_fits start.args.points.now start.args.index.now order-points.last.1.0 start.args.floats.now order-points.last.1.1.0
           order-points.result start.pre order-points.ensures order-points.kept.1.0 order-points.kept.1.1.0,
       omega (
         arith,
         c.before.before.before.put-bits.auto.1.0,
-        ordered-size start.args.points.now start.args.index.now order-points.last.1.0
+        ordered_size start.args.points.now start.args.index.now order-points.last.1.0
             start.args.floats.now order-points.last.1.1.0 order-points.result start.pre order-points.ensures order-points.kept.1.0
             order-points.kept.1.1.0,
-        start.pre.index-enough,
+        start.pre.index_enough,
       ),
     )
 
 same_length : tie.Need-same-length
 same_length c =
-    let put-bits = (put-bits-of-slice-known6 c).put-bits in
-    let order-points = (order-points-of-slice-known6 c).order-points in
-    let start = start-of-slice-known6 c in
-    c.before.before.clear-between.auto.0 ∙ put-bits.kept.1.0 ∙ ordered-size start.args.points.now start.args.index.now
+    let put-bits = (put_bits_of_slice_known6 c).put-bits in
+    let order-points = (order_points_of_slice_known6 c).order-points in
+    let start = start_of_slice_known6 c in
+    c.before.before.clear-between.auto.0 ∙ put-bits.kept.1.0 ∙ ordered_size start.args.points.now start.args.index.now
     order-points.last.1.0 start.args.floats.now order-points.last.1.1.0 order-points.result start.pre order-points.ensures
     order-points.kept.1.0 order-points.kept.1.1.0
 
-same-length-2 : tie.Need-same-length-2
-same-length-2 c = search rules
+same_length_2 : tie.Need-same-length-2
+same_length_2 c = search rules
 
 returns : tie.Need-returns
 returns c =
-    let put-bits = (put-bits-of-slice-known6 c).put-bits in
-    let order-points = (order-points-of-slice-known6 c).order-points in
-    let start = start-of-slice-known6 c in
-    built-end start.args.points.now start.args.index.now order-points.last.1.0 start.args.floats.now order-points.last.1.1.0
+    let put-bits = (put_bits_of_slice_known6 c).put-bits in
+    let order-points = (order_points_of_slice_known6 c).order-points in
+    let start = start_of_slice_known6 c in
+    built_end start.args.points.now start.args.index.now order-points.last.1.0 start.args.floats.now order-points.last.1.1.0
     order-points.result start.pre order-points.ensures order-points.kept.1.0 order-points.kept.1.1.0 put-bits.last.1.0
     c.before.before.clear-between.new.0 put-bits.ensures c.before.before.clear-between.ensures
 
@@ -122,16 +122,16 @@ pub build-spec : {M : Type 1} → statement M
 build-spec =
     tie.close
     (tie.spec
-    slice-relend-prefix-order-points
-    slice-aggregate-order-points
-    order-points-requires
-    slice-reshare-prefix-put-bits
-    slice-aggregate-put-bits
-    put-bits-requires
-    add-clear-between
-    mul-clear-between
-    add-clear-between-2
-    clear-between-requires
+    slice_relend_prefix_order_points
+    slice_aggregate_order_points
+    order_points_requires
+    slice_reshare_prefix_put_bits
+    slice_aggregate_put_bits
+    put_bits_requires
+    add_clear_between
+    mul_clear_between
+    add_clear_between_2
+    clear_between_requires
     same_length
-    same-length-2
+    same_length_2
     returns)

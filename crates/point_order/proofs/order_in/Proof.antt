@@ -7,33 +7,33 @@ use Rattle.point_order.proofs.order_in.Tie as tie
 use Rattle.point_order.proofs.order_in.Proof.Places.*
 mod Places
 
-slice-relend-prefix-order-all : tie.Need-slice-relend-prefix-order-all
-slice-relend-prefix-order-all c = search rules
+slice_relend_prefix_order_all : tie.Need-slice-relend-prefix-order-all
+slice_relend_prefix_order_all c = search rules
 
-slice-aggregate-order-all : tie.Need-slice-aggregate-order-all
-slice-aggregate-order-all c =
-    let start = start-of-order-all-arg2 c in
+slice_aggregate_order_all : tie.Need-slice-aggregate-order-all
+slice_aggregate_order_all c =
+    let start = start_of_order_all_arg2 c in
     sym (length-take-le (length start.args.order.now) start.args.x.now start.pre.1)
 
-slice-relend-prefix-order-all-2 : tie.Need-slice-relend-prefix-order-all-2
-slice-relend-prefix-order-all-2 c = search rules
+slice_relend_prefix_order_all_2 : tie.Need-slice-relend-prefix-order-all-2
+slice_relend_prefix_order_all_2 c = search rules
 
-slice-aggregate-order-all-2 : tie.Need-slice-aggregate-order-all-2
-slice-aggregate-order-all-2 c =
-    let start = start-of-order-all-arg3 c in
+slice_aggregate_order_all_2 : tie.Need-slice-aggregate-order-all-2
+slice_aggregate_order_all_2 c =
+    let start = start_of_order_all_arg3 c in
     sym (length-take-le (length start.args.order.now) start.args.y.now start.pre.2)
 
-slice-relend-prefix-order-all-3 : tie.Need-slice-relend-prefix-order-all-3
-slice-relend-prefix-order-all-3 c = search rules
+slice_relend_prefix_order_all_3 : tie.Need-slice-relend-prefix-order-all-3
+slice_relend_prefix_order_all_3 c = search rules
 
-slice-aggregate-order-all-3 : tie.Need-slice-aggregate-order-all-3
-slice-aggregate-order-all-3 c =
-    let start = start-of-order-all-arg4 c in
+slice_aggregate_order_all_3 : tie.Need-slice-aggregate-order-all-3
+slice_aggregate_order_all_3 c =
+    let start = start_of_order_all_arg4 c in
     sym (length-take-le (length start.args.order.now) start.args.z.now start.pre.3)
 
-order-all-requires : tie.Need-order-all-requires
-order-all-requires c κs =
-    let start = start-of-order-all-arg7 c in
+order_all_requires : tie.Need-order-all-requires
+order_all_requires c κs =
+    let start = start_of_order_all_arg7 c in
     let n = length start.args.order.now in (
       start.pre.0,
       length-take-le n start.args.x.now start.pre.1,
@@ -45,23 +45,23 @@ order-all-requires c κs =
 same_length : tie.Need-same-length
 same_length c = search rules
 
-same-length-2 : tie.Need-same-length-2
-same-length-2 c = search rules
+same_length_2 : tie.Need-same-length-2
+same_length_2 c = search rules
 
-same-length-3 : tie.Need-same-length-3
-same-length-3 c = search rules
+same_length_3 : tie.Need-same-length-3
+same_length_3 c = search rules
 
-same-length-4 : tie.Need-same-length-4
-same-length-4 c = search rules
+same_length_4 : tie.Need-same-length-4
+same_length_4 c = search rules
 
-same-length-5 : tie.Need-same-length-5
-same-length-5 c = search rules
+same_length_5 : tie.Need-same-length-5
+same_length_5 c = search rules
 
-same-length-6 : tie.Need-same-length-6
-same-length-6 c = search rules
+same_length_6 : tie.Need-same-length-6
+same_length_6 c = search rules
 
-same-length-7 : tie.Need-same-length-7
-same-length-7 c = search rules
+same_length_7 : tie.Need-same-length-7
+same_length_7 c = search rules
 
 returns : tie.Need-returns
 returns c = search rules
@@ -70,18 +70,18 @@ pub order-in-spec : {M : Type 1} → statement M
 order-in-spec =
     tie.close
     (tie.spec
-    slice-relend-prefix-order-all
-    slice-aggregate-order-all
-    slice-relend-prefix-order-all-2
-    slice-aggregate-order-all-2
-    slice-relend-prefix-order-all-3
-    slice-aggregate-order-all-3
-    order-all-requires
+    slice_relend_prefix_order_all
+    slice_aggregate_order_all
+    slice_relend_prefix_order_all_2
+    slice_aggregate_order_all_2
+    slice_relend_prefix_order_all_3
+    slice_aggregate_order_all_3
+    order_all_requires
     same_length
-    same-length-2
-    same-length-3
-    same-length-4
-    same-length-5
-    same-length-6
-    same-length-7
+    same_length_2
+    same_length_3
+    same_length_4
+    same_length_5
+    same_length_6
+    same_length_7
     returns)

@@ -3,7 +3,7 @@ use Rattle.std.specs.Prelude.{ℕ, ◌-◌, ◌≤◌, ◌<◌, ◌≡◌, cond,
 use Rattle.std.specs.Float.{nan}
 use Rattle.std.specs.Float.Ieee.{lt}
 use Rattle.numbers.specs.Rounded.{f32, ◌⊖◌, ◌⊗◌}
-use Rattle.sorting.specs.Sorted.{insert, percentileOf}
+use Rattle.sorting.specs.Sorted.{insert, percentile_of}
 use Rattle.settings.specs.declared.BallPivotingConfig.{BallPivotingConfig}
 use Rattle.grid.specs.declared.SpatialGrid.{SpatialGrid}
 use Rattle.grid.specs.Grid.{cell_of, range_of}
@@ -12,7 +12,7 @@ use Rattle.vector.specs.declared.Point3f.{Point3f}
 use Rattle.neighbor_squares.specs.declared.Around.{Around}
 use Rattle.spatial_hash.specs.declared.Hash.{Hash}
 use Rattle.spatial_hash.specs.Inner.Near.{HashedAll}
-use Rattle.regions.specs.Inner.Regions.{floatsLength}
+use Rattle.regions.specs.Inner.Regions.{floats_length}
 use Rattle.radii.specs.declared.Radii.{Radii}
 use Rattle.radii.specs.Radii.{average}
 
@@ -22,7 +22,7 @@ pub record RadiiReady (c : BallPivotingConfig) (g : SpatialGrid) (h : Hash) (pts
   pub some : 0 < n
   pub indexed : CellsIndexed g pts n w
   pub hashed : HashedAll h pts n w
-  pub room : floatsLength n ≤ length f
+  pub room : floats_length n ≤ length f
   pub percentiles : c.percentile_count ≤ 8
   pub additional : c.additional_count ≤ 8
 
@@ -43,13 +43,13 @@ pub record RadiiListed (xs : List Float) (r : Radii) : Type 0 where
   pub zeros : drop r.count r.list ≡ replicate (17 - r.count) (f32 0)
 
 -- the densities, once a sample with the least distances ds has been looked at
-unfoldable pub withSample : List Float → List Float → List Float
-withSample ds densities = cond (eqb (length ds) 0) densities (insert (average ds) densities)
+unfoldable pub with_sample : List Float → List Float → List Float
+with_sample ds densities = cond (eqb (length ds) 0) densities (insert (average ds) densities)
 
 -- twice the density at the percentile
-abbrev pub radiusAtPercentile : List Float → Float → Float
-radiusAtPercentile densities p = percentileOf densities p ⊗ f32 0x40000000
+abbrev pub radius_at_percentile : List Float → Float → Float
+radius_at_percentile densities p = percentile_of densities p ⊗ f32 0x40000000
 
 -- the radii kept, once the radius x has been looked at
-unfoldable pub withRadius : List Float → Float → List Float
-withRadius kept x = cond (lt (x ⊖ get_or kept (length kept - 1) nan) (f32 0x358637bd)) kept (kept ++ (x ∷ []))
+unfoldable pub with_radius : List Float → Float → List Float
+with_radius kept x = cond (lt (x ⊖ get_or kept (length kept - 1) nan) (f32 0x358637bd)) kept (kept ++ (x ∷ []))

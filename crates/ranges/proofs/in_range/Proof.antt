@@ -7,9 +7,9 @@ returns : tie.Need-returns
 unfolding inside
 returns c = rw c.if1.taken
 
-returns-2 : tie.Need-returns-2
+returns_2 : tie.Need-returns-2
 unfolding inside
-returns-2 c = rw c.if1.left
+returns_2 c = rw c.if1.left
 
 pub in-range-spec : {M : Type 1} → statement M
-in-range-spec = tie.close (tie.spec returns returns-2)
+in-range-spec = tie.close (tie.spec returns returns_2)

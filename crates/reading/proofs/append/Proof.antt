@@ -7,59 +7,59 @@ use borrow.Author.Rules.{rules}
 use Rattle.reading.proofs.append.Statement.{statement}
 use Rattle.reading.proofs.append.Tie as tie
 
-abbrev invariant-loop : tie.invariant-loop
-invariant-loop input₀ at bytes next₀ i₀ input next i = (i ≤ length bytes) × ((length input ≡ length input₀) × (next ≤ length input₀))
+abbrev invariant_loop : tie.invariant-loop
+invariant_loop input₀ at bytes next₀ i₀ input next i = (i ≤ length bytes) × ((length input ≡ length input₀) × (next ≤ length input₀))
 
-abbrev decreases-loop : tie.decreases-loop
-decreases-loop input₀ at bytes next₀ i₀ input next i = length bytes - i
+abbrev decreases_loop : tie.decreases-loop
+decreases_loop input₀ at bytes next₀ i₀ input next i = length bytes - i
 
-loop-holds : tie.Need-loop-init invariant-loop decreases-loop
-loop-holds c = search rules
+loop_holds : tie.Need-loop-init invariant_loop decreases_loop
+loop_holds c = search rules
 
-same_length : tie.Need-same-length invariant-loop decreases-loop
+same_length : tie.Need-same-length invariant_loop decreases_loop
 same_length c = search rules
 
-returns : tie.Need-returns invariant-loop decreases-loop
+returns : tie.Need-returns invariant_loop decreases_loop
 returns c = search rules
 
-shared-slice-read-input : tie.Need-shared-slice-read-input invariant-loop decreases-loop
-shared-slice-read-input c = search rules
+shared_slice_read_input : tie.Need-shared-slice-read-input invariant_loop decreases_loop
+shared_slice_read_input c = search rules
 
-slice-write-input : tie.Need-slice-write-input invariant-loop decreases-loop
-slice-write-input c = search rules
+slice_write_input : tie.Need-slice-write-input invariant_loop decreases_loop
+slice_write_input c = search rules
 
-add-next : tie.Need-overflow-add-next invariant-loop decreases-loop
-add-next c = search rules
+add_next : tie.Need-overflow-add-next invariant_loop decreases_loop
+add_next c = search rules
 
-add-i : tie.Need-overflow-add-i invariant-loop decreases-loop
-add-i c = search rules
+add_i : tie.Need-overflow-add-i invariant_loop decreases_loop
+add_i c = search rules
 
-loop-less : tie.Need-loop-smaller invariant-loop decreases-loop
-loop-less c = search rules
+loop_less : tie.Need-loop-smaller invariant_loop decreases_loop
+loop_less c = search rules
 
-loop-again : tie.Need-loop-preserved invariant-loop decreases-loop
-loop-again c = simp length-set (omega arith)
+loop_again : tie.Need-loop-preserved invariant_loop decreases_loop
+loop_again c = simp length-set (omega arith)
 
-same-length-2 : tie.Need-same-length-2 invariant-loop decreases-loop
-same-length-2 c = search rules
+same_length_2 : tie.Need-same-length-2 invariant_loop decreases_loop
+same_length_2 c = search rules
 
-returns-2 : tie.Need-returns-2 invariant-loop decreases-loop
-returns-2 c = search rules
+returns_2 : tie.Need-returns-2 invariant_loop decreases_loop
+returns_2 c = search rules
 
 pub append-spec : {M : Type 1} → statement M
 append-spec =
     tie.close
     (tie.spec
-    invariant-loop
-    decreases-loop
-    loop-holds
+    invariant_loop
+    decreases_loop
+    loop_holds
     same_length
     returns
-    shared-slice-read-input
-    slice-write-input
-    add-next
-    add-i
-    loop-less
-    loop-again
-    same-length-2
-    returns-2)
+    shared_slice_read_input
+    slice_write_input
+    add_next
+    add_i
+    loop_less
+    loop_again
+    same_length_2
+    returns_2)

@@ -2,18 +2,18 @@
 use Rattle.std.specs.Prelude.{ℕ, ◌+◌, ◌≤◌, ◌≡◌, Bool, true, false, List, Float}
 use Rattle.std.proofs.Math.Option.{Option, none, some}
 use Rattle.triangle.specs.Quality.{is_zero}
-use Rattle.decisions.specs.Found.{areaAt}
+use Rattle.decisions.specs.Found.{area_at}
 use Rattle.seed.specs.declared.Seed.{Seed}
 use Rattle.seed.specs.declared.Seed.TheVariants.{Triangle, Nothing}
 
 -- a seed of three points, if there is one
-abbrev pub seedFound : Option (ℕ × ℕ × ℕ) → Seed
-seedFound none = Nothing
-seedFound (some t) = Triangle t.0 t.1 t.2
+abbrev pub seed_found : Option (ℕ × ℕ × ℕ) → Seed
+seed_found none = Nothing
+seed_found (some t) = Triangle t.0 t.1 t.2
 
 -- the computed area of a seed's triangle, in its own order, is not exactly zero
 abbrev pub WithArea : List Float → Seed → Type 0
-WithArea pts (Triangle i j k) = is_zero (areaAt pts i j k) ≡ false
+WithArea pts (Triangle i j k) = is_zero (area_at pts i j k) ≡ false
 WithArea pts Nothing = Unit {0}
 
 -- after point i: from lo on if it is known, else from the next point on

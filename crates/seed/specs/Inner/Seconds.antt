@@ -8,30 +8,30 @@ use Rattle.grid.specs.Inner.Index.{CellsIndexed}
 use Rattle.spatial_hash.specs.Inner.Near.{Hashed}
 use Rattle.patch.specs.Search.{second_of}
 use Rattle.decisions.specs.declared.Scene.{Scene}
-use Rattle.decisions.specs.Decisions.{floatsOf}
+use Rattle.decisions.specs.Decisions.{floats_of}
 use Rattle.filters.specs.Inner.Refused.{Limiting}
 use Rattle.nearby.specs.declared.Filter.{Filter}
 use Rattle.nearby.specs.Inner.Ready.{SceneHeld}
-use Rattle.nearby.specs.Inner.Narrow.{passesFilter}
+use Rattle.nearby.specs.Inner.Narrow.{passes_filter}
 use Rattle.seedless.specs.declared.Site.{Site}
-use Rattle.seedless.specs.Inner.Parts.{withFirst}
+use Rattle.seedless.specs.Inner.Parts.{with_first}
 use Rattle.seedless.specs.Inner.Seedless.{SeedlessFrom, SeedlessBetween}
 use Rattle.seed.specs.declared.Seed.{Seed}
-use Rattle.seed.specs.Inner.Found.{seedFound}
+use Rattle.seed.specs.Inner.Found.{seed_found}
 
 -- the points that pass a filter, in the order of neighbours
 abbrev pub passing : Scene → List Float → List ℕ → Filter → List ℕ
-passing s pts used f = only (passesFilter s pts used f) (order_of s.indexed s.grid pts s.n)
+passing s pts used f = only (passes_filter s pts used f) (order_of s.indexed s.grid pts s.n)
 
 -- the seed with i as the first point and as the second one of those, from one place on and before another
-abbrev pub withSeconds : Scene → List Float → Float → List ℕ → Filter → ℕ → ℕ → ℕ → Option (ℕ × ℕ × ℕ)
-withSeconds s pts r used f i from to =
-    second_of (floatsOf s pts) r used i (passing s pts used f) (drop from (take to (passing s pts used f)))
+abbrev pub with_seconds : Scene → List Float → Float → List ℕ → Filter → ℕ → ℕ → ℕ → Option (ℕ × ℕ × ℕ)
+with_seconds s pts r used f i from to =
+    second_of (floats_of s pts) r used i (passing s pts used f) (drop from (take to (passing s pts used f)))
 
 -- that is found, and those are not more than the cloud's points
 pub record SecondsTried (s : Scene) (pts : List Float) (r : Float) (used : List ℕ) (f : Filter) (i from to : ℕ)
     (found : Seed) : Type 0 where
-  pub same : found ≡ seedFound (withSeconds s pts r used f i from to)
+  pub same : found ≡ seed_found (with_seconds s pts r used f i from to)
   pub few : length (passing s pts used f) ≤ s.n
 
 -- the slices hold what a search from point i asks for
@@ -51,5 +51,5 @@ pub record SeedlessBefore (p : Site) (pts : List Float) (used : List ℕ) (lo i 
 -- the seed with i as the first point is found, and what is told of it holds
 pub record FirstTried (s : Scene) (pts : List Float) (r : Float) (used : List ℕ) (lo i : ℕ) (found : Seed)
     (seedless : Bool) : Type 0 where
-  pub same : found ≡ seedFound (withFirst (floatsOf s pts) r used i)
+  pub same : found ≡ seed_found (with_first (floats_of s pts) r used i)
   pub told : seedless ≡ true → SeedlessFrom s pts r used lo i

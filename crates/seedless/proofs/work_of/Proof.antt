@@ -6,14 +6,14 @@ use borrow.Author.Rules.{rules}
 use Rattle.seedless.proofs.work_of.Statement.{statement}
 use Rattle.seedless.proofs.work_of.Tie as tie
 
-mul-result : tie.Need-overflow-mul-result
-mul-result c = search rules
+mul_result : tie.Need-overflow-mul-result
+mul_result c = search rules
 
-add-result : tie.Need-overflow-add-result
-add-result c = search rules
+add_result : tie.Need-overflow-add-result
+add_result c = search rules
 
-mul-result-2 : tie.Need-overflow-mul-result-2
-mul-result-2 c =
+mul_result_2 : tie.Need-overflow-mul-result-2
+mul_result_2 c =
     let a = c.args in
     let h : a.count ≤ 4096 = c.requires.0 in
     let k : a.count + 16 * a.near ≤ 69632 = omega (arith, c.requires.0, c.requires.1) in
@@ -23,4 +23,4 @@ returns : tie.Need-returns
 returns c = search rules
 
 pub work-of-spec : {M : Type 1} → statement M
-work-of-spec = tie.close (tie.spec mul-result add-result mul-result-2 returns)
+work-of-spec = tie.close (tie.spec mul_result add_result mul_result_2 returns)

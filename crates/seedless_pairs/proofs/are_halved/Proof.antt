@@ -8,8 +8,8 @@ use Rattle.seedless_pairs.proofs.are_halved.Tie as tie
 returns : tie.Need-returns
 returns c = λ h. absurd (subst T (sym h) tt)
 
-returns-2 : tie.Need-returns-2
-returns-2 c = search rules
+returns_2 : tie.Need-returns-2
+returns_2 c = search rules
 
 pub are-halved-spec : {M : Type 1} → statement M
-are-halved-spec = tie.close (tie.spec returns returns-2)
+are-halved-spec = tie.close (tie.spec returns returns_2)

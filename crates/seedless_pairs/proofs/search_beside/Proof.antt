@@ -10,42 +10,42 @@ use borrow.Author.Rules.{rules}
 use Rattle.seedless_pairs.proofs.search_beside.Statement.{statement}
 use Rattle.seedless_pairs.proofs.search_beside.Tie as tie
 
-abbrev invariant-loop : tie.invariant-loop
-invariant-loop s points w count radius limits i j from budget left₀ m₀ left m = (x : ℕ) → x < m → from ≤ x → Seedless s points radius i j (nth s w x)
+abbrev invariant_loop : tie.invariant-loop
+invariant_loop s points w count radius limits i j from budget left₀ m₀ left m = (x : ℕ) → x < m → from ≤ x → Seedless s points radius i j (nth s w x)
 
-abbrev decreases-loop : tie.decreases-loop
-decreases-loop s points w count radius limits i j from budget left₀ m₀ left m = count - m
+abbrev decreases_loop : tie.decreases-loop
+decreases_loop s points w count radius limits i j from budget left₀ m₀ left m = count - m
 
-loop-holds : tie.Need-loop-init invariant-loop decreases-loop
-loop-holds c = λ x h k. absurd (omega arith)
+loop_holds : tie.Need-loop-init invariant_loop decreases_loop
+loop_holds c = λ x h k. absurd (omega arith)
 
-listed-point-requires : tie.Need-listed-point-requires invariant-loop decreases-loop
-listed-point-requires c κs =
+listed_point_requires : tie.Need-listed-point-requires invariant_loop decreases_loop
+listed_point_requires c κs =
     let a = c.before.before.before.before in
-    (a.requires.0.few, a.requires.0.work-long, a.requires.1, c.loop-test.true)
+    (a.requires.0.few, a.requires.0.work_long, a.requires.1, c.loop-test.true)
 
-price-of-requires : tie.Need-price-of-requires invariant-loop decreases-loop
-price-of-requires c κs =
+price_of_requires : tie.Need-price-of-requires invariant_loop decreases_loop
+price_of_requires c κs =
     let a = c.before.before.before.before.before in
-    (a.requires.0.points-long, a.requires.2, a.requires.3, c.listed-point.ensures.1, a.requires.4)
+    (a.requires.0.points_long, a.requires.2, a.requires.3, c.listed-point.ensures.1, a.requires.4)
 
-returns : tie.Need-returns invariant-loop decreases-loop
+returns : tie.Need-returns invariant_loop decreases_loop
 returns c = λ h. absurd (omega arith)
 
-returns-2 : tie.Need-returns-2 invariant-loop decreases-loop
-returns-2 c = λ h. absurd (omega arith)
+returns_2 : tie.Need-returns-2 invariant_loop decreases_loop
+returns_2 c = λ h. absurd (omega arith)
 
-sub-left : tie.Need-overflow-sub-left invariant-loop decreases-loop
-sub-left c = search rules
+sub_left : tie.Need-overflow-sub-left invariant_loop decreases_loop
+sub_left c = search rules
 
-add-m : tie.Need-overflow-add-m invariant-loop decreases-loop
-add-m c = search rules
+add_m : tie.Need-overflow-add-m invariant_loop decreases_loop
+add_m c = search rules
 
-loop-less : tie.Need-loop-smaller invariant-loop decreases-loop
-loop-less c = search rules
+loop_less : tie.Need-loop-smaller invariant_loop decreases_loop
+loop_less c = search rules
 
-loop-again : tie.Need-loop-preserved invariant-loop decreases-loop
-loop-again c =
+loop_again : tie.Need-loop-preserved invariant_loop decreases_loop
+loop_again c =
     let t = c.before.before.price-of in
     let p = c.before.before.before in
     let a = p.before.before.before.before.before.args in
@@ -53,9 +53,9 @@ loop-again c =
     below_next p.before.before.loop.invariant
     (λ h. subst (Seedless a.s a.points.now a.radius a.i a.j) p.listed-point.ensures.0 (t.ensures (omega arith)))
 
-returns-3 : tie.Need-returns-3 invariant-loop decreases-loop
-returns-3 c = λ h m a b. c.before.loop.invariant m (omega (arith, c.loop-test.false)) a
+returns_3 : tie.Need-returns-3 invariant_loop decreases_loop
+returns_3 c = λ h m a b. c.before.loop.invariant m (omega (arith, c.loop-test.false)) a
 
 pub search-beside-spec : {M : Type 1} → statement M
 search-beside-spec =
-    tie.close (tie.spec invariant-loop decreases-loop loop-holds listed-point-requires price-of-requires returns returns-2 sub-left add-m loop-less loop-again returns-3)
+    tie.close (tie.spec invariant_loop decreases_loop loop_holds listed_point_requires price_of_requires returns returns_2 sub_left add_m loop_less loop_again returns_3)

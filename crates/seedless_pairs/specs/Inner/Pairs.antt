@@ -1,6 +1,6 @@
 -- Pairs of listed points that make no seed with a point, by ranges of the list. Definitions only.
 use Rattle.std.specs.Prelude.{ℕ, ◌+◌, ◌≤◌, ◌<◌, ◌≡◌, List, Float}
-use Rattle.regions.specs.Inner.Regions.{neighborsAt}
+use Rattle.regions.specs.Inner.Regions.{neighbors_at}
 use Rattle.decisions.specs.declared.Scene.{Scene}
 use Rattle.filters.specs.declared.Limits.{Limits}
 use Rattle.nearby.specs.Inner.Ready.{SceneHeld, NeighborsListed, nth}
@@ -25,13 +25,13 @@ PairsSeedless s pts r w i first second = (j k : ℕ) → first.from ≤ j → j 
 pub record InRange (s : Scene) (pts : List Float) (w : List ℕ) (q : Range) : Type 0 where
   pub rises : q.from ≤ q.to
   pub listed : NeighborsListed s w q.to
-  pub boxed : RangeBoxed pts w (neighborsAt s.n + q.from) (neighborsAt s.n + q.to) q.bounds
+  pub boxed : RangeBoxed pts w (neighbors_at s.n + q.from) (neighbors_at s.n + q.to) q.bounds
 
 -- it goes from one place to another
 pub record Spans (s : Scene) (pts : List Float) (w : List ℕ) (from to : ℕ) (q : Range) : Type 0 where
   pub from_is : q.from ≡ from
   pub to_is : q.to ≡ to
-  pub in-range : InRange s pts w q
+  pub in_range_lem : InRange s pts w q
 
 -- two such ranges, and a point of a cloud whose limits are known
 pub record Ranged (s : Scene) (pts : List Float) (w : List ℕ) (r : Float) (l : Limits) (i : ℕ) (first second : Range)
@@ -39,5 +39,5 @@ pub record Ranged (s : Scene) (pts : List Float) (w : List ℕ) (r : Float) (l :
   pub held : SceneHeld s pts w
   pub inside : i < s.n
   pub judged : LimitsAtRadius s pts r l
-  pub first-in : InRange s pts w first
-  pub second-in : InRange s pts w second
+  pub first_in : InRange s pts w first
+  pub second_in : InRange s pts w second

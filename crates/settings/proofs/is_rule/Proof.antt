@@ -7,8 +7,8 @@ use Rattle.settings.proofs.is_rule.Tie as tie
 returns : tie.Need-returns
 returns c = rw c.if1.true refl
 
-returns-2 : tie.Need-returns-2
-returns-2 c = rw (ne_eqb c.before.args.rule 1 c.if1.false) refl
+returns_2 : tie.Need-returns-2
+returns_2 c = rw (ne_eqb c.before.args.rule 1 c.if1.false) refl
 
 pub is-rule-spec : {M : Type 1} → statement M
-is-rule-spec = tie.close (tie.spec returns returns-2)
+is-rule-spec = tie.close (tie.spec returns returns_2)

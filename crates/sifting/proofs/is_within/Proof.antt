@@ -8,16 +8,16 @@ use Rattle.vector.specs.Vector.{squared}
 use Rattle.sifting.proofs.is_within.Statement.{statement}
 use Rattle.sifting.proofs.is_within.Tie as tie
 
-point-at-requires : tie.Need-point-at-requires
-point-at-requires c κs = search rules
+point_at_requires : tie.Need-point-at-requires
+point_at_requires c κs = search rules
 
-distance-squared-requires : tie.Need-distance-squared-requires
-distance-squared-requires c κs = search rules
+distance_squared_requires : tie.Need-distance-squared-requires
+distance_squared_requires c κs = search rules
 
 returns : tie.Need-returns
 returns c =
     let a = c.before.before.before.args in
-    ap (λ (x : Float). not (lt a.limit x)) (c.distance-squared.ensures ∙ ap (λ (q : Point3f). squared q a.place) c.before.point_at.ensures)
+    ap (λ (x : Float). not (lt a.limit x)) (c.distance_squared.ensures ∙ ap (λ (q : Point3f). squared q a.place) c.before.point_at.ensures)
 
 pub is-within-spec : {M : Type 1} → statement M
-is-within-spec = tie.close (tie.spec point-at-requires distance-squared-requires returns)
+is-within-spec = tie.close (tie.spec point_at_requires distance_squared_requires returns)

@@ -11,11 +11,11 @@ use Rattle.six_orders.proofs.are_numbers.Tie as tie
 returns : tie.Need-returns
 returns c = λ h. absurd (subst T (sym h) tt)
 
-returns-2 : tie.Need-returns-2
-returns-2 c = λ h. absurd (subst T (sym h) tt)
+returns_2 : tie.Need-returns-2
+returns_2 c = λ h. absurd (subst T (sym h) tt)
 
-returns-3 : tie.Need-returns-3
-returns-3 c =
+returns_3 : tie.Need-returns-3
+returns_3 c =
     let a = c.before.before.args in
     let four = f32 0x40800000 in λ h. (
       le_left a.x four (rw (not-false (le a.x four) c.before.if1.false) tt),
@@ -24,4 +24,4 @@ returns-3 c =
     )
 
 pub are-numbers-spec : {M : Type 1} → statement M
-are-numbers-spec = tie.close (tie.spec returns returns-2 returns-3)
+are-numbers-spec = tie.close (tie.spec returns returns_2 returns_3)

@@ -6,23 +6,23 @@ use borrow.Author.Rules.{rules}
 use Rattle.six_orders.proofs.are_positive.Statement.{statement}
 use Rattle.six_orders.proofs.are_positive.Tie as tie
 
-is-positive-requires : tie.Need-is-positive-requires
-is-positive-requires c κs = search rules
+is_positive_requires : tie.Need-is-positive-requires
+is_positive_requires c κs = search rules
 
 returns : tie.Need-returns
 returns c = λ h. absurd (subst T (sym h) tt)
 
-is-positive-requires-2 : tie.Need-is-positive-requires-2
-is-positive-requires-2 c κs = search rules
+is_positive_requires_2 : tie.Need-is-positive-requires-2
+is_positive_requires_2 c κs = search rules
 
-returns-2 : tie.Need-returns-2
-returns-2 c = λ h. absurd (subst T (sym h) tt)
+returns_2 : tie.Need-returns-2
+returns_2 c = λ h. absurd (subst T (sym h) tt)
 
-is-positive-requires-3 : tie.Need-is-positive-requires-3
-is-positive-requires-3 c κs = search rules
+is_positive_requires_3 : tie.Need-is-positive-requires-3
+is_positive_requires_3 c κs = search rules
 
-returns-3 : tie.Need-returns-3
-returns-3 c =
+returns_3 : tie.Need-returns-3
+returns_3 c =
     let x = c.before.before.before.before.is_positive in
     let y = c.before.before.is-positive2 in
     λ h. (
@@ -33,4 +33,4 @@ returns-3 c =
     )
 
 pub are-positive-spec : {M : Type 1} → statement M
-are-positive-spec = tie.close (tie.spec is-positive-requires returns is-positive-requires-2 returns-2 is-positive-requires-3 returns-3)
+are-positive-spec = tie.close (tie.spec is_positive_requires returns is_positive_requires_2 returns_2 is_positive_requires_3 returns_3)

@@ -4,8 +4,8 @@ use Rattle.std.specs.Float.Ieee.{lt, le, is_nan}
 use Rattle.std.specs.Float.Ieee.Positive.{positive}
 use Rattle.std.specs.Float.Ieee.Scale.{finite}
 use Rattle.numbers.specs.Rounded.{f32, ◌⊖◌}
-use Rattle.quality.specs.Measures.{tiny, radiusOf, angle, least, aspectRatio, edgeRatio}
-use Rattle.quality.specs.Inner.Shape.{qualityOf}
+use Rattle.quality.specs.Measures.{tiny, radius_of, angle, least, aspect_ratio, edge_ratio}
+use Rattle.quality.specs.Inner.Shape.{quality_of}
 
 -- the last three are a, b and c in some order
 pub data InOrder (a b c : Float) : Float → Float → Float → Type 0 where
@@ -17,17 +17,17 @@ pub data InOrder (a b c : Float) : Float → Float → Float → Type 0 where
   cba : InOrder a b c c b a
 
 -- the least angle of a triangle, of which two are measured and one is left over
-unfoldable pub leastAngle : Float → Float → Float → Float
-leastAngle a b c = least (angle a b c) (angle b a c) (f32 0x40490fdb ⊖ angle a b c ⊖ angle b a c)
+unfoldable pub least_angle : Float → Float → Float → Float
+least_angle a b c = least (angle a b c) (angle b a c) (f32 0x40490fdb ⊖ angle a b c ⊖ angle b a c)
 
 -- unless m is a NaN, no order has a larger least angle
 pub record AngleBound (a b c m : Float) : Type 0 where
-  pub most : (u v w : Float) → InOrder a b c u v w → T (not (is_nan m)) → T (le (leastAngle u v w) m)
+  pub most : (u v w : Float) → InOrder a b c u v w → T (not (is_nan m)) → T (le (least_angle u v w) m)
 
 -- unless t is a NaN, no order has a larger aspect ratio, with areas from 1e-10 up to a largest one
 pub record AspectBound (a b c largest t : Float) : Type 0 where
   pub most : (u v w area : Float) → InOrder a b c u v w → T (le tiny area) → T (le area largest) → T (not (is_nan t))
-      → T (le (aspectRatio u v w area (radiusOf u v w area)) t)
+      → T (le (aspect_ratio u v w area (radius_of u v w area)) t)
 
 -- x is not shorter than a
 pub record NotShorter (a x : Float) : Type 0 where
@@ -42,7 +42,7 @@ pub record AspectFrom (a b c largest t : Float) : Type 0 where
 -- unless e is a NaN, it is above zero, and no order has a lesser edge ratio
 pub record EdgeBound (a b c e : Float) : Type 0 where
   pub above : T (not (is_nan e)) → T (positive e)
-  pub least : (u v w : Float) → InOrder a b c u v w → T (not (is_nan e)) → T (le e (edgeRatio u v w))
+  pub least : (u v w : Float) → InOrder a b c u v w → T (not (is_nan e)) → T (le e (edge_ratio u v w))
 
 -- one of three edges is not longer than s
 pub data OneUpTo (s x y z : Float) : Type 0 where
@@ -57,7 +57,7 @@ pub record EdgeFrom (a b c s e : Float) : Type 0 where
 -- in each order the score is below a threshold, with areas up to a largest one
 pub record AllBelow (threshold largest a b c : Float) : Type 0 where
   pub below : (u v w area : Float) → InOrder a b c u v w → T (le area largest)
-      → T (lt (qualityOf u v w area).quality_score threshold)
+      → T (lt (quality_of u v w area).quality_score threshold)
 
 -- so it is of all edges that are not shorter than a, b and c, of which one is not longer than s, and whose least angle
 -- m bounds

@@ -1,50 +1,50 @@
 -- `is_sliver` meets its contract.
-use Rattle.sliver_filters.proofs.Triangles.{slivers-turned, slivers-swapped}
+use Rattle.sliver_filters.proofs.Triangles.{slivers_turned, slivers_swapped}
 use borrow.Author.Rules.{rules}
 use Rattle.sliver_filters.proofs.is_sliver.Statement.{statement}
 use Rattle.sliver_filters.proofs.is_sliver.Tie as tie
 
-is-needle-requires : tie.Need-is-needle-requires
-is-needle-requires c κs = search rules
+is_needle_requires : tie.Need-is-needle-requires
+is_needle_requires c κs = search rules
 
 returns : tie.Need-returns
 returns c = λ h. c.before.is-needle.ensures c.if1.true
 
-is-sliver-along-requires : tie.Need-is-sliver-along-requires
-is-sliver-along-requires c κs = search rules
+is_sliver_along_requires : tie.Need-is-sliver-along-requires
+is_sliver_along_requires c κs = search rules
 
-returns-2 : tie.Need-returns-2
-returns-2 c = search rules
+returns_2 : tie.Need-returns-2
+returns_2 c = search rules
 
-is-sliver-along-requires-2 : tie.Need-is-sliver-along-requires-2
-is-sliver-along-requires-2 c κs = search rules
+is_sliver_along_requires_2 : tie.Need-is-sliver-along-requires-2
+is_sliver_along_requires_2 c κs = search rules
 
-returns-3 : tie.Need-returns-3
-returns-3 c = λ h. slivers-turned (c.is-sliver-along2.ensures h)
+returns_3 : tie.Need-returns-3
+returns_3 c = λ h. slivers_turned (c.is-sliver-along2.ensures h)
 
-is-sliver-along-requires-3 : tie.Need-is-sliver-along-requires-3
-is-sliver-along-requires-3 c κs = search rules
+is_sliver_along_requires_3 : tie.Need-is-sliver-along-requires-3
+is_sliver_along_requires_3 c κs = search rules
 
-returns-4 : tie.Need-returns-4
-returns-4 c = λ h. slivers-turned (c.is-sliver-along3.ensures h)
+returns_4 : tie.Need-returns-4
+returns_4 c = λ h. slivers_turned (c.is-sliver-along3.ensures h)
 
-is-sliver-along-requires-4 : tie.Need-is-sliver-along-requires-4
-is-sliver-along-requires-4 c κs = search rules
+is_sliver_along_requires_4 : tie.Need-is-sliver-along-requires-4
+is_sliver_along_requires_4 c κs = search rules
 
-returns-5 : tie.Need-returns-5
-returns-5 c = λ h. slivers-swapped (c.is-sliver-along4.ensures h)
+returns_5 : tie.Need-returns-5
+returns_5 c = λ h. slivers_swapped (c.is-sliver-along4.ensures h)
 
 pub is-sliver-spec : {M : Type 1} → statement M
 is-sliver-spec =
     tie.close
     (tie.spec
-    is-needle-requires
+    is_needle_requires
     returns
-    is-sliver-along-requires
-    returns-2
-    is-sliver-along-requires-2
-    returns-3
-    is-sliver-along-requires-3
-    returns-4
-    is-sliver-along-requires-4
-    returns-5)
+    is_sliver_along_requires
+    returns_2
+    is_sliver_along_requires_2
+    returns_3
+    is_sliver_along_requires_3
+    returns_4
+    is_sliver_along_requires_4
+    returns_5)

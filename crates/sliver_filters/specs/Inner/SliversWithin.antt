@@ -9,7 +9,7 @@ use Rattle.vector.specs.declared.Point3f.{Point3f}
 use Rattle.bounds.specs.declared.Interval.{Interval}
 use Rattle.intervals.specs.Inner.Enclosed.{IntervalHolds}
 use Rattle.triangle.specs.Quality.{quality}
-use Rattle.area_bounds.specs.Inner.AreaBound.{crossSquared}
+use Rattle.area_bounds.specs.Inner.AreaBound.{cross_squared}
 use Rattle.thin.specs.Inner.Thin.{ThinLimit, AllThin}
 use Rattle.slivers.specs.Inner.Slivers.{Slivers}
 use Rattle.cosines.specs.Inner.Cosine.{NarrowLimit, Coordinates}
@@ -37,15 +37,15 @@ pub record ThinWithin (limit : Float) (a b c : Interval) (cross : Float) : Type 
 
 -- the squares of the edges P Q, Q T and P T lie in intervals, and those of the cross products are not above one
 pub record TriangleWithin (a b c : Interval) (cross : Float) (p q t : Point3f) : Type 0 where
-  pub p-held : Coordinates p
-  pub q-held : Coordinates q
-  pub t-held : Coordinates t
+  pub p_held : Coordinates p
+  pub q_held : Coordinates q
+  pub t_held : Coordinates t
   pub pq : IntervalHolds a (squared p q)
   pub qt : IntervalHolds b (squared q t)
   pub pt : IntervalHolds c (squared p t)
-  pub at_p : T (le (crossSquared p q t) cross)
-  pub at-q : T (le (crossSquared q p t) cross)
-  pub at-t : T (le (crossSquared t p q) cross)
+  pub at_p : T (le (cross_squared p q t) cross)
+  pub at_q : T (le (cross_squared q p t) cross)
+  pub at_t : T (le (cross_squared t p q) cross)
 
 -- the score of a triangle is below a threshold in each order of its points
 pub record LowEach (threshold : Float) (p q t : Point3f) : Type 0 where

@@ -6,22 +6,22 @@ use native.Mathlib.Omega.{arith}
 use lib.ListN.{take}
 use lib.Seq.{take-take}
 use Rattle.spatial_hash.specs.Inner.Near.{HashSound, Heading}
-use Rattle.spatial_hash.proofs.Kept.{ready-same}
-use Rattle.spatial_hash.proofs.Heads.{hashed-all}
+use Rattle.spatial_hash.proofs.Kept.{ready_same}
+use Rattle.spatial_hash.proofs.Heads.{hashed_all}
 use borrow.Author.Rules.{rules}
 use Rattle.spatial_hash.proofs.build.Statement.{statement}
 use Rattle.spatial_hash.proofs.build.Tie as tie
 use Rattle.spatial_hash.proofs.build.Proof.Places.*
 mod Places
 
-least-corner-requires : tie.Need-least-corner-requires
-least-corner-requires c κs = search rules
+least_corner_requires : tie.Need-least-corner-requires
+least_corner_requires c κs = search rules
 
-scale-for-requires : tie.Need-scale-for-requires
-scale-for-requires c κs = search rules
+scale_for_requires : tie.Need-scale-for-requires
+scale_for_requires c κs = search rules
 
-side-for-requires : tie.Need-side-for-requires
-side-for-requires c κs = search rules
+side_for_requires : tie.Need-side-for-requires
+side_for_requires c κs = search rules
 
 -- what was chosen is sound
 sound : (c : tie.After-side-for) → HashSound (record {
@@ -29,47 +29,47 @@ sound : (c : tie.After-side-for) → HashSound (record {
       c.before.before.least-corner.result;
   scale = c.before.scale-for.result;
   side = c.side-for.result;
-}) (start-of-side-for c).args.n
+}) (start_of_side_for c).args.n
 sound c = record {
   some = c.side-for.ensures.0;
   few = c.side-for.ensures.1;
   fitting = c.side-for.ensures.2;
   positive = c.before.scale-for.ensures.0;
-  scale-finite = c.before.scale-for.ensures.1;
+  scale_finite = c.before.scale-for.ensures.1;
   corner = c.before.before.least-corner.ensures;
 }
 
-clear-heads-requires : tie.Need-clear-heads-requires
-clear-heads-requires c κs = search rules
+clear_heads_requires : tie.Need-clear-heads-requires
+clear_heads_requires c κs = search rules
 
-link-points-requires : tie.Need-link-points-requires
-link-points-requires c κs =
-    let after-side-for = side-for-of-link-points-arg c in
-    let start = start-of-link-points-arg c in
+link_points_requires : tie.Need-link-points-requires
+link_points_requires c κs =
+    let after-side-for = side_for_of_link_points_arg c in
+    let start = start_of_link_points_arg c in
     let s = start in
     let e = c.before.before.before.clear-heads in
-    record { ready = ready-same _ _ _ _ e.auto.0 s.pre; sound = sound after-side-for; empty = e.ensures.0 }
+    record { ready = ready_same _ _ _ _ e.auto.0 s.pre; sound = sound after-side-for; empty = e.ensures.0 }
 
 -- all points are chained
 heading : (c : tie.After-link-points) → Heading (record {
   least =
-      (least-corner-of-link-points c).least-corner.result;
-  scale = (scale-for-of-link-points c).scale-for.result;
-  side = (side-for-of-link-points c).side-for.result;
-}) (start-of-link-points c).args.points.now (start-of-link-points c).args.n c.link-points.new.1.0
+      (least_corner_of_link_points c).least-corner.result;
+  scale = (scale_for_of_link_points c).scale-for.result;
+  side = (side_for_of_link_points c).side-for.result;
+}) (start_of_link_points c).args.points.now (start_of_link_points c).args.n c.link-points.new.1.0
 heading c =
-    let clear-heads = (clear-heads-of-link-points c).clear-heads in
-    let after-side-for = side-for-of-link-points c in
-    let start = start-of-link-points c in
+    let clear-heads = (clear_heads_of_link_points c).clear-heads in
+    let after-side-for = side_for_of_link_points c in
+    let start = start_of_link_points c in
     let e = clear-heads in
     record {
-      ready = ready-same _ _ _ _ (c.link-points.auto.1.0 ∙ e.kept.0) start.pre;
+      ready = ready_same _ _ _ _ (c.link-points.auto.1.0 ∙ e.kept.0) start.pre;
       sound = sound after-side-for;
       chained = c.link-points.ensures.0;
     }
 
-order-points-requires : tie.Need-order-points-requires
-order-points-requires c κs = heading c.before.before.before
+order_points_requires : tie.Need-order-points-requires
+order_points_requires c κs = heading c.before.before.before
 
 same_length : tie.Need-same-length
 same_length c = search rules
@@ -81,25 +81,25 @@ returns c =
     let e = l.before.before.before.before.clear-heads in
     let n = l.before.before.before.before.before.before.before.before.before.before.before.args.n in
     record {
-      hashed = hashed-all _ _ _ _ _ (heading l) o.order-points.auto.1.0 o.order-points.ensures.1 o.order-points.ensures.0;
+      hashed = hashed_all _ _ _ _ _ (heading l) o.order-points.auto.1.0 o.order-points.ensures.1 o.order-points.ensures.0;
       before =
           sym (take-take (9 * n) (10 * n) o.order-points.new.1.0 (omega arith))
           ∙ ap (take (9 * n)) o.order-points.ensures.1
           ∙ take-take (9 * n) (10 * n) l.link-points.new.1.0 (omega arith)
           ∙ l.link-points.ensures.1
           ∙ e.ensures.1;
-      length-same = o.order-points.auto.1.0 ∙ l.link-points.auto.1.0 ∙ e.auto.0;
+      length_same = o.order-points.auto.1.0 ∙ l.link-points.auto.1.0 ∙ e.auto.0;
     }
 
 pub build-spec : {M : Type 1} → statement M
 build-spec =
     tie.close
     (tie.spec
-    least-corner-requires
-    scale-for-requires
-    side-for-requires
-    clear-heads-requires
-    link-points-requires
-    order-points-requires
+    least_corner_requires
+    scale_for_requires
+    side_for_requires
+    clear_heads_requires
+    link_points_requires
+    order_points_requires
     same_length
     returns)

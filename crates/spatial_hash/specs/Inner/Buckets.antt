@@ -3,10 +3,10 @@ use Rattle.std.specs.Prelude.{ℕ, zero, suc, ◌+◌, ◌*◌, ◌%◌, ◌≤�
 use Rattle.numbers.specs.Rounded.{◌⊖◌, ◌⊗◌}
 use Rattle.numbers.specs.Cut.{cut}
 use Rattle.vector.specs.declared.Point3f.{Point3f}
-use Rattle.points.specs.Points.{pointAt}
-use Rattle.regions.specs.Inner.Regions.{neighborsAt, usedAt, linksAt}
+use Rattle.points.specs.Points.{point_at}
+use Rattle.regions.specs.Inner.Regions.{neighbors_at, used_at, links_at}
 use Rattle.lists.specs.Lists.{count}
-use Rattle.bucket_order.specs.Inner.Chains.{bucketsListed}
+use Rattle.bucket_order.specs.Inner.Chains.{buckets_listed}
 use Rattle.spatial_hash.specs.declared.Hash.{Hash}
 use Rattle.spatial_hash.specs.declared.Span.{Span}
 
@@ -17,20 +17,20 @@ unfoldable pub slot : Float → Float → Float → ℕ
 slot scale least v = cut ((v ⊖ least) ⊗ scale)
 
 -- a place's row of buckets: what its first two numbers leave when divided by the side, as one number
-unfoldable pub rowFor : Hash → Point3f → ℕ
-rowFor h p = slot h.scale h.least.x p.x % h.side * h.side + slot h.scale h.least.y p.y % h.side
+unfoldable pub row_for : Hash → Point3f → ℕ
+row_for h p = slot h.scale h.least.x p.x % h.side * h.side + slot h.scale h.least.y p.y % h.side
 
 -- its place there: what the third number leaves
-unfoldable pub placeFor : Hash → Point3f → ℕ
-placeFor h p = slot h.scale h.least.z p.z % h.side
+unfoldable pub place_for : Hash → Point3f → ℕ
+place_for h p = slot h.scale h.least.z p.z % h.side
 
 -- a place's bucket; a row has one more than there are remainders, which stays empty
-unfoldable pub bucketOf : Hash → Point3f → ℕ
-bucketOf h p = rowFor h p * (h.side + 1) + placeFor h p
+unfoldable pub bucket_of : Hash → Point3f → ℕ
+bucket_of h p = row_for h p * (h.side + 1) + place_for h p
 
 -- the bucket of point j
-abbrev pub bucketAt : Hash → List Float → ℕ → ℕ
-bucketAt h pts j = bucketOf h (pointAt pts j)
+abbrev pub bucket_at : Hash → List Float → ℕ → ℕ
+bucket_at h pts j = bucket_of h (point_at pts j)
 
 abbrev pub buckets : Hash → ℕ
 buckets h = h.side * h.side * (h.side + 1)
@@ -38,27 +38,27 @@ buckets h = h.side * h.side * (h.side + 1)
 -- ---- who is in a bucket
 
 -- the points' links
-abbrev pub linksOf : ℕ → List ℕ → List ℕ
-linksOf n w = drop (linksAt n) w
+abbrev pub links_of : ℕ → List ℕ → List ℕ
+links_of n w = drop (links_at n) w
 
 -- point j was taken out of its bucket: its link is beyond that of every point
-unfoldable pub isOut : ℕ → List ℕ → ℕ → Bool
-isOut n ls j = ltb n (get_or ls j 0)
+unfoldable pub is_out : ℕ → List ℕ → ℕ → Bool
+is_out n ls j = ltb n (get_or ls j 0)
 
 -- the bucket that point j is in, which is none of the hash's if it was taken out
-unfoldable pub bucketIn : Hash → List Float → ℕ → List ℕ → ℕ → ℕ
-bucketIn h pts n ls j = elim (isOut n ls j) [ true ↦ buckets h | false ↦ bucketAt h pts j ]
+unfoldable pub bucket_in : Hash → List Float → ℕ → List ℕ → ℕ → ℕ
+bucket_in h pts n ls j = elim (is_out n ls j) [ true ↦ buckets h | false ↦ bucket_at h pts j ]
 
 -- ---- the buckets that a walk visits
 
 -- the remainder after r, from m - 1 back to 0
-unfoldable pub nextResidue : ℕ → ℕ → ℕ
-nextResidue m r = elim (eqb (r + 1) m) [ true ↦ 0 | false ↦ r + 1 ]
+unfoldable pub next_residue : ℕ → ℕ → ℕ
+next_residue m r = elim (eqb (r + 1) m) [ true ↦ 0 | false ↦ r + 1 ]
 
 -- k remainders, from r on
 unfoldable pub residues : ℕ → ℕ → ℕ → List ℕ
 residues m r zero = []
-residues m r (suc k) = r ∷ residues m (nextResidue m r) k
+residues m r (suc k) = r ∷ residues m (next_residue m r) k
 
 abbrev pub spanned : ℕ → Span → List ℕ
 spanned m s = residues m s.first s.count
@@ -84,22 +84,22 @@ rows m (p ∷ ps) qs = row m p qs ++ rows m ps qs
 abbrev pub row_of : ℕ → ℕ → Span → List ℕ
 row_of m p zs = row (m + 1) p (spanned m zs)
 
-abbrev pub planeOf : ℕ → ℕ → Span → Span → List ℕ
-planeOf m x ys zs = rows (m + 1) (row m x (spanned m ys)) (spanned m zs)
+abbrev pub plane_of : ℕ → ℕ → Span → Span → List ℕ
+plane_of m x ys zs = rows (m + 1) (row m x (spanned m ys)) (spanned m zs)
 
-abbrev pub bucketsOfBox : ℕ → Span → Span → Span → List ℕ
-bucketsOfBox m xs ys zs = rows (m + 1) (rows m (spanned m xs) (spanned m ys)) (spanned m zs)
+abbrev pub buckets_of_box : ℕ → Span → Span → Span → List ℕ
+buckets_of_box m xs ys zs = rows (m + 1) (rows m (spanned m xs) (spanned m ys)) (spanned m zs)
 
 -- the n points of several buckets of a hash
-abbrev pub pointsIn : Hash → List Float → ℕ → List ℕ → List ℕ → List ℕ
-pointsIn h pts n ls bs = bucketsListed (bucketIn h pts n ls) n bs
+abbrev pub points_in : Hash → List Float → ℕ → List ℕ → List ℕ → List ℕ
+points_in h pts n ls bs = buckets_listed (bucket_in h pts n ls) n bs
 
 -- ---- appending to the list of neighbours
 
 -- js was appended to the first `at` neighbours, r of them in all, and nothing else changed: w before, u after
 pub record Appended (n : ℕ) (w u : List ℕ) (at r : ℕ) (js : List ℕ) : Type 0 where
   pub total : r ≡ at + length js
-  pub appended : take r (drop (neighborsAt n) u) ≡ take at (drop (neighborsAt n) w) ++ js
-  pub before : take (neighborsAt n) u ≡ take (neighborsAt n) w
-  pub after : drop (usedAt n) u ≡ drop (usedAt n) w
-  pub length-same : length u ≡ length w
+  pub appended : take r (drop (neighbors_at n) u) ≡ take at (drop (neighbors_at n) w) ++ js
+  pub before : take (neighbors_at n) u ≡ take (neighbors_at n) w
+  pub after : drop (used_at n) u ≡ drop (used_at n) w
+  pub length_same : length u ≡ length w

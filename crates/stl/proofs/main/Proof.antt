@@ -9,35 +9,35 @@ use Rattle.stl.proofs.main.Lts as lts
 use Rattle.reading.proofs.read_all.Reads as read-all-reads
 use Rattle.stl.proofs.write_patch.Reads as write-patch-reads
 
-slice-aggregate-read-all : tie.Need-slice-aggregate-read-all
-slice-aggregate-read-all c = search rules
+slice_aggregate_read_all : tie.Need-slice-aggregate-read-all
+slice_aggregate_read_all c = search rules
 
-read-all-requires : tie.Need-read-all-requires
-read-all-requires c κs = search rules
+read_all_requires : tie.Need-read-all-requires
+read_all_requires c κs = search rules
 
 returns : tie.Need-returns
 returns c = search rules
 
-array-share-prefix-input : tie.Need-array-share-prefix-input
-array-share-prefix-input c = search rules
+array_share_prefix_input : tie.Need-array-share-prefix-input
+array_share_prefix_input c = search rules
 
-slice-aggregate-write-patch : tie.Need-slice-aggregate-write-patch
-slice-aggregate-write-patch c = simp length-take (omega arith)
+slice_aggregate_write_patch : tie.Need-slice-aggregate-write-patch
+slice_aggregate_write_patch c = simp length-take (omega arith)
 
-write-patch-requires : tie.Need-write-patch-requires
-write-patch-requires c κs = search rules
+write_patch_requires : tie.Need-write-patch-requires
+write_patch_requires c κs = search rules
 
-returns-2 : tie.Need-returns-2
-returns-2 c = search rules
+returns_2 : tie.Need-returns-2
+returns_2 c = search rules
 
 pub main_spec : {M : Type 1} → statement M
 main_spec =
     tie.close
     (tie.spec
-    slice-aggregate-read-all
-    read-all-requires
+    slice_aggregate_read_all
+    read_all_requires
     returns
-    array-share-prefix-input
-    slice-aggregate-write-patch
-    write-patch-requires
-    returns-2)
+    array_share_prefix_input
+    slice_aggregate_write_patch
+    write_patch_requires
+    returns_2)

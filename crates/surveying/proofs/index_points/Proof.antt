@@ -1,23 +1,23 @@
 -- The index is the definition's, and the slice is ready for the searches. Assumes nothing.
 use mathlib.Core.Path.{refl}
 use native.Mathlib.Omega.{arith}
-use Rattle.ball_pivoting.specs.Reconstruct.{spatialIndexOf, scene_of}
-use Rattle.ball_pivoting.proofs.Found.{all-searchable}
+use Rattle.ball_pivoting.specs.Reconstruct.{spatial_index_of, scene_of}
+use Rattle.ball_pivoting.proofs.Found.{all_searchable}
 use borrow.Author.Rules.{rules}
 use Rattle.surveying.proofs.index_points.Statement.{statement}
 use Rattle.surveying.proofs.index_points.Tie as tie
 
-build-spatial-grid-requires : tie.Need-build-spatial-grid-requires
-build-spatial-grid-requires c κs = search rules
+build_spatial_grid_requires : tie.Need-build-spatial-grid-requires
+build_spatial_grid_requires c κs = search rules
 
-build-requires : tie.Need-build-requires
-build-requires c κs =
+build_requires : tie.Need-build-requires
+build_requires c κs =
     let h = c.before.before.before.before.before.before.before.before.before.requires in
     record {
       few = h.few;
-      points-long = omega
+      points_long = omega
           (arith, h.threes);
-      work-long = c.before.before.before.before.build-spatial-grid.ensures.1.room;
+      work_long = c.before.before.before.before.build-spatial-grid.ensures.1.room;
       numbers = h.numbers;
     }
 
@@ -25,12 +25,12 @@ same_length : tie.Need-same-length
 same_length c = search rules
 
 returns : tie.Need-returns
-unfolding spatialIndexOf scene_of
+unfolding spatial_index_of scene_of
 returns c = (
   cc,
-  all-searchable refl c.before.before.before.before.before.before.before.before.before.before.before.before.requires
+  all_searchable refl c.before.before.before.before.before.before.before.before.before.before.before.before.requires
       c.before.before.before.before.before.before.before.build-spatial-grid.ensures.1 c.before.before.build.ensures,
 )
 
 pub index-points-spec : {M : Type 1} → statement M
-index-points-spec = tie.close (tie.spec build-spatial-grid-requires build-requires same_length returns)
+index-points-spec = tie.close (tie.spec build_spatial_grid_requires build_requires same_length returns)

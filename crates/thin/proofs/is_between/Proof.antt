@@ -1,15 +1,15 @@
 -- `is_between` meets its contract.
-use Rattle.thin.specs.Inner.Thin.{squareBetween}
+use Rattle.thin.specs.Inner.Thin.{square_between}
 use Rattle.thin.proofs.is_between.Statement.{statement}
 use Rattle.thin.proofs.is_between.Tie as tie
 
 returns : tie.Need-returns
-unfolding squareBetween
+unfolding square_between
 returns c = rw c.if1.true
 
-returns-2 : tie.Need-returns-2
-unfolding squareBetween
-returns-2 c = rw c.if1.false
+returns_2 : tie.Need-returns-2
+unfolding square_between
+returns_2 c = rw c.if1.false
 
 pub is-between-spec : {M : Type 1} → statement M
-is-between-spec = tie.close (tie.spec returns returns-2)
+is-between-spec = tie.close (tie.spec returns returns_2)

@@ -5,28 +5,28 @@ use lib.Ieee.{le}
 use borrow.Author.Rules.{rules}
 use borrow.Author.Tests.{not-false}
 use Rattle.numbers.specs.Rounded.{f32}
-use Rattle.thin.proofs.Thin.{thin-up-to}
+use Rattle.thin.proofs.Thin.{thin_up_to}
 use Rattle.thin.proofs.is_thin.Statement.{statement}
 use Rattle.thin.proofs.is_thin.Tie as tie
 
 returns : tie.Need-returns
 returns c = λ h. absurd (subst T (sym h) tt)
 
-is-plain-requires : tie.Need-is-plain-requires
-is-plain-requires c κs = search rules
+is_plain_requires : tie.Need-is-plain-requires
+is_plain_requires c κs = search rules
 
-returns-2 : tie.Need-returns-2
-returns-2 c = λ h. absurd (subst T (sym h) tt)
+returns_2 : tie.Need-returns-2
+returns_2 c = λ h. absurd (subst T (sym h) tt)
 
-spread-requires : tie.Need-spread-requires
-spread-requires c κs = search rules
+spread_requires : tie.Need-spread-requires
+spread_requires c κs = search rules
 
-returns-3 : tie.Need-returns-3
-returns-3 c =
+returns_3 : tie.Need-returns-3
+returns_3 c =
     let plain = c.before.before in
     let s = plain.before.before in
     λ h.
-    thin-up-to s.args.a s.args.b s.args.c s.args.cross s.args.limit (subst T (sym s.well-formed.0.1) tt) (subst T (sym s.well-formed.1.0.1) tt)
+    thin_up_to s.args.a s.args.b s.args.c s.args.cross s.args.limit (subst T (sym s.well-formed.0.1) tt) (subst T (sym s.well-formed.1.0.1) tt)
     (subst T (sym s.well-formed.1.1.0.1) tt)
     (subst T (sym s.well-formed.1.1.1.0.1) tt) (subst T (sym s.well-formed.1.1.1.1.0.1) tt)
     (rw (not-false (le (f32 0x35800000) s.args.limit) plain.before.if1.false) tt)
@@ -34,4 +34,4 @@ returns-3 c =
     (rw (← c.spread.ensures, h) tt)
 
 pub is-thin-spec : {M : Type 1} → statement M
-is-thin-spec = tie.close (tie.spec returns is-plain-requires returns-2 spread-requires returns-3)
+is-thin-spec = tie.close (tie.spec returns is_plain_requires returns_2 spread_requires returns_3)

@@ -10,15 +10,15 @@ use Rattle.numbers.specs.Order.{minimum}
 use Rattle.quality.specs.Measures.{half}
 use Rattle.quality.specs.Inner.Shape.{shape_of}
 
-unfoldable pub squareBetween : Float → Float → Float → Bool
-squareBetween x lo hi = le lo x && le x hi
+unfoldable pub square_between : Float → Float → Float → Bool
+square_between x lo hi = le lo x && le x hi
 
 -- the squares that are measured: of lengths from 2 ^ -20 to 2 ^ 13, and of a cross product from 2 ^ -30 to 2 ^ 30
-unfoldable pub isPlainTriangle : Float → Float → Float → Float → Bool
-isPlainTriangle a b c cross =
-    squareBetween a (f32 0x2b800000) (f32 0x4c800000)
-    && (squareBetween b (f32 0x2b800000) (f32 0x4c800000)
-    && (squareBetween c (f32 0x2b800000) (f32 0x4c800000) && squareBetween cross (f32 0x21800000) (f32 0x5d800000)))
+unfoldable pub is_plain_triangle : Float → Float → Float → Float → Bool
+is_plain_triangle a b c cross =
+    square_between a (f32 0x2b800000) (f32 0x4c800000)
+    && (square_between b (f32 0x2b800000) (f32 0x4c800000)
+    && (square_between c (f32 0x2b800000) (f32 0x4c800000) && square_between cross (f32 0x21800000) (f32 0x5d800000)))
 
 -- at most the square of the sum of the lengths whose squares are a, b and c, but for rounding
 unfoldable pub spread : Float → Float → Float → Float

@@ -8,8 +8,8 @@ use Rattle.tracing.proofs.put_word.Tie as tie
 mul_words : tie.Need-overflow-mul-words
 mul_words c = search rules
 
-slice-write-words : tie.Need-slice-write-words
-slice-write-words c = search rules
+slice_write_words : tie.Need-slice-write-words
+slice_write_words c = search rules
 
 same_length : tie.Need-same-length
 same_length c = search rules
@@ -17,8 +17,8 @@ same_length c = search rules
 returns : tie.Need-returns
 returns c = search rules
 
-returns-2 : tie.Need-returns-2
-returns-2 c = sym (set_out _ _ _ c.if1.false)
+returns_2 : tie.Need-returns-2
+returns_2 c = sym (set_out _ _ _ c.if1.false)
 
 pub put-word-spec : {M : Type 1} → statement M
-put-word-spec = tie.close (tie.spec mul_words slice-write-words same_length returns returns-2)
+put-word-spec = tie.close (tie.spec mul_words slice_write_words same_length returns returns_2)

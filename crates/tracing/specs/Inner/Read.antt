@@ -3,10 +3,10 @@ use Rattle.std.specs.Prelude.{ℕ, zero, suc, ◌+◌, ◌*◌, List, [], ◌∷
 use Rattle.patch.specs.Lay.{Face, face}
 
 -- face k
-abbrev pub faceOf : List ℕ → ℕ → Face
-faceOf slice k = face (get_or slice (3 * k) 0) (get_or slice (3 * k + 1) 0) (get_or slice (3 * k + 2) 0)
+abbrev pub face_of : List ℕ → ℕ → Face
+face_of slice k = face (get_or slice (3 * k) 0) (get_or slice (3 * k + 1) 0) (get_or slice (3 * k + 2) 0)
 
 -- m faces, from number k on
-unfoldable pub facesFrom : List ℕ → ℕ → ℕ → List Face
-facesFrom slice k zero = []
-facesFrom slice k (suc m) = faceOf slice k ∷ facesFrom slice (k + 1) m
+unfoldable pub faces_from : List ℕ → ℕ → ℕ → List Face
+faces_from slice k zero = []
+faces_from slice k (suc m) = face_of slice k ∷ faces_from slice (k + 1) m

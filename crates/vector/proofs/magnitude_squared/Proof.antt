@@ -1,10 +1,10 @@
 -- `magnitude_squared` meets its contract.
-use Rattle.vector.specs.Vector.{magnitudeSquared}
+use Rattle.vector.specs.Vector.{magnitude_squared}
 use Rattle.vector.proofs.magnitude_squared.Statement.{statement}
 use Rattle.vector.proofs.magnitude_squared.Tie as tie
 
 returns : tie.Need-returns
-unfolding magnitudeSquared
+unfolding magnitude_squared
 returns c = cc
 
 pub magnitude-squared-spec : {M : Type 1} → statement M

@@ -5,6 +5,6 @@ use Rattle.vector.specs.declared.Point3f.{Point3f}
 
 -- a point whose coordinates are numbers
 pub record Finite (p : Point3f) : Type 0 where
-  pub x-finite : T (finite p.x)
-  pub y-finite : T (finite p.y)
-  pub z-finite : T (finite p.z)
+  pub x_finite : T (finite p.x)
+  pub y_finite : T (finite p.y)
+  pub z_finite : T (finite p.z)

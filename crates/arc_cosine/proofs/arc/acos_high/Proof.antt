@@ -1,21 +1,21 @@
 -- `acos_high` meets its contract.
-use Rattle.numbers.specs.Acos.{acosHigh}
+use Rattle.numbers.specs.Acos.{acos_high}
 use borrow.Author.Rules.{rules}
 use Rattle.arc_cosine.proofs.arc.acos_high.Statement.{statement}
 use Rattle.arc_cosine.proofs.arc.acos_high.Tie as tie
 
-sqrt-requires : tie.Need-sqrt-requires
-sqrt-requires c κs = search rules
+sqrt_requires : tie.Need-sqrt-requires
+sqrt_requires c κs = search rules
 
-clear-low-requires : tie.Need-clear-low-requires
-clear-low-requires c κs = search rules
+clear_low_requires : tie.Need-clear-low-requires
+clear_low_requires c κs = search rules
 
-ratio-requires : tie.Need-ratio-requires
-ratio-requires c κs = search rules
+ratio_requires : tie.Need-ratio-requires
+ratio_requires c κs = search rules
 
 returns : tie.Need-returns
-unfolding acosHigh
+unfolding acos_high
 returns c = cc
 
 pub acos-high-spec : {M : Type 1} → statement M
-acos-high-spec = tie.close (tie.spec sqrt-requires clear-low-requires ratio-requires returns)
+acos-high-spec = tie.close (tie.spec sqrt_requires clear_low_requires ratio_requires returns)

@@ -8,35 +8,35 @@ use lib.Ieee.{binary32, to_bits}
 use lib.Ieee.Bits.{nan_bits_above}
 use borrow.Author.Tests.{le-ltb}
 use borrow.Author.Rules.{rules}
-use Rattle.numbers.specs.Acos.{highPart}
-use Rattle.numbers.proofs.Compare.{is-nan}
-use Rattle.numbers.proofs.RootSpecial.{not-self, pattern_lt, pattern-le}
+use Rattle.numbers.specs.Acos.{high_part}
+use Rattle.numbers.proofs.Compare.{is_nan}
+use Rattle.numbers.proofs.RootSpecial.{not_self, pattern_lt, pattern_le}
 use Rattle.arc_cosine.proofs.arc.clear_low.Statement.{statement}
 use Rattle.arc_cosine.proofs.arc.clear_low.Tie as tie
 
 returns : tie.Need-returns
-unfolding highPart
-returns c = rw (is-nan, c.if1.true)
+unfolding high_part
+returns c = rw (is_nan, c.if1.true)
 
-float-to-bits-b : tie.Need-float-to-bits-b
-float-to-bits-b c = not-self _ c.if1.false
+float_to_bits_b : tie.Need-float-to-bits-b
+float_to_bits_b c = not_self _ c.if1.false
 
-sub-result : tie.Need-overflow-sub-result
-sub-result c = search rules
+sub_result : tie.Need-overflow-sub-result
+sub_result c = search rules
 
-float-from-bits-result : tie.Need-float-from-bits-result
-float-from-bits-result c =
+float_from_bits_result : tie.Need-float-from-bits-result
+float_from_bits_result c =
     let s = c.before.args.s in
     let b = to_bits binary32 s in
     let held = subst T (sym c.before.well-formed.0.1) tt in
     let e = nan_bits_above binary32 (b - b % 4096) ∙ le-ltb 2139095040 ((b - b % 4096) % 2147483648)
-    (omega (arith, pattern-le s held (not-self s c.if1.false), pattern_lt s held)) in
+    (omega (arith, pattern_le s held (not_self s c.if1.false), pattern_lt s held)) in
     subst (λ (t : Bool). T (not t)) (sym e) tt
 
-returns-2 : tie.Need-returns-2
-unfolding highPart
-returns-2 c = rw (is-nan, c.if1.false)
+returns_2 : tie.Need-returns-2
+unfolding high_part
+returns_2 c = rw (is_nan, c.if1.false)
 
 pub clear-low-spec : {M : Type 1} → statement M
 clear-low-spec =
-    tie.close (tie.spec returns float-to-bits-b sub-result float-from-bits-result returns-2)
+    tie.close (tie.spec returns float_to_bits_b sub_result float_from_bits_result returns_2)

@@ -6,67 +6,67 @@ use borrow.Author.Rules.{rules}
 use lib.ListN.{length, drop}
 use mathlib.Core.Path.{◌≡◌}
 use Rattle.numerals.specs.Format.{parsed}
-use Rattle.cloud_lines.specs.Format.{pointFields}
+use Rattle.cloud_lines.specs.Format.{point_fields}
 use Rattle.cloud_lines.specs.declared.line.Point.{Point}
-use Rattle.cloud.proofs.Lines.{Counting, counting-start, counting-end, counting-wrong, counting-next}
-use Rattle.cloud_lines.proofs.Bare.{skipped, skipped-not}
-use Rattle.cloud_lines.proofs.Shorter.{point-shorter}
+use Rattle.cloud.proofs.Lines.{Counting, counting_start, counting_end, counting_wrong, counting_next}
+use Rattle.cloud_lines.proofs.Bare.{skipped, skipped_not}
+use Rattle.cloud_lines.proofs.Shorter.{point_shorter}
 use Rattle.cloud.proofs.point_lines.count_points.Statement.{statement}
 use Rattle.cloud.proofs.point_lines.count_points.Tie as tie
 
-abbrev invariant-loop : tie.invariant-loop
-invariant-loop s from count₀ at₀ count at = Counting s from count at
+abbrev invariant_loop : tie.invariant-loop
+invariant_loop s from count₀ at₀ count at = Counting s from count at
 
-abbrev decreases-loop : tie.decreases-loop
-decreases-loop s from count₀ at₀ count at = length s - at
+abbrev decreases_loop : tie.decreases-loop
+decreases_loop s from count₀ at₀ count at = length s - at
 
 -- the line that was skipped
-line : (c : tie.Else1 invariant-loop decreases-loop) → (p : Point)
-    × (pointFields (drop c.before.before.before.loop.at c.before.before.before.before.before.args.s.now)
+line : (c : tie.Else1 invariant_loop decreases_loop) → (p : Point)
+    × (point_fields (drop c.before.before.before.loop.at c.before.before.before.before.before.args.s.now)
     ≡ parsed p (drop c.before.skip-point.result c.before.before.before.before.before.args.s.now))
 line c =
-    let s = c.before.before.before.before.before.args.s.now in skipped s _ (pointFields (drop c.before.before.before.loop.at s))
+    let s = c.before.before.before.before.before.args.s.now in skipped s _ (point_fields (drop c.before.before.before.loop.at s))
     c.before.skip-point.ensures c.if1.false
 
-loop-holds : tie.Need-loop-init invariant-loop decreases-loop
-loop-holds c = counting-start _ _
+loop_holds : tie.Need-loop-init invariant_loop decreases_loop
+loop_holds c = counting_start _ _
 
-skip-point-requires : tie.Need-skip-point-requires invariant-loop decreases-loop
-skip-point-requires c κs = search rules
+skip_point_requires : tie.Need-skip-point-requires invariant_loop decreases_loop
+skip_point_requires c κs = search rules
 
-add-t8 : tie.Need-overflow-add-t8 invariant-loop decreases-loop
-add-t8 c = let i = c.before.before.before.loop.invariant.few in omega arith
+add_t8 : tie.Need-overflow-add-t8 invariant_loop decreases_loop
+add_t8 c = let i = c.before.before.before.loop.invariant.few in omega arith
 
-returns : tie.Need-returns invariant-loop decreases-loop
+returns : tie.Need-returns invariant_loop decreases_loop
 returns c =
-    counting-wrong _ _ _ _ c.before.before.before.loop.invariant c.before.before.loop-test.true
-    (skipped-not _ _ _ c.before.skip-point.ensures c.if1.true)
+    counting_wrong _ _ _ _ c.before.before.before.loop.invariant c.before.before.loop-test.true
+    (skipped_not _ _ _ c.before.skip-point.ensures c.if1.true)
 
-add-count : tie.Need-overflow-add-count invariant-loop decreases-loop
-add-count c = let i = c.before.before.before.loop.invariant.few in omega arith
+add_count : tie.Need-overflow-add-count invariant_loop decreases_loop
+add_count c = let i = c.before.before.before.loop.invariant.few in omega arith
 
-loop-less : tie.Need-loop-smaller invariant-loop decreases-loop
-loop-less c =
-    let p = line c in let h = point-shorter c.before.before.before.before.before.args.s.now c.before.before.before.loop.at
+loop_less : tie.Need-loop-smaller invariant_loop decreases_loop
+loop_less c =
+    let p = line c in let h = point_shorter c.before.before.before.before.before.args.s.now c.before.before.before.loop.at
     c.before.skip-point.result p.0 p.1 in omega arith
 
-loop-again : tie.Need-loop-preserved invariant-loop decreases-loop
-loop-again c = let p = line c in counting-next _ _ _ _ c.before.before.before.loop.invariant c.before.before.loop-test.true p.0 _ p.1
+loop_again : tie.Need-loop-preserved invariant_loop decreases_loop
+loop_again c = let p = line c in counting_next _ _ _ _ c.before.before.before.loop.invariant c.before.before.loop-test.true p.0 _ p.1
 
-returns-2 : tie.Need-returns-2 invariant-loop decreases-loop
-returns-2 c = counting-end _ _ _ _ c.before.loop.invariant c.loop-test.false
+returns_2 : tie.Need-returns-2 invariant_loop decreases_loop
+returns_2 c = counting_end _ _ _ _ c.before.loop.invariant c.loop-test.false
 
 pub count-points-spec : {M : Type 1} → statement M
 count-points-spec =
     tie.close
     (tie.spec
-    invariant-loop
-    decreases-loop
-    loop-holds
-    skip-point-requires
-    add-t8
+    invariant_loop
+    decreases_loop
+    loop_holds
+    skip_point_requires
+    add_t8
     returns
-    add-count
-    loop-less
-    loop-again
-    returns-2)
+    add_count
+    loop_less
+    loop_again
+    returns_2)

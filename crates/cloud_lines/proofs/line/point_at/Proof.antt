@@ -3,66 +3,66 @@ use mathlib.Core.Path.{◌≡◌}
 use native.Mathlib.Omega.{arith}
 use borrow.Author.Rules.{rules}
 use lib.ListN.{drop}
-use Rattle.cloud_lines.specs.Inner.Answers.{pointMeans, pointEnd}
+use Rattle.cloud_lines.specs.Inner.Answers.{point_means, point_end}
 use Rattle.numerals.specs.Format.{parsed, then}
-use Rattle.cloud_lines.specs.Format.{triple, pointFields}
-use Rattle.cloud_lines.proofs.Means.{triple-got, triple-not, triple-within}
+use Rattle.cloud_lines.specs.Format.{triple, point_fields}
+use Rattle.cloud_lines.proofs.Means.{triple_got, triple_not, triple_within}
 use Rattle.cloud_lines.proofs.line.point_at.Statement.{statement}
 use Rattle.cloud_lines.proofs.line.point_at.Tie as tie
 
 -- the triples that were read
-position-read : (c : tie.After-position) → triple 44 (drop c.before.before.before.before.args.at c.before.before.before.before.args.s.now)
+position_read : (c : tie.After-position) → triple 44 (drop c.before.before.before.before.args.at c.before.before.before.before.args.s.now)
     ≡ parsed c.position.given.0.0 (drop c.position.given.0.1.0 c.before.before.before.before.args.s.now)
-position-read c = triple-got c.before.before.before.before.args.s.now _ _ _ _ c.before.before.triple-at.ensures.0 c.position.given.1
+position_read c = triple_got c.before.before.before.before.args.s.now _ _ _ _ c.before.before.triple-at.ensures.0 c.position.given.1
 
-normal-read : (c : tie.After-normal)
+normal_read : (c : tie.After-normal)
     → triple 10 (drop c.before.before.before.before.position.given.0.1.0
     c.before.before.before.before.before.before.before.before.args.s.now)
     ≡ parsed c.normal.given.0.0
     (drop c.normal.given.0.1.0 c.before.before.before.before.before.before.before.before.args.s.now)
-normal-read c =
-    triple-got c.before.before.before.before.before.before.before.before.args.s.now _ _ _ _ c.before.before.triple-at2.ensures.0
+normal_read c =
+    triple_got c.before.before.before.before.before.before.before.before.args.s.now _ _ _ _ c.before.before.triple-at2.ensures.0
     c.normal.given.1
 
-triple-at-requires : tie.Need-triple-at-requires
-triple-at-requires c κs = search rules
+triple_at_requires : tie.Need-triple-at-requires
+triple_at_requires c κs = search rules
 
-enum-known-position : tie.Need-enum-known-position
-enum-known-position c = search rules
+enum_known_position : tie.Need-enum-known-position
+enum_known_position c = search rules
 
 enum_told : tie.Need-enum-told
 enum_told c = search rules
 
 returns : tie.Need-returns
-unfolding pointMeans pointEnd pointFields then
+unfolding point_means point_end point_fields then
 returns c =
-    (rw (triple-not c.before.before.before.before.args.s.now _ _ c.before.before.triple-at.ensures.0 c.enum_told.given.1), omega arith)
+    (rw (triple_not c.before.before.before.before.args.s.now _ _ c.before.before.triple-at.ensures.0 c.enum_told.given.1), omega arith)
 
-triple-at-requires-2 : tie.Need-triple-at-requires-2
-triple-at-requires-2 c κs = search rules
+triple_at_requires_2 : tie.Need-triple-at-requires-2
+triple_at_requires_2 c κs = search rules
 
-enum-known-normal : tie.Need-enum-known-normal
-enum-known-normal c = search rules
+enum_known_normal : tie.Need-enum-known-normal
+enum_known_normal c = search rules
 
-enum-told-2 : tie.Need-enum-told-2
-enum-told-2 c = search rules
+enum_told_2 : tie.Need-enum-told-2
+enum_told_2 c = search rules
 
-returns-2 : tie.Need-returns-2
-unfolding pointMeans pointEnd pointFields then
-returns-2 c = (
+returns_2 : tie.Need-returns-2
+unfolding point_means point_end point_fields then
+returns_2 c = (
   rw (
-    position-read c.before.before.before.before,
-    triple-not c.before.before.before.before.before.before.before.before.args.s.now _ _
+    position_read c.before.before.before.before,
+    triple_not c.before.before.before.before.before.before.before.before.args.s.now _ _
         c.before.before.triple-at2.ensures.0 c.enum-told2.given.1,
   ),
   omega arith,
 )
 
-returns-3 : tie.Need-returns-3
-unfolding pointMeans pointEnd pointFields then
-returns-3 c = (
-  rw (position-read c.before.before.before.before.before, normal-read c.before),
-  triple-within _ _ _ _
+returns_3 : tie.Need-returns-3
+unfolding point_means point_end point_fields then
+returns_3 c = (
+  rw (position_read c.before.before.before.before.before, normal_read c.before),
+  triple_within _ _ _ _
       c.before.before.before.triple-at2.ensures.1 c.before.normal.given.1,
 )
 
@@ -70,12 +70,12 @@ pub point-at-spec : {M : Type 1} → statement M
 point-at-spec =
     tie.close
     (tie.spec
-    triple-at-requires
-    enum-known-position
+    triple_at_requires
+    enum_known_position
     enum_told
     returns
-    triple-at-requires-2
-    enum-known-normal
-    enum-told-2
-    returns-2
-    returns-3)
+    triple_at_requires_2
+    enum_known_normal
+    enum_told_2
+    returns_2
+    returns_3)

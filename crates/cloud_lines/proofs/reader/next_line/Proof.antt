@@ -120,8 +120,8 @@ module _ {M : Type 1} {𝓤 : Ura M} (𝓛 : Logic 𝓤) (mem : Memory → SProp
   abbrev LV : LL.Laws DV
   LV = N'.the_laws (named_lft 1 0 tt (κ, tt))
 
-  abbrev movedVal : Step → Val
-  movedVal t = LL.val DV LV (moved t)
+  abbrev moved_val : Step → Val
+  moved_val t = LL.val DV LV (moved t)
 
   -- what the callee is passed
   abbrev passed : Vals at_place.signature (κ, tt)
@@ -159,17 +159,17 @@ module _ {M : Type 1} {𝓤 : Ura M} (𝓛 : Logic 𝓤) (mem : Memory → SProp
     read_is : Is R.the_row t.read (EL.val R.the_type R'.the_laws t.read ∷ [])
     read_is = (LL.owed S.the_type S'.the_laws t _ is).0
 
-    reader-is : Is (B (κ, tt)) (moved t).reader (T'.lowered (moved t).reader ∷ [])
-    reader-is = LL.owes D L (moved t).reader ((LL.owed D L d _ isd).0, ((refl, small), tt))
+    reader_is : Is (B (κ, tt)) (moved t).reader (T'.lowered (moved t).reader ∷ [])
+    reader_is = LL.owes D L (moved t).reader ((LL.owed D L d _ isd).0, ((refl, small), tt))
 
-    moved-is : Is (N.the_row (named_lft 1 0 tt (κ, tt))) (moved t) (movedVal t ∷ [])
-    moved-is = LL.owes DV LV (moved t) (reader-is, (read_is, tt))
+    moved_is : Is (N.the_row (named_lft 1 0 tt (κ, tt))) (moved t) (moved_val t ∷ [])
+    moved_is = LL.owes DV LV (moved t) (reader_is, (read_is, tt))
 
-    exits : Found t → ent 𝓤 (⋆ 𝓛 ((‵ (flft κ q) ⊛ ‵ ftrue) ∷ ‵ Own ∷ [])) (Post (movedVal t))
+    exits : Found t → ent 𝓤 (⋆ 𝓛 ((‵ (flft κ q) ⊛ ‵ ftrue) ∷ ‵ Own ∷ [])) (Post (moved_val t))
     exits e =
         qed 𝓛 ((‵ (flft κ q) ⊛ ‵ ftrue) ∷ ‵ Own ∷ []) ∵
         suffices ! _ (ends_at 𝓛 next-line.ended stayed (next-line.clauses 𝓛 mem run) (((κ, tt), (q, tt), tt, (d, tt), (mach ∷ [], tt)), tt)
-        (movedVal t) (moved t) (tt, tt) (tt, tt)) $ says ! (refl, e) $
+        (moved_val t) (moved t) (tt, tt) (tt, tt)) $ says ! (refl, e) $
         frame ! $ use1 𝓛 (‵ Own ⊛ ‵ Own) ((LL.copy D (T'.the_copy (named_lft 1 0 tt (κ, tt))) 𝓛).twice d (mach ∷ [])) $ split ! $ nothing ! $ move !
         (1 ∷ 0 ∷ []) $ fjoin ! $ frame ! $
         -- [what the reader owns]: with the new place's facts in at's stead, and the line's beside it, it is what the result owns
@@ -206,7 +206,7 @@ module _ {M : Type 1} {𝓤 : Ura M} (𝓛 : Logic 𝓤) (mem : Memory → SProp
         (init ! 2 refl (tt, (wt.1.0, (record { fits = small isd t u is }, tt)))) $
         assigns ! (agg ! (and_then ! (load ! (from ! (stop !)) (look ! 2 refl))
         (and_then ! (load ! (from ! (fld ! refl (stop !))) (look_in ! 10 (sub ! 0 refl (whole !)))) (no_more !)))) (from ! (stop !))
-        (init ! 14 refl ((LL.lawful DV LV 𝓛).typed (moved t) _ (moved-is isd t u is)).0) $
+        (init ! 14 refl ((LL.lawful DV LV 𝓛).typed (moved t) _ (moved_is isd t u is)).0) $
         returns ! (look ! 14 refl) $ forget ! 2 refl $ forget ! 4 refl $ forget ! 6 refl $ forget ! 8 refl $ forget ! 10 refl $ forget ! 12 refl $ forget ! 14
         refl $
         move ! (14 ∷ 15 ∷ []) $ free1 ! $ move ! (12 ∷ 13 ∷ []) $ free1 ! $ move ! (10 ∷ 11 ∷ []) $ free1 ! $ move ! (8 ∷ 9 ∷ []) $ free1 ! $ move !
@@ -216,28 +216,28 @@ module _ {M : Type 1} {𝓤 : Ura M} (𝓛 : Logic 𝓤) (mem : Memory → SProp
 module _ {M : Type 1} {𝓤 : Ura M} (𝓛 : Logic 𝓤) (mem : Memory → SProp 𝓤) (run : Routine → Fun 𝓤) where
   open 𝓛 use {H}
 
-  next-line-walks : (C : Calls 𝓤 H) (Λ : Loops 𝓤 H) → FmC 𝓤 H 𝓛.laws C → Triple 𝓤 (C #cloud-lines·reader·step-at) (StepAt 𝓛 mem run)
+  next_line_walks : (C : Calls 𝓤 H) (Λ : Loops 𝓤 H) → FmC 𝓤 H 𝓛.laws C → Triple 𝓤 (C #cloud-lines·reader·step-at) (StepAt 𝓛 mem run)
       → Walks 𝓛 next-line.ended stayed (WpFn 𝓤 H C Λ code.function) (next-line.clauses 𝓛 mem run)
-  next-line-walks C Λ fm known = walked 𝓛 next-line.ended stayed (next-line.clauses 𝓛 mem run) (WpFn 𝓤 H C Λ code.function)
+  next_line_walks C Λ fm known = walked 𝓛 next-line.ended stayed (next-line.clauses 𝓛 mem run) (WpFn 𝓤 H C Λ code.function)
       (λ κs. (LL.vals (T.the_type (named_lft 1 0 tt κs)) (T'.the_laws (named_lft 1 0 tt κs)), tt))
       (λ κs. (LL.tells (T.the_type (named_lft 1 0 tt κs)) (T'.the_laws (named_lft 1 0 tt κs)), tt))
       (λ κs qs bounds a g are. via 𝓤 _ (fst∗ 𝓤 _ (emp 𝓤))
       (walk 𝓛 mem run κs.0 qs.0 a.0 C Λ fm known are.0
       ((LL.lawful (T.the_type (named_lft 1 0 tt κs)) (T'.the_laws (named_lft 1 0 tt κs)) 𝓛).typed a.0 _ are.0).0))
 
-next-line-meets : {M : Type 1} {𝓤 : Ura M} (𝓛 : Logic 𝓤) (mem : Memory → SProp 𝓤) (run : Routine → Fun 𝓤) (𝓣 : Tables 𝓤 𝓛.H)
+next_line_meets : {M : Type 1} {𝓤 : Ura M} (𝓛 : Logic 𝓤) (mem : Memory → SProp 𝓤) (run : Routine → Fun 𝓤) (𝓣 : Tables 𝓤 𝓛.H)
     → Triple 𝓤 (𝓣.C #cloud-lines·reader·step-at) (StepAt 𝓛 mem run)
     → Meets 𝓛 next-line.signature (WpFn 𝓤 𝓛.H 𝓣.C 𝓣.Λ code.function) (next-line.spec 𝓛 mem run)
-next-line-meets {𝓤 = 𝓤} 𝓛 mem run 𝓣 known =
+next_line_meets {𝓤 = 𝓤} 𝓛 mem run 𝓣 known =
     walk_Meets 𝓛 next-line.ended stayed (Goes-none 𝓛 1 B yes (λ κs x f. refl), tt) (next-line.clauses 𝓛 mem run)
     (WpFn 𝓤 𝓛.H 𝓣.C 𝓣.Λ code.function) (WpFn-mono 𝓤 𝓛.H 𝓛.laws 𝓣 code.function)
-    (next-line-walks 𝓛 mem run 𝓣.C 𝓣.Λ (fm_of 𝓤 𝓛.H 𝓛.laws 𝓣) known)
+    (next_line_walks 𝓛 mem run 𝓣.C 𝓣.Λ (fm_of 𝓤 𝓛.H 𝓛.laws 𝓣) known)
 
 pub next-line-spec : {M : Type 1} → stated.statement M
 unfolding code.routine tables_of
 next-line-spec 𝓤 𝓛 𝓜 𝓡 =
     entered 𝓤 𝓛.H (triple_of 𝓛 next-line.signature (next-line.spec 𝓛 𝓜.mem 𝓡.run))
     (tables 𝓤 𝓛.H 𝓜 𝓡 code.env).C (tables 𝓤 𝓛.H 𝓜 𝓡 code.env).Λ #cloud-lines·reader·next-line code.function (code.unfolded 𝓤 𝓛.H 𝓜 𝓡)
-    (next-line-meets 𝓛 𝓜.mem 𝓡.run (tables_of 𝓤 𝓛.H 𝓜 (tables 𝓤 𝓛.H 𝓜 𝓡 code.env))
+    (next_line_meets 𝓛 𝓜.mem 𝓡.run (tables_of 𝓤 𝓛.H 𝓜 (tables 𝓤 𝓛.H 𝓜 𝓡 code.env))
     (cited 𝓤 𝓛.H (StepAt 𝓛 𝓜.mem 𝓡.run) 𝓜 𝓡 code.env #cloud-lines·reader·step-at at-place-def.routine code.calls-cloud-lines::reader::step-at
     (at-place-thm.met 𝓤 𝓛 𝓜 𝓡)))

@@ -1,15 +1,15 @@
 -- `cloud_lines::reader::step_at` meets its contract: behind a line that was read lie the bytes that are left. Assumes
 -- nothing.
 use borrow.Author.Rules.{rules}
-use Rattle.cloud_lines.proofs.Means.{stepped_line, stepped-not}
+use Rattle.cloud_lines.proofs.Means.{stepped_line, stepped_not}
 use Rattle.cloud_lines.proofs.reader.step_at.Statement.{statement}
 use Rattle.cloud_lines.proofs.reader.step_at.Tie as tie
 
-point-at-requires : tie.Need-point-at-requires
-point-at-requires c κs = search rules
+point_at_requires : tie.Need-point-at-requires
+point_at_requires c κs = search rules
 
-enum-known-point : tie.Need-enum-known-point
-enum-known-point c = search rules
+enum_known_point : tie.Need-enum-known-point
+enum_known_point c = search rules
 
 enum_told : tie.Need-enum-told
 enum_told c = search rules
@@ -20,10 +20,10 @@ returns c =
     let e = c.before.before.before.point_at.ensures in
     stepped_line a.s.now a.at _ _ _ e.0 e.1 c.before.point.given.1
 
-returns-2 : tie.Need-returns-2
-returns-2 c =
+returns_2 : tie.Need-returns-2
+returns_2 c =
     let a = c.before.before.before.before.args in
-    stepped-not a.s.now a.at _ c.before.before.point_at.ensures.0 c.enum_told.given.1
+    stepped_not a.s.now a.at _ c.before.before.point_at.ensures.0 c.enum_told.given.1
 
 pub step-at-spec : {M : Type 1} → statement M
-step-at-spec = tie.close (tie.spec point-at-requires enum-known-point enum_told returns returns-2)
+step-at-spec = tie.close (tie.spec point_at_requires enum_known_point enum_told returns returns_2)

@@ -3,7 +3,7 @@
 -- (`Lending.antt`). The loop's state is `Upto`: so many lines are stored, the reader stands at a place, the slices hold
 -- these numbers. Assumes nothing.
 use mathlib.Core.Path.{◌≡◌, refl, sym, ap, subst, ◌∙◌}
-use Prim.Native.Nat.{ℕ, ◌+◌, ◌-◌, ◌≤◌, ◌<◌, ◌^◌, zero-le}
+use Prim.Native.Nat.{ℕ, ◌+◌, ◌-◌, ◌≤◌, ◌<◌, ◌^◌, zero_le}
 use native.Mathlib.Nat.{le_antisymm, lt_of_le_of_lt}
 use native.Mathlib.Numerals.{add-one-le, add-one-dec}
 use mathlib.Core.WellFounded.InvImage
@@ -57,9 +57,9 @@ use denote.Triple.Walked.{walk_Meets}
 use denote.Exit.{yes}
 use denote.Triple.Clauses.{ensured, lasts}
 use Rattle.cloud_lines.specs.Reading.{Stepped}
-use Rattle.cloud_lines.specs.Inner.Storing.{position_of, normalOf, placed_of, StoredLines}
-use Rattle.cloud_lines.proofs.Placing.{none-stored, one-stored}
-use Rattle.cloud_lines.proofs.Lending.{numbersAt, LentOn, lend-on, have-back}
+use Rattle.cloud_lines.specs.Inner.Storing.{position_of, normal_of, placed_of, StoredLines}
+use Rattle.cloud_lines.proofs.Placing.{none_stored, one_stored}
+use Rattle.cloud_lines.proofs.Lending.{numbers_at, LentOn, lend-on, have_back}
 use Rattle.cloud_lines.specs.declared.reader.Reader.{Reader}
 use Rattle.cloud_lines.specs.declared.reader.LineRead.{LineRead}
 use Rattle.cloud_lines.specs.declared.reader.Moved.{Moved}
@@ -135,7 +135,7 @@ module _ {M : Type 1} {𝓤 : Ura M} (𝓛 : Logic 𝓤) (mem : Memory → SProp
   Arg = Bor (List ℕ) × (ℕ × (ℕ × (Bor (List Float) × (Bor (List Float) × Unit {0}))))
 
   abbrev a : Arg
-  a = (s, (n, (c, (numbersAt bp op γp ps, (numbersAt bn on γn ns, tt)))))
+  a = (s, (n, (c, (numbers_at bp op γp ps, (numbers_at bn on γn ns, tt)))))
 
   abbrev at : List Val × (List Val × (List Val × (List Val × (List Val × Unit {0}))))
   at = (v ∷ [], (vint w64 n ∷ [], (vint w64 c ∷ [], (vp ∷ [], (vn ∷ [], tt)))))
@@ -153,11 +153,11 @@ module _ {M : Type 1} {𝓤 : Ura M} (𝓛 : Logic 𝓤) (mem : Memory → SProp
   abbrev αᵉ : NamedLft
   αᵉ = record { mir = erased; lft = κ }
 
-  abbrev dVal : ℕ → Val
-  dVal b = LL.val (T.the_type αᵉ) (T'.the_laws αᵉ) (d b)
+  abbrev d_val : ℕ → Val
+  d_val b = LL.val (T.the_type αᵉ) (T'.the_laws αᵉ) (d b)
 
-  abbrev readVal : LineRead → Val
-  readVal read = EL.val R.the_type R'.the_laws read
+  abbrev read_val : LineRead → Val
+  read_val read = EL.val R.the_type R'.the_laws read
 
   abbrev Post : Val → SProp 𝓤
   Post = (walk_of 𝓛 store-lines.ended stayed (store-lines.clauses 𝓛 mem run)).post ((κs, (q, (qp, (qn, tt))), tt, a, at), tt)
@@ -167,10 +167,10 @@ module _ {M : Type 1} {𝓤 : Ura M} (𝓛 : Logic 𝓤) (mem : Memory → SProp
 
   -- the two slices, with these numbers and these machine values
   abbrev P : List Float → Val → Fml
-  P xs w = (MutSlice (named 1) κp f32).own_val (numbersAt bp op γp xs) (w ∷ [])
+  P xs w = (MutSlice (named 1) κp f32).own_val (numbers_at bp op γp xs) (w ∷ [])
 
   abbrev N₂ : List Float → Val → Fml
-  N₂ xs w = (MutSlice (named 2) κn f32).own_val (numbersAt bn on γn xs) (w ∷ [])
+  N₂ xs w = (MutSlice (named 2) κn f32).own_val (numbers_at bn on γn xs) (w ∷ [])
 
   abbrev Token : Item 𝓤
   Token = ‵ (flft κ q) ⊛ ‵ ftrue
@@ -222,8 +222,8 @@ module _ {M : Type 1} {𝓤 : Ura M} (𝓛 : Logic 𝓤) (mem : Memory → SProp
     ys : List Float
     most : k ≤ c
     small : b < 2 ^ 64
-    long-xs : length xs ≡ length ps
-    long-ys : length ys ≡ length ns
+    long_xs : length xs ≡ length ps
+    long_ys : length ys ≡ length ns
     stored : StoredLines s.now n k b ps ns xs ys
 
   abbrev Nearer : Upto → Upto → Type 0
@@ -239,7 +239,7 @@ module _ {M : Type 1} {𝓤 : Ura M} (𝓛 : Logic 𝓤) (mem : Memory → SProp
       -- the tokens as they came
       split ! $ move ! (4 ∷ 1 ∷ []) $ join ! $ move ! (3 ∷ 0 ∷ []) $ join ! $ move ! (1 ∷ 0 ∷ []) $ join ! $
       suffices ! _ (ends_at 𝓛 store-lines.ended stayed (store-lines.clauses 𝓛 mem run) ((κs, (q, (qp, (qn, tt))), tt, a, at), tt)
-      (vint w64 i.b) i.b (tt, (tt, (tt, (i.xs, (i.ys, tt))))) (tt, (tt, (tt, (i.long-xs, (i.long-ys, tt)))))) $
+      (vint w64 i.b) i.b (tt, (tt, (tt, (i.xs, (i.ys, tt))))) (tt, (tt, (tt, (i.long_xs, (i.long_ys, tt)))))) $
       says ! (subst (λ (j : ℕ). StoredLines s.now n j i.b ps ns i.xs i.ys) e i.stored) $ frame ! $
       -- [src; points; normals]
       nothing ! $ move ! (3 ∷ 0 ∷ []) $ fjoin ! $ move ! (2 ∷ 0 ∷ []) $ fjoin ! $
@@ -248,7 +248,7 @@ module _ {M : Type 1} {𝓤 : Ura M} (𝓛 : Logic 𝓤) (mem : Memory → SProp
       owned ! usize (Is usize) (uint_Makes 𝓛 w64) i.b _ (refl, i.small) $ move ! (1 ∷ 0 ∷ []) $ done !
 
   -- ---- the call of `put_line`: both slices are lent on, for ν and μ, under the names δ and ε
-  module _ (i : Upto) (read : LineRead) (read_is : Is R.the_row read (readVal read ∷ [])) (fits-k : i.k < 2 ^ 64) (ν μ : ℕ) (δ ε : GName) where
+  module _ (i : Upto) (read : LineRead) (read_is : Is R.the_row read (read_val read ∷ [])) (fits_k : i.k < 2 ^ 64) (ν μ : ℕ) (δ ε : GName) where
     abbrev lentp : Val
     lentp = slice_val (bp, op) (length i.xs)
 
@@ -259,44 +259,44 @@ module _ {M : Type 1} {𝓤 : Ura M} (𝓛 : Logic 𝓤) (mem : Memory → SProp
     PArg = Bor (List Float) × (Bor (List Float) × (ℕ × (LineRead × Unit {0})))
 
     abbrev args : PArg
-    args = (numbersAt bp op δ i.xs, (numbersAt bn on ε i.ys, (i.k, (read, tt))))
+    args = (numbers_at bp op δ i.xs, (numbers_at bn on ε i.ys, (i.k, (read, tt))))
 
     abbrev vals : List Val × (List Val × (List Val × (List Val × Unit {0})))
-    vals = (lentp ∷ [], (lentn ∷ [], (vint w64 i.k ∷ [], (readVal read ∷ [], tt))))
+    vals = (lentp ∷ [], (lentn ∷ [], (vint w64 i.k ∷ [], (read_val read ∷ [], tt))))
 
-    abbrev to-put : (PutLine 𝓛 mem run).Ghost
-    to-put = (((ν ∷ [], (μ ∷ [], tt)), (full_share, (full_share, tt)), tt, args, vals), tt)
+    abbrev to_put : (PutLine 𝓛 mem run).Ghost
+    to_put = (((ν ∷ [], (μ ∷ [], tt)), (full_share, (full_share, tt)), tt, args, vals), tt)
 
     abbrev Placed : List Float × (List Float × (Unit {0} × (Unit {0} × Unit {0}))) → Type 0
-    Placed zs = (zs.0 ≡ placed_of position_of i.k read i.xs) × (zs.1.0 ≡ placed_of normalOf i.k read i.ys)
+    Placed zs = (zs.0 ≡ placed_of position_of i.k read i.xs) × (zs.1.0 ≡ placed_of normal_of i.k read i.ys)
 
     abbrev Lent : Item 𝓤
     Lent =
         ‵ (flft (ν ∷ []) full_share) ⊛ (‵ (flft (μ ∷ []) full_share)
-        ⊛ (‵ ((MutSlice (named 0) (ν ∷ []) f32).own_val (numbersAt bp op δ i.xs) (lentp ∷ []))
-        ⊛ ‵ ((MutSlice (named 1) (μ ∷ []) f32).own_val (numbersAt bn on ε i.ys) (lentn ∷ []))))
+        ⊛ (‵ ((MutSlice (named 0) (ν ∷ []) f32).own_val (numbers_at bp op δ i.xs) (lentp ∷ []))
+        ⊛ ‵ ((MutSlice (named 1) (μ ∷ []) f32).own_val (numbers_at bn on ε i.ys) (lentn ∷ []))))
 
-    puts : ent 𝓤 (⋆ 𝓛 (Lent ∷ [])) ((PutLine 𝓛 mem run).pre to-put)
+    puts : ent 𝓤 (⋆ 𝓛 (Lent ∷ [])) ((PutLine 𝓛 mem run).pre to_put)
     puts =
         qed 𝓛 (Lent ∷ []) ∵
         split ! $ move ! (1 ∷ []) $ split ! $ move ! (1 ∷ []) $ split ! $
         -- [points; normals; μ; ν]
         nothing ! $ owned ! R.the_row (Is R.the_row) (EL.makes R.the_type R'.the_plain 𝓛) read _ read_is $ fjoin ! $
-        owned ! usize (Is usize) (uint_Makes 𝓛 w64) i.k _ (refl, fits-k) $ fjoin ! $
+        owned ! usize (Is usize) (uint_Makes 𝓛 w64) i.k _ (refl, fits_k) $ fjoin ! $
         move ! (2 ∷ 0 ∷ []) $ fjoin ! $ move ! (1 ∷ 0 ∷ []) $ fjoin ! $
         -- [what they own; μ; ν]
         nothing ! $ move ! (2 ∷ 0 ∷ []) $ join ! $ move ! (2 ∷ 0 ∷ []) $ join ! $ join ! $ frame ! $ done !
 
   module _ (m : Moved) (u : Val) (is : Is (BN (κ, tt)) m (u ∷ [])) where
     parts_are : Is (T.the_row αᵉ) m.reader (LL.val (T.the_type αᵉ) (T'.the_laws αᵉ) m.reader ∷ [])
-        × (Is R.the_row m.read (readVal m.read ∷ []) × Unit {0})
+        × (Is R.the_row m.read (read_val m.read ∷ []) × Unit {0})
     parts_are = LL.owed (N.the_type αᵉ) (N'.the_laws αᵉ) m _ is
 
     small_at : m.reader.at < 2 ^ 64
     small_at = (LL.owed (T.the_type αᵉ) (T'.the_laws αᵉ) m.reader _ parts_are.0).1.0.1
 
-  same-reader : (m : Moved) → m.reader.src ≡ s → m.reader ≡ d m.reader.at
-  same-reader m e = λ i. record { src = e i; at = m.reader.at }
+  same_reader : (m : Moved) → m.reader.src ≡ s → m.reader ≡ d m.reader.at
+  same_reader m e = λ i. record { src = e i; at = m.reader.at }
 
   module _ (𝓣 : Tables 𝓤 H) (fm : FmC 𝓤 H 𝓛.laws 𝓣.C) (known : Triple 𝓤 (𝓣.C #cloud-lines·reader·next-line) (NextLine 𝓛 mem run))
       (known-put : Triple 𝓤 (𝓣.C #cloud-lines·reader·put-line) (PutLine 𝓛 mem run)) (p : Is (ShrSlice (named 0) κ u8) s (v ∷ []))
@@ -341,15 +341,15 @@ module _ {M : Type 1} {𝓤 : Ura M} (𝓛 : Logic 𝓤) (mem : Memory → SProp
         ∷ ‵ (froom (floats erased) l₁₃ 0) ∷ ‵ (fdies (floats erased) l₁₃) ∷ ‵ (froom pointer l₁₂ 0) ∷ ‵ (fdies pointer l₁₂) ∷ ‵ (froom ty_unit l₁₁ 0) ∷ ‵
         (fdies ty_unit l₁₁)
         ∷ ‵ (froom reader l₁₀ 0) ∷ ‵ (fdies reader l₁₀) ∷ ‵ (froom ty_bool l₉ 0) ∷ ‵ (fdies ty_bool l₉) ∷ ‵ (froom moved l₈ 0) ∷ ‵ (fdies moved l₈)
-        ∷ ‵ (fat full_share word l₇ 0 (vint w64 i.k)) ∷ ‵ (fdies word l₇) ∷ ‵ (fat full_share reader l₆ 0 (dVal i.b)) ∷ ‵ (fdies reader l₆)
+        ∷ ‵ (fat full_share word l₇ 0 (vint w64 i.k)) ∷ ‵ (fdies word l₇) ∷ ‵ (fat full_share reader l₆ 0 (d_val i.b)) ∷ ‵ (fdies reader l₆)
         ∷ ‵ (fat full_share (floats (named 2)) l₅ 0 vn) ∷ ‵ (fdies (floats (named 2)) l₅) ∷ ‵ (fat full_share (floats (named 1)) l₄ 0 vp) ∷ ‵
         (fdies (floats (named 1)) l₄)
         ∷ ‵ (fat full_share word l₃ 0 (vint w64 c)) ∷ ‵ (fdies word l₃) ∷ ‵ (fat full_share word l₂ 0 (vint w64 n)) ∷ ‵ (fdies word l₂)
         ∷ ‵ (fat full_share slice l₁ 0 v) ∷ ‵ (fdies slice l₁) ∷ ‵ (froom word l₀ 0) ∷ ‵ (fdies word l₀) ∷ []
 
     -- the body once a line was read
-    abbrev by_name-storing : Body
-    by_name-storing =
+    abbrev by_name_storing : Body
+    by_name_storing =
         seq (assign (place 12 []) (addr_of (place 4 (field 0 ∷ deref (ty_float binary32) ∷ []))))
         (seq (assign (place 13 []) (aggregate (copy (place 12 []) ∷ copy (place 4 (field 1 ∷ [])) ∷ [])))
         (seq (assign (place 14 []) (addr_of (place 5 (field 0 ∷ deref (ty_float binary32) ∷ []))))
@@ -359,7 +359,7 @@ module _ {M : Type 1} {𝓤 : Ura M} (𝓛 : Logic 𝓤) (mem : Memory → SProp
         (assign (place 7 []) (op2 (add unsigned) (copy (place 7 [])) (int w64 1))))))))
 
     abbrev storing : Body
-    storing = map_body (spell mir_of.table) by_name-storing
+    storing = map_body (spell mir_of.table) by_name_storing
 
     -- the body behind the test
     abbrev onward : Body
@@ -368,7 +368,7 @@ module _ {M : Type 1} {𝓤 : Ura M} (𝓛 : Logic 𝓤) (mem : Memory → SProp
         (seq (assign (place 10 []) (rv_opd (copy (place 6 []))))
         (seq (call #cloud-lines·reader·next-line (copy (place 10 []) ∷ []) (place 8 []))
         (seq (assign (place 6 []) (rv_opd (copy (place 8 (field 0 ∷ [])))))
-        by_name-storing)))
+        by_name_storing)))
 
     abbrev Turned : Upto → Out → SProp 𝓤
     Turned i = after_turn 𝓤 H (Below 𝓛 Nearer At i) (after_block 𝓤 H (after_seq 𝓤 H (Wp 𝓤 H C Λ En mir_of.t-4 (at_return 𝓤 H En Post)) (at_return 𝓤 H En Post)))
@@ -383,20 +383,20 @@ module _ {M : Type 1} {𝓤 : Ura M} (𝓛 : Logic 𝓤) (mem : Memory → SProp
         (fdies ty_unit l₁₁)
         ∷ ‵ (froom reader l₁₀ 0) ∷ ‵ (fdies reader l₁₀) ∷ ‵ (froom ty_bool l₉ 0) ∷ ‵ (fdies ty_bool l₉)
         ∷ ‵ (fat full_share moved l₈ 0 (LL.val (N.the_type αᵉ) (N'.the_laws αᵉ) m)) ∷ ‵ (fdies moved l₈)
-        ∷ ‵ (fat full_share word l₇ 0 (vint w64 i.k)) ∷ ‵ (fdies word l₇) ∷ ‵ (fat full_share reader l₆ 0 (dVal m.reader.at)) ∷ ‵ (fdies reader l₆)
+        ∷ ‵ (fat full_share word l₇ 0 (vint w64 i.k)) ∷ ‵ (fdies word l₇) ∷ ‵ (fat full_share reader l₆ 0 (d_val m.reader.at)) ∷ ‵ (fdies reader l₆)
         ∷ ‵ (fat full_share (floats (named 2)) l₅ 0 vn) ∷ ‵ (fdies (floats (named 2)) l₅) ∷ ‵ (fat full_share (floats (named 1)) l₄ 0 vp) ∷ ‵
         (fdies (floats (named 1)) l₄)
         ∷ ‵ (fat full_share word l₃ 0 (vint w64 c)) ∷ ‵ (fdies word l₃) ∷ ‵ (fat full_share word l₂ 0 (vint w64 n)) ∷ ‵ (fdies word l₂)
         ∷ ‵ (fat full_share slice l₁ 0 v) ∷ ‵ (fdies slice l₁) ∷ ‵ (froom word l₀ 0) ∷ ‵ (fdies word l₀) ∷ []
 
     module _ (i : Upto) (less : Holds (ltb i.k c)) (m : Moved) (u : Val) (is : Is (BN (κ, tt)) m (u ∷ [])) (e : Told i.b m) where
-      fits-k : i.k < 2 ^ 64
-      fits-k = lt_of_le_of_lt i.most okc
+      fits_k : i.k < 2 ^ 64
+      fits_k = lt_of_le_of_lt i.most okc
 
-      read_is : Is R.the_row m.read (readVal m.read ∷ [])
+      read_is : Is R.the_row m.read (read_val m.read ∷ [])
       read_is = (parts_are m u is).1.0
 
-      next : (zs : List Float × (List Float × (Unit {0} × (Unit {0} × Unit {0})))) → Placed i m.read read_is fits-k 0 0 γp γn zs
+      next : (zs : List Float × (List Float × (Unit {0} × (Unit {0} × Unit {0})))) → Placed i m.read read_is fits_k 0 0 γp γn zs
           → length zs.0 ≡ length i.xs → length zs.1.0 ≡ length i.ys → Upto
       next zs placed lp ln = record {
         k = i.k + 1;
@@ -405,9 +405,9 @@ module _ {M : Type 1} {𝓤 : Ura M} (𝓛 : Logic 𝓤) (mem : Memory → SProp
         ys = zs.1.0;
         most = add-one-le (ltb→lt i.k c less);
         small = small_at m u is;
-        long-xs = lp ∙ i.long-xs;
-        long-ys = ln ∙ i.long-ys;
-        stored = one-stored s.now n i.k i.b m.reader.at m.read ps ns i.xs i.ys zs.0 zs.1.0 i.stored e.1 placed;
+        long_xs = lp ∙ i.long_xs;
+        long_ys = ln ∙ i.long_ys;
+        stored = one_stored s.now n i.k i.b m.reader.at m.read ps ns i.xs i.ys zs.0 zs.1.0 i.stored e.1 placed;
       }
 
       fits_next : i.k + 1 < 2 ^ 64
@@ -427,34 +427,34 @@ module _ {M : Type 1} {𝓤 : Ura M} (𝓛 : Logic 𝓤) (mem : Memory → SProp
           assigns ! (of_opd ! (load ! (from ! (fld ! refl (stop !))) (look_in ! 22 (sub ! 1 refl (whole !))))) (from ! (stop !))
           (init ! 6 refl ((EL.lawful R.the_type R'.the_laws 𝓛 tt).typed m.read _ read_is).0) $
           -- the lengths are those of the numbers that the slices hold now
-          rewrite ! 12 (λ (j : ℕ). ‵ (fat full_share (floats erased) l₁₃ 0 (slice_val (bp, op) j))) (sym i.long-xs) refl $
-          rewrite ! 8 (λ (j : ℕ). ‵ (fat full_share (floats erased) l₁₅ 0 (slice_val (bn, on) j))) (sym i.long-ys) refl $
-          rewrite ! 4 (λ (j : ℕ). ‵ (P i.xs (slice_val (bp, op) j))) (sym i.long-xs) refl $
-          rewrite ! 5 (λ (j : ℕ). ‵ (N₂ i.ys (slice_val (bn, on) j))) (sym i.long-ys) refl $
+          rewrite ! 12 (λ (j : ℕ). ‵ (fat full_share (floats erased) l₁₃ 0 (slice_val (bp, op) j))) (sym i.long_xs) refl $
+          rewrite ! 8 (λ (j : ℕ). ‵ (fat full_share (floats erased) l₁₅ 0 (slice_val (bn, on) j))) (sym i.long_ys) refl $
+          rewrite ! 4 (λ (j : ℕ). ‵ (P i.xs (slice_val (bp, op) j))) (sym i.long_xs) refl $
+          rewrite ! 5 (λ (j : ℕ). ‵ (N₂ i.ys (slice_val (bn, on) j))) (sym i.long_ys) refl $
           -- both slices are lent on
           lft_new ! tt (λ ν. lft_new ! tt (λ μ. move ! (6 ∷ 4 ∷ []) $
-          use2 𝓛 (later (some (λ (δ : GName). ‵ ((MutSlice (named 0) (ν ∷ []) f32).own_val (numbersAt bp op δ i.xs) (slice_val (bp, op) (length i.xs) ∷ [])) ⊛ ‵
+          use2 𝓛 (later (some (λ (δ : GName). ‵ ((MutSlice (named 0) (ν ∷ []) f32).own_val (numbers_at bp op δ i.xs) (slice_val (bp, op) (length i.xs) ∷ [])) ⊛ ‵
           (LentOn κp (ν ∷ []) qp bp op γp i.xs δ))))
           (lend-on κp (ν ∷ []) qp bp op γp i.xs 𝓛 (named 1) (named 0)) $ await ! tt $ pick ! (λ δ. split ! $
           move ! (7 ∷ 6 ∷ []) $
-          use2 𝓛 (later (some (λ (ε : GName). ‵ ((MutSlice (named 1) (μ ∷ []) f32).own_val (numbersAt bn on ε i.ys) (slice_val (bn, on) (length i.ys) ∷ [])) ⊛ ‵
+          use2 𝓛 (later (some (λ (ε : GName). ‵ ((MutSlice (named 1) (μ ∷ []) f32).own_val (numbers_at bn on ε i.ys) (slice_val (bn, on) (length i.ys) ∷ [])) ⊛ ‵
           (LentOn κn (μ ∷ []) qn bn on γn i.ys ε))))
           (lend-on κn (μ ∷ []) qn bn on γn i.ys 𝓛 (named 2) (named 1)) $ await ! tt $ pick ! (λ ε. split ! $
           -- [normals; kept of them; points; kept of them; μ; ν; the token; src; …]
           move ! (2 ∷ 0 ∷ []) $ join ! $ move ! (3 ∷ 0 ∷ []) $ join ! $ move ! (3 ∷ 0 ∷ []) $ join ! $
-          use1 𝓛 (raw ((PutLine 𝓛 mem run).pre (to-put i m.read read_is fits-k ν μ δ ε))) (puts i m.read read_is fits-k ν μ δ ε) $
-          calls_at ! fm (PutLine 𝓛 mem run) known-put (to-put i m.read read_is fits-k ν μ δ ε)
+          use1 𝓛 (raw ((PutLine 𝓛 mem run).pre (to_put i m.read read_is fits_k ν μ δ ε))) (puts i m.read read_is fits_k ν μ δ ε) $
+          calls_at ! fm (PutLine 𝓛 mem run) known-put (to_put i m.read read_is fits_k ν μ δ ε)
           (and_then ! (load ! (from ! (stop !)) (look ! 11 refl))
           (and_then ! (load ! (from ! (stop !)) (look ! 7 refl))
           (and_then ! (load ! (from ! (stop !)) (look ! 23 refl)) (and_then ! (load ! (from ! (stop !)) (look ! 5 refl)) (no_more !))))) (λ w.
           use1 𝓛 (later (some (λ (r : Unit {0}). ((‵ (flft (ν ∷ []) full_share) ⊛ (‵ (flft (μ ∷ []) full_share) ⊛ ‵ ftrue)) ⊛ ‵ (unit.own_val r (w ∷ [])))
-          ⊛ raw (ensured 𝓛 put-line.ended (put-line.clauses 𝓛 mem run) (ν ∷ [], (μ ∷ [], tt)) (args i m.read read_is fits-k ν μ δ ε) tt r))))
+          ⊛ raw (ensured 𝓛 put-line.ended (put-line.clauses 𝓛 mem run) (ν ∷ [], (μ ∷ [], tt)) (args i m.read read_is fits_k ν μ δ ε) tt r))))
           (id⊢ 𝓤 _) $ await ! tt $ pick ! (λ r.
           split ! $ move ! (1 ∷ []) $
           use1 𝓛 (some (λ (zs : List Float × (List Float × (Unit {0} × (Unit {0} × Unit {0})))). ‵
-          (lasts put-line.ended (ν ∷ [], (μ ∷ [], tt)) (args i m.read read_is fits-k ν μ δ ε) zs)
-          ⊛ raw (fact 𝓤 (Placed i m.read read_is fits-k ν μ δ ε zs)))) (id⊢ 𝓤 _) $ pick ! (λ zs.
-          split ! $ move ! (1 ∷ []) $ heard ! (Placed i m.read read_is fits-k ν μ δ ε zs) (λ placed.
+          (lasts put-line.ended (ν ∷ [], (μ ∷ [], tt)) (args i m.read read_is fits_k ν μ δ ε) zs)
+          ⊛ raw (fact 𝓤 (Placed i m.read read_is fits_k ν μ δ ε zs)))) (id⊢ 𝓤 _) $ pick ! (λ zs.
+          split ! $ move ! (1 ∷ []) $ heard ! (Placed i m.read read_is fits_k ν μ δ ε zs) (λ placed.
           fsplit ! $ fsplit ! $ move ! (1 ∷ []) $ feq_l ! (λ lp. move ! (1 ∷ []) $ fsplit ! $ fsplit ! $ move ! (1 ∷ []) $ feq_l ! (λ ln.
           move ! (1 ∷ []) $ drop ! $ move ! (2 ∷ []) $ split ! $ move ! (1 ∷ []) $ peeks ! unit (Is unit) (shows 𝓛 unit) r (w ∷ []) (λ done-is. drop ! $
           -- [the tokens; normals' last; points' last; kept of normals; kept of points; the token; src; …]
@@ -462,15 +462,15 @@ module _ {M : Type 1} {𝓤 : Ura M} (𝓛 : Logic 𝓤) (mem : Memory → SProp
           -- both lifetimes are over, and the slices are had back
           split ! $ lft_end ! tt $ move ! (0 ∷ 5 ∷ 3 ∷ []) $
           use3 𝓛 (later (‵ (P zs.0 (slice_val (bp, op) (length i.xs))) ⊛ Tp))
-          (have-back κp (ν ∷ []) qp bp op γp i.xs 𝓛 (named 1) (named 0) δ zs.0
-          (subst (Room f32) (sym i.long-xs) roomp) lp) $ await ! tt $ split ! $
+          (have_back κp (ν ∷ []) qp bp op γp i.xs 𝓛 (named 1) (named 0) δ zs.0
+          (subst (Room f32) (sym i.long_xs) roomp) lp) $ await ! tt $ split ! $
           move ! (2 ∷ []) $ split ! $ lft_end ! tt $ move ! (0 ∷ 5 ∷ 4 ∷ []) $
           use3 𝓛 (later (‵ (N₂ zs.1.0 (slice_val (bn, on) (length i.ys))) ⊛ Tn))
-          (have-back κn (μ ∷ []) qn bn on γn i.ys 𝓛 (named 2) (named 1) ε zs.1.0
-          (subst (Room f32) (sym i.long-ys) roomn) ln) $ await ! tt $ split ! $
+          (have_back κn (μ ∷ []) qn bn on γn i.ys 𝓛 (named 2) (named 1) ε zs.1.0
+          (subst (Room f32) (sym i.long_ys) roomn) ln) $ await ! tt $ split ! $
           move ! (2 ∷ []) $ drop ! $ move ! (4 ∷ 5 ∷ 3 ∷ 1 ∷ 2 ∷ 0 ∷ []) $
-          rewrite ! 4 (λ (j : ℕ). ‵ (P zs.0 (slice_val (bp, op) j))) i.long-xs refl $
-          rewrite ! 5 (λ (j : ℕ). ‵ (N₂ zs.1.0 (slice_val (bn, on) j))) i.long-ys refl $
+          rewrite ! 4 (λ (j : ℕ). ‵ (P zs.0 (slice_val (bp, op) j))) i.long_xs refl $
+          rewrite ! 5 (λ (j : ℕ). ‵ (N₂ zs.1.0 (slice_val (bn, on) j))) i.long_ys refl $
           assigns_last ! (bin ! (load ! (from ! (stop !)) (look ! 24 refl)) (lit ! tt) (record { fits = fits_next })) (from ! (stop !))
           (store ! 24 refl (tt, record { fits = fits_next })) $
           forget ! 6 refl $ forget ! 8 refl $ forget ! 10 refl $ forget ! 12 refl $ forget ! 14 refl $ forget ! 16 refl $ forget ! 22 refl $
@@ -496,7 +496,7 @@ module _ {M : Type 1} {𝓤 : Ura M} (𝓛 : Logic 𝓤) (mem : Memory → SProp
         rewrite ! 22 (λ (w : Val). ‵ (fat full_share (N'.mir erased) l₈ 0 w)) (ap only (LL.tells (N.the_type αᵉ) (N'.the_laws αᵉ) m _ is)) refl $
         assigns ! (of_opd ! (load ! (from ! (fld ! refl (stop !))) (look_in ! 22 (sub ! 0 refl (whole !))))) (from ! (stop !))
         (store ! 26 refl ((LL.lawful (T.the_type αᵉ) (T'.the_laws αᵉ) 𝓛).typed m.reader _ (parts_are m u is).0).0) $
-        rewrite ! 26 (λ (w : Val). ‵ (fat full_share (T'.mir erased) l₆ 0 w)) (ap (LL.val (T.the_type αᵉ) (T'.the_laws αᵉ)) (same-reader m e.0)) refl $
+        rewrite ! 26 (λ (w : Val). ‵ (fat full_share (T'.mir erased) l₆ 0 w)) (ap (LL.val (T.the_type αᵉ) (T'.the_laws αᵉ)) (same_reader m e.0)) refl $
         forget ! 18 refl $ forget ! 20 refl $ keep !
         (0 ∷ 1 ∷ 2 ∷ 3 ∷ 4 ∷ 5 ∷ 6 ∷ 7 ∷ 8 ∷ 9 ∷ 10 ∷ 11 ∷ 12 ∷ 13 ∷ 14 ∷ 15 ∷ 16 ∷ 17 ∷ 18 ∷ 19 ∷ 20 ∷ 21 ∷ 22 ∷ 23 ∷ 24 ∷ 25 ∷ 26 ∷ 27 ∷ 28 ∷ 29 ∷ 30 ∷ 31
         ∷ 32 ∷ 33 ∷ 34 ∷ 35 ∷ 36 ∷ 37 ∷ 38 ∷ 39 ∷ []) $ stores i less m u is e)))))
@@ -519,11 +519,11 @@ module _ {M : Type 1} {𝓤 : Ura M} (𝓛 : Logic 𝓤) (mem : Memory → SProp
       b = n;
       xs = ps;
       ys = ns;
-      most = zero-le;
+      most = zero_le;
       small = ok;
-      long-xs = refl;
-      long-ys = refl;
-      stored = none-stored s.now n ps ns;
+      long_xs = refl;
+      long_ys = refl;
+      stored = none_stored s.now n ps ns;
     }
 
     looped : Sq 𝓛 (At start) (runs C Λ En mir_of.t-3 (at_ret En Post))
@@ -558,10 +558,10 @@ module _ {M : Type 1} {𝓤 : Ura M} (𝓛 : Logic 𝓤) (mem : Memory → SProp
 module _ {M : Type 1} {𝓤 : Ura M} (𝓛 : Logic 𝓤) (mem : Memory → SProp 𝓤) (run : Routine → Fun 𝓤) where
   open 𝓛 use {H}
 
-  store-lines-walks : (𝓣 : Tables 𝓤 H) → FmC 𝓤 H 𝓛.laws 𝓣.C → Triple 𝓤 (𝓣.C #cloud-lines·reader·next-line) (NextLine 𝓛 mem run)
+  store_lines_walks : (𝓣 : Tables 𝓤 H) → FmC 𝓤 H 𝓛.laws 𝓣.C → Triple 𝓤 (𝓣.C #cloud-lines·reader·next-line) (NextLine 𝓛 mem run)
       → Triple 𝓤 (𝓣.C #cloud-lines·reader·put-line) (PutLine 𝓛 mem run)
       → Walks 𝓛 store-lines.ended stayed (WpFn 𝓤 H 𝓣.C 𝓣.Λ code.function) (store-lines.clauses 𝓛 mem run)
-  store-lines-walks 𝓣 fm known known-put =
+  store_lines_walks 𝓣 fm known known-put =
       walked 𝓛 store-lines.ended stayed (store-lines.clauses 𝓛 mem run) (WpFn 𝓤 H 𝓣.C 𝓣.Λ code.function)
       (λ κs. (shr_slice_vals, (uint_vals w64, (uint_vals w64, (shr_slice_vals, (shr_slice_vals, tt))))))
       (λ κs. (
@@ -574,10 +574,10 @@ module _ {M : Type 1} {𝓤 : Ura M} (𝓛 : Logic 𝓤) (mem : Memory → SProp
       a.1.1.1.1.0.ref_ptr.0 a.1.1.1.1.0.ref_ptr.1 a.1.1.1.1.0.ghost_name a.1.1.1.1.0.now
       are.1.1.1.0.0.1 are.1.1.1.1.0.0.1 𝓣 fm known known-put are.0))
 
-store-lines-meets : {M : Type 1} {𝓤 : Ura M} (𝓛 : Logic 𝓤) (mem : Memory → SProp 𝓤) (run : Routine → Fun 𝓤) (𝓣 : Tables 𝓤 𝓛.H)
+store_lines_meets : {M : Type 1} {𝓤 : Ura M} (𝓛 : Logic 𝓤) (mem : Memory → SProp 𝓤) (run : Routine → Fun 𝓤) (𝓣 : Tables 𝓤 𝓛.H)
     → Triple 𝓤 (𝓣.C #cloud-lines·reader·next-line) (NextLine 𝓛 mem run) → Triple 𝓤 (𝓣.C #cloud-lines·reader·put-line) (PutLine 𝓛 mem run)
     → Meets 𝓛 store-lines.signature (WpFn 𝓤 𝓛.H 𝓣.C 𝓣.Λ code.function) (store-lines.spec 𝓛 mem run)
-store-lines-meets {𝓤 = 𝓤} 𝓛 mem run 𝓣 known known-put =
+store_lines_meets {𝓤 = 𝓤} 𝓛 mem run 𝓣 known known-put =
     walk_Meets 𝓛 store-lines.ended stayed (
       Goes-none_slice 𝓛 3 (0 ∷ []) tt (plain (λ _. u8)) yes,
       (
@@ -589,14 +589,14 @@ store-lines-meets {𝓤 = 𝓤} 𝓛 mem run 𝓣 known known-put =
       ),
     )
     (store-lines.clauses 𝓛 mem run) (WpFn 𝓤 𝓛.H 𝓣.C 𝓣.Λ code.function) (WpFn-mono 𝓤 𝓛.H 𝓛.laws 𝓣 code.function)
-    (store-lines-walks 𝓛 mem run 𝓣 (fm_of 𝓤 𝓛.H 𝓛.laws 𝓣) known known-put)
+    (store_lines_walks 𝓛 mem run 𝓣 (fm_of 𝓤 𝓛.H 𝓛.laws 𝓣) known known-put)
 
 pub store-lines-spec : {M : Type 1} → stated.statement M
 unfolding code.routine tables_of
 store-lines-spec 𝓤 𝓛 𝓜 𝓡 =
     entered 𝓤 𝓛.H (triple_of 𝓛 store-lines.signature (store-lines.spec 𝓛 𝓜.mem 𝓡.run))
     (tables 𝓤 𝓛.H 𝓜 𝓡 code.env).C (tables 𝓤 𝓛.H 𝓜 𝓡 code.env).Λ #cloud-lines·reader·store-lines code.function (code.unfolded 𝓤 𝓛.H 𝓜 𝓡)
-    (store-lines-meets 𝓛 𝓜.mem 𝓡.run (tables_of 𝓤 𝓛.H 𝓜 (tables 𝓤 𝓛.H 𝓜 𝓡 code.env))
+    (store_lines_meets 𝓛 𝓜.mem 𝓡.run (tables_of 𝓤 𝓛.H 𝓜 (tables 𝓤 𝓛.H 𝓜 𝓡 code.env))
     (cited 𝓤 𝓛.H (NextLine 𝓛 𝓜.mem 𝓡.run) 𝓜 𝓡 code.env #cloud-lines·reader·next-line next-line-def.routine code.calls-cloud-lines::reader::next-line
     (next-line-thm.met 𝓤 𝓛 𝓜 𝓡))
     (cited 𝓤 𝓛.H (PutLine 𝓛 𝓜.mem 𝓡.run) 𝓜 𝓡 code.env #cloud-lines·reader·put-line put-line-def.routine code.calls-cloud-lines::reader::put-line

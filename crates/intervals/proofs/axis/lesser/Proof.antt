@@ -10,10 +10,10 @@ unfolding minimum
 returns c =
     λ n. rw (is_false (is_nan c.before.args.a) n, c.if1.true)
 
-returns-2 : tie.Need-returns-2
+returns_2 : tie.Need-returns-2
 unfolding minimum
-returns-2 c =
+returns_2 c =
     λ n. rw (is_false (is_nan c.before.args.a) n, c.if1.false)
 
 pub lesser-spec : {M : Type 1} → statement M
-lesser-spec = tie.close (tie.spec returns returns-2)
+lesser-spec = tie.close (tie.spec returns returns_2)

@@ -2,7 +2,7 @@
 -- The measure is the number. Assumes nothing.
 use borrow.Author.Rules.{rules}
 use native.Mathlib.Omega.{arith}
-use Rattle.listing.proofs.Decimal.{put_small, put-more-digits}
+use Rattle.listing.proofs.Decimal.{put_small, put_more_digits}
 use Prim.Native.Nat.{ℕ, ◌<◌}
 use borrow.Fn.Kinds.{In}
 use borrow.Fn.PlainCycle.{Measures, is, falls, and}
@@ -16,102 +16,102 @@ use Rattle.listing.proofs.put.+put_decimal.Tie.{close}
 abbrev μ-put-decimal : Measures 1 put-decimal-kinds.ps ℕ
 μ-put-decimal κs a = a.1.1.0
 
-abbrev put-decimal-at : ℕ → In 1 put-decimal-kinds.ps
-put-decimal-at t =
+abbrev put_decimal_at : ℕ → In 1 put-decimal-kinds.ps
+put_decimal_at t =
     and 1 put-decimal-kinds.ps (is 1 put-decimal-kinds.ps μ-put-decimal t) put-decimal.Pre
 
-abbrev put-decimal-below : ℕ → In 1 put-decimal-kinds.ps
-put-decimal-below t =
+abbrev put_decimal_below : ℕ → In 1 put-decimal-kinds.ps
+put_decimal_below t =
     and 1 put-decimal-kinds.ps (falls 1 put-decimal-kinds.ps ◌<◌ μ-put-decimal t) put-decimal.Pre
 
-put-decimal-cast-put-byte : (t : ℕ) → put-decimal-lts.Need-overflow-cast-put-byte (
+put_decimal_cast_put_byte : (t : ℕ) → put-decimal-lts.Need-overflow-cast-put-byte (
   put-byte-reads.Asked,
   put-byte-reads.Learnt,
-  put-decimal-below t,
+  put_decimal_below t,
   put-decimal.Post,
-) (put-decimal-at t) put-decimal.Post
-put-decimal-cast-put-byte t c = search rules
+) (put_decimal_at t) put-decimal.Post
+put_decimal_cast_put_byte t c = search rules
 
-put-decimal-add-put-byte : (t : ℕ) → put-decimal-lts.Need-overflow-add-put-byte (
+put_decimal_add_put_byte : (t : ℕ) → put-decimal-lts.Need-overflow-add-put-byte (
   put-byte-reads.Asked,
   put-byte-reads.Learnt,
-  put-decimal-below t,
+  put_decimal_below t,
   put-decimal.Post,
-) (put-decimal-at t) put-decimal.Post
-put-decimal-add-put-byte t c = search rules
+) (put_decimal_at t) put-decimal.Post
+put_decimal_add_put_byte t c = search rules
 
-put-decimal-put-byte-requires : (t : ℕ) → put-decimal-lts.Need-put-byte-requires (
+put_decimal_put_byte_requires : (t : ℕ) → put-decimal-lts.Need-put-byte-requires (
   put-byte-reads.Asked,
   put-byte-reads.Learnt,
-  put-decimal-below t,
+  put_decimal_below t,
   put-decimal.Post,
-) (put-decimal-at t) put-decimal.Post
-put-decimal-put-byte-requires t c κs = search rules
+) (put_decimal_at t) put-decimal.Post
+put_decimal_put_byte_requires t c κs = search rules
 
-put-decimal-same-length : (t : ℕ) → put-decimal-lts.Need-same-length (
+put_decimal_same_length : (t : ℕ) → put-decimal-lts.Need-same-length (
   put-byte-reads.Asked,
   put-byte-reads.Learnt,
-  put-decimal-below t,
+  put_decimal_below t,
   put-decimal.Post,
-) (put-decimal-at t) put-decimal.Post
-put-decimal-same-length t c = search rules
+) (put_decimal_at t) put-decimal.Post
+put_decimal_same_length t c = search rules
 
-put-decimal-returns : (t : ℕ) → put-decimal-lts.Need-returns (
+put_decimal_returns : (t : ℕ) → put-decimal-lts.Need-returns (
   put-byte-reads.Asked,
   put-byte-reads.Learnt,
-  put-decimal-below t,
+  put_decimal_below t,
   put-decimal.Post,
-) (put-decimal-at t) put-decimal.Post
-put-decimal-returns t c = put_small _ _ _ _ _ c.before.before.before.before.if1.true c.before.before.put_byte.ensures
+) (put_decimal_at t) put-decimal.Post
+put_decimal_returns t c = put_small _ _ _ _ _ c.before.before.before.before.if1.true c.before.before.put_byte.ensures
 
-put-decimal-put-decimal-requires : (t : ℕ) → put-decimal-lts.Need-put-decimal-requires (
+put_decimal_put_decimal_requires : (t : ℕ) → put-decimal-lts.Need-put-decimal-requires (
   put-byte-reads.Asked,
   put-byte-reads.Learnt,
-  put-decimal-below t,
+  put_decimal_below t,
   put-decimal.Post,
-) (put-decimal-at t) put-decimal.Post
-put-decimal-put-decimal-requires t c κs = let p = c.before.before.before.requires in let h = c.before.if1.false in omega arith
+) (put_decimal_at t) put-decimal.Post
+put_decimal_put_decimal_requires t c κs = let p = c.before.before.before.requires in let h = c.before.if1.false in omega arith
 
-put-decimal-cast-put-byte-2 : (t : ℕ) → put-decimal-lts.Need-overflow-cast-put-byte-2 (
+put_decimal_cast_put_byte_2 : (t : ℕ) → put-decimal-lts.Need-overflow-cast-put-byte-2 (
   put-byte-reads.Asked,
   put-byte-reads.Learnt,
-  put-decimal-below t,
+  put_decimal_below t,
   put-decimal.Post,
-) (put-decimal-at t) put-decimal.Post
-put-decimal-cast-put-byte-2 t c = search rules
+) (put_decimal_at t) put-decimal.Post
+put_decimal_cast_put_byte_2 t c = search rules
 
-put-decimal-add-put-byte-2 : (t : ℕ) → put-decimal-lts.Need-overflow-add-put-byte-2 (
+put_decimal_add_put_byte_2 : (t : ℕ) → put-decimal-lts.Need-overflow-add-put-byte-2 (
   put-byte-reads.Asked,
   put-byte-reads.Learnt,
-  put-decimal-below t,
+  put_decimal_below t,
   put-decimal.Post,
-) (put-decimal-at t) put-decimal.Post
-put-decimal-add-put-byte-2 t c = search rules
+) (put_decimal_at t) put-decimal.Post
+put_decimal_add_put_byte_2 t c = search rules
 
-put-decimal-put-byte-requires-2 : (t : ℕ) → put-decimal-lts.Need-put-byte-requires-2 (
+put_decimal_put_byte_requires_2 : (t : ℕ) → put-decimal-lts.Need-put-byte-requires-2 (
   put-byte-reads.Asked,
   put-byte-reads.Learnt,
-  put-decimal-below t,
+  put_decimal_below t,
   put-decimal.Post,
-) (put-decimal-at t) put-decimal.Post
-put-decimal-put-byte-requires-2 t c κs = search rules
+) (put_decimal_at t) put-decimal.Post
+put_decimal_put_byte_requires_2 t c κs = search rules
 
-put-decimal-same-length-2 : (t : ℕ) → put-decimal-lts.Need-same-length-2 (
+put_decimal_same_length_2 : (t : ℕ) → put-decimal-lts.Need-same-length-2 (
   put-byte-reads.Asked,
   put-byte-reads.Learnt,
-  put-decimal-below t,
+  put_decimal_below t,
   put-decimal.Post,
-) (put-decimal-at t) put-decimal.Post
-put-decimal-same-length-2 t c = search rules
+) (put_decimal_at t) put-decimal.Post
+put_decimal_same_length_2 t c = search rules
 
-put-decimal-returns-2 : (t : ℕ) → put-decimal-lts.Need-returns-2 (
+put_decimal_returns_2 : (t : ℕ) → put-decimal-lts.Need-returns-2 (
   put-byte-reads.Asked,
   put-byte-reads.Learnt,
-  put-decimal-below t,
+  put_decimal_below t,
   put-decimal.Post,
-) (put-decimal-at t) put-decimal.Post
-put-decimal-returns-2 t c =
-    let f = c.before.before.before.before.before.before.before.before.before.before.ranges.n in put-more-digits _ _ _ _ _ _ _
+) (put_decimal_at t) put-decimal.Post
+put_decimal_returns_2 t c =
+    let f = c.before.before.before.before.before.before.before.before.before.before.ranges.n in put_more_digits _ _ _ _ _ _ _
     c.before.before.before.before.before.before.before.before.if1.false f.fits
     c.before.before.before.before.before.before.put-decimal.ensures.0 c.before.before.put-byte2.ensures
 
@@ -119,19 +119,19 @@ pub +put-decimal-spec : {M : Type 1} → statement M
 +put-decimal-spec = close μ-put-decimal λ t. put-decimal-lts.spec (
   put-byte-reads.Asked,
   put-byte-reads.Learnt,
-  put-decimal-below t,
+  put_decimal_below t,
   put-decimal.Post,
 )
-    (put-decimal-at t)
+    (put_decimal_at t)
     put-decimal.Post
-    (put-decimal-cast-put-byte t)
-    (put-decimal-add-put-byte t)
-    (put-decimal-put-byte-requires t)
-    (put-decimal-same-length t)
-    (put-decimal-returns t)
-    (put-decimal-put-decimal-requires t)
-    (put-decimal-cast-put-byte-2 t)
-    (put-decimal-add-put-byte-2 t)
-    (put-decimal-put-byte-requires-2 t)
-    (put-decimal-same-length-2 t)
-    (put-decimal-returns-2 t)
+    (put_decimal_cast_put_byte t)
+    (put_decimal_add_put_byte t)
+    (put_decimal_put_byte_requires t)
+    (put_decimal_same_length t)
+    (put_decimal_returns t)
+    (put_decimal_put_decimal_requires t)
+    (put_decimal_cast_put_byte_2 t)
+    (put_decimal_add_put_byte_2 t)
+    (put_decimal_put_byte_requires_2 t)
+    (put_decimal_same_length_2 t)
+    (put_decimal_returns_2 t)

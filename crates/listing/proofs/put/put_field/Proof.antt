@@ -4,11 +4,11 @@ use Rattle.listing.proofs.Decimal.{put_ended}
 use Rattle.listing.proofs.put.put_field.Statement.{statement}
 use Rattle.listing.proofs.put.put_field.Tie as tie
 
-put-decimal-requires : tie.Need-put-decimal-requires
-put-decimal-requires c κs = search rules
+put_decimal_requires : tie.Need-put-decimal-requires
+put_decimal_requires c κs = search rules
 
-put-byte-requires : tie.Need-put-byte-requires
-put-byte-requires c κs = search rules
+put_byte_requires : tie.Need-put-byte-requires
+put_byte_requires c κs = search rules
 
 same_length : tie.Need-same-length
 same_length c = search rules
@@ -19,4 +19,4 @@ returns c =
     c.before.before.put_byte.ensures
 
 pub put-field-spec : {M : Type 1} → statement M
-put-field-spec = tie.close (tie.spec put-decimal-requires put-byte-requires same_length returns)
+put-field-spec = tie.close (tie.spec put_decimal_requires put_byte_requires same_length returns)

@@ -8,18 +8,18 @@ use borrow.Author.Rules.{rules}
 use Rattle.numbers.proofs.root.guess.Statement.{statement}
 use Rattle.numbers.proofs.root.guess.Tie as tie
 
-in-float : (n : ℕ) → n < 2 ^ 48 → T (in_float binary64 (pos n))
+in_float : (n : ℕ) → n < 2 ^ 48 → T (in_float binary64 (pos n))
 unfolding in_float
-in-float n h = le→leb n (2 ^ 53) (omega arith)
+in_float n h = le→leb n (2 ^ 53) (omega arith)
 
-int-to-float-v : tie.Need-int-to-float-v
-int-to-float-v c = in-float c.before.args.n c.before.requires
+int_to_float_v : tie.Need-int-to-float-v
+int_to_float_v c = in_float c.before.args.n c.before.requires
 
-low-bits-requires : tie.Need-low-bits-requires
-low-bits-requires c κs = search rules
+low_bits_requires : tie.Need-low-bits-requires
+low_bits_requires c κs = search rules
 
 returns : tie.Need-returns
 returns c = search rules
 
 pub guess-spec : {M : Type 1} → statement M
-guess-spec = tie.close (tie.spec int-to-float-v low-bits-requires returns)
+guess-spec = tie.close (tie.spec int_to_float_v low_bits_requires returns)

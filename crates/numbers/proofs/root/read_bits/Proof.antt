@@ -6,8 +6,8 @@ use native.Mathlib.Omega.{arith}
 use lib.Pow.{shl_lt}
 use lib.Count.{count_leading_zeros, leading_top}
 use borrow.Author.Rules.{rules}
-use Rattle.numbers.proofs.RootPattern.{shl-ge, pow_lt_back}
-use Rattle.numbers.proofs.RootUnits.{small-scaled, normal-scaled}
+use Rattle.numbers.proofs.RootPattern.{shl_ge, pow_lt_back}
+use Rattle.numbers.proofs.RootUnits.{small_scaled, normal_scaled}
 use Rattle.numbers.proofs.root.read_bits.Statement.{statement}
 use Rattle.numbers.proofs.root.read_bits.Tie as tie
 
@@ -29,7 +29,7 @@ moved t p h =
     record {
       enough = omega (arith, w.1);
       few = omega (arith, w.1);
-      low = subst (λ (n : ℕ). 2 ^ n ≤ t * 2 ^ (z - 8)) (sym lo) (shl-ge j (z - 8) w.2);
+      low = subst (λ (n : ℕ). 2 ^ n ≤ t * 2 ^ (z - 8)) (sym lo) (shl_ge j (z - 8) w.2);
       high = subst (λ (n : ℕ). t * 2 ^ (z - 8) < 2 ^ n) (sym hi) (shl_lt (suc j) (z - 8) w.3);
     }
 
@@ -40,20 +40,20 @@ mv c = moved (c.before.args.b % 8388608) (omega (arith, c.if1.true)) (omega arit
 shifted : (t z : ℕ) → Moved t z → t * 2 ^ (z - 8) % 2 ^ 32 ≡ t * 2 ^ (z - 8)
 shifted t z m = let h = m.high in mod-eq_of_lt (omega arith)
 
-sub-z : tie.Need-overflow-sub-z
-sub-z c = (mv c).enough
+sub_z : tie.Need-overflow-sub-z
+sub_z c = (mv c).enough
 
-shl-t7 : tie.Need-overflow-shl-t7
-shl-t7 c = omega (arith, (mv c).few)
+shl_t7 : tie.Need-overflow-shl-t7
+shl_t7 c = omega (arith, (mv c).few)
 
-sub-t8 : tie.Need-overflow-sub-t8
-sub-t8 c = omega (arith, (mv c).few)
+sub_t8 : tie.Need-overflow-sub-t8
+sub_t8 c = omega (arith, (mv c).few)
 
-add-t9 : tie.Need-overflow-add-t9
-add-t9 c = search rules
+add_t9 : tie.Need-overflow-add-t9
+add_t9 c = search rules
 
-add-t10 : tie.Need-overflow-add-t10
-add-t10 c = search rules
+add_t10 : tie.Need-overflow-add-t10
+add_t10 c = search rules
 
 returns : tie.Need-returns
 returns c =
@@ -64,11 +64,11 @@ returns c =
       rw e m.low,
       rw e m.high,
       omega (arith, m.few),
-      small-scaled b _ _ (omega (arith, c.if1.true)) (e ∙ ap (λ (n : ℕ). n * 2 ^ (count_leading_zeros 32 (b % 8388608) - 8)) t) m.few,
+      small_scaled b _ _ (omega (arith, c.if1.true)) (e ∙ ap (λ (n : ℕ). n * 2 ^ (count_leading_zeros 32 (b % 8388608) - 8)) t) m.few,
     )
 
-returns-2 : tie.Need-returns-2
-returns-2 c = (omega arith, omega arith, omega arith, normal-scaled c.before.args.b (omega (arith, c.if1.false)) c.before.requires.1)
+returns_2 : tie.Need-returns-2
+returns_2 c = (omega arith, omega arith, omega arith, normal_scaled c.before.args.b (omega (arith, c.if1.false)) c.before.requires.1)
 
 pub read-bits-spec : {M : Type 1} → statement M
-read-bits-spec = tie.close (tie.spec sub-z shl-t7 sub-t8 add-t9 add-t10 returns returns-2)
+read-bits-spec = tie.close (tie.spec sub_z shl_t7 sub_t8 add_t9 add_t10 returns returns_2)

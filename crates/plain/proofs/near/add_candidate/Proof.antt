@@ -1,18 +1,18 @@
 -- `plain::near::add_candidate` meets its contract. Assumes nothing.
 use Rattle.plain.proofs.Judged.{holds}
-use Rattle.plain.proofs.Listing.{far_none, apart-is, near-is, adds_none, adds_one}
+use Rattle.plain.proofs.Listing.{far_none, apart_is, near_is, adds_none, adds_one}
 use borrow.Author.Rules.{rules}
 use Rattle.plain.proofs.near.add_candidate.Statement.{statement}
 use Rattle.plain.proofs.near.add_candidate.Tie as tie
 
-point-at-requires : tie.Need-point-at-requires
-point-at-requires c κs = search rules
+point_at_requires : tie.Need-point-at-requires
+point_at_requires c κs = search rules
 
-point-at-requires-2 : tie.Need-point-at-requires-2
-point-at-requires-2 c κs = search rules
+point_at_requires_2 : tie.Need-point-at-requires-2
+point_at_requires_2 c κs = search rules
 
-distance-squared-requires : tie.Need-distance-squared-requires
-distance-squared-requires c κs = search rules
+distance_squared_requires : tie.Need-distance-squared-requires
+distance_squared_requires c κs = search rules
 
 returns : tie.Need-returns
 returns c =
@@ -21,73 +21,73 @@ returns c =
     let a = s.args in
     adds_none a.points.now a.radius a.i a.j a.w.now a.lengths.now a.count
     (far_none a.points.now a.radius a.i a.j s.requires.1 d.before.before.point_at.ensures d.before.point-at2.ensures
-    d.distance-squared.ensures (holds c.if1.true))
+    d.distance_squared.ensures (holds c.if1.true))
 
-sqrt-requires : tie.Need-sqrt-requires
-sqrt-requires c κs = search rules
+sqrt_requires : tie.Need-sqrt-requires
+sqrt_requires c κs = search rules
 
-cast-w : tie.Need-overflow-cast-w
-cast-w c = search rules
+cast_w : tie.Need-overflow-cast-w
+cast_w c = search rules
 
-mul-w : tie.Need-overflow-mul-w
-mul-w c = search rules
+mul_w : tie.Need-overflow-mul-w
+mul_w c = search rules
 
-slice-write-w : tie.Need-slice-write-w
-slice-write-w c = search rules
+slice_write_w : tie.Need-slice-write-w
+slice_write_w c = search rules
 
-mul-lengths : tie.Need-overflow-mul-lengths
-mul-lengths c = search rules
+mul_lengths : tie.Need-overflow-mul-lengths
+mul_lengths c = search rules
 
-slice-write-lengths : tie.Need-slice-write-lengths
-slice-write-lengths c = search rules
+slice_write_lengths : tie.Need-slice-write-lengths
+slice_write_lengths c = search rules
 
-add-result : tie.Need-overflow-add-result
-add-result c = search rules
+add_result : tie.Need-overflow-add-result
+add_result c = search rules
 
 same_length : tie.Need-same-length
 same_length c = search rules
 
-same-length-2 : tie.Need-same-length-2
-same-length-2 c = search rules
+same_length_2 : tie.Need-same-length-2
+same_length_2 c = search rules
 
-returns-2 : tie.Need-returns-2
-returns-2 c =
+returns_2 : tie.Need-returns-2
+returns_2 c =
     let q = c.before.before in
     let d = q.before.before.before in
     let s = d.before.before.before.before.before.before in
     let a = s.args in
     adds_one a.points.now a.radius a.i a.j a.w.now a.lengths.now a.count q.sqrt.result
-    (near-is a.points.now a.radius a.i a.j s.requires.1 d.before.before.point_at.ensures d.before.point-at2.ensures
-    d.distance-squared.ensures q.sqrt.ensures c.if2.true)
-    (apart-is a.points.now a.radius a.i a.j s.requires.1 d.before.before.point_at.ensures d.before.point-at2.ensures
-    d.distance-squared.ensures q.sqrt.ensures)
+    (near_is a.points.now a.radius a.i a.j s.requires.1 d.before.before.point_at.ensures d.before.point-at2.ensures
+    d.distance_squared.ensures q.sqrt.ensures c.if2.true)
+    (apart_is a.points.now a.radius a.i a.j s.requires.1 d.before.before.point_at.ensures d.before.point-at2.ensures
+    d.distance_squared.ensures q.sqrt.ensures)
 
-returns-3 : tie.Need-returns-3
-returns-3 c =
+returns_3 : tie.Need-returns-3
+returns_3 c =
     let q = c.before.before in
     let d = q.before.before.before in
     let s = d.before.before.before.before.before.before in
     let a = s.args in
     adds_none a.points.now a.radius a.i a.j a.w.now a.lengths.now a.count
-    (near-is a.points.now a.radius a.i a.j s.requires.1 d.before.before.point_at.ensures d.before.point-at2.ensures
-    d.distance-squared.ensures q.sqrt.ensures c.if2.false)
+    (near_is a.points.now a.radius a.i a.j s.requires.1 d.before.before.point_at.ensures d.before.point-at2.ensures
+    d.distance_squared.ensures q.sqrt.ensures c.if2.false)
 
 pub add-candidate-spec : {M : Type 1} → statement M
 add-candidate-spec =
     tie.close
     (tie.spec
-    point-at-requires
-    point-at-requires-2
-    distance-squared-requires
+    point_at_requires
+    point_at_requires_2
+    distance_squared_requires
     returns
-    sqrt-requires
-    cast-w
-    mul-w
-    slice-write-w
-    mul-lengths
-    slice-write-lengths
-    add-result
+    sqrt_requires
+    cast_w
+    mul_w
+    slice_write_w
+    mul_lengths
+    slice_write_lengths
+    add_result
     same_length
-    same-length-2
-    returns-2
-    returns-3)
+    same_length_2
+    returns_2
+    returns_3)

@@ -8,45 +8,45 @@ use lib.ListN.{length, take}
 use Rattle.lists.specs.Lists.{up_from}
 use Rattle.plain.specs.Plain.{candidates}
 use Rattle.plain.specs.Inner.Listed.{DistancesListed}
-use Rattle.plain.proofs.Plain.{up_start, from, from-none}
-use Rattle.plain.proofs.Listing.{count-step, lists-step, all-step}
+use Rattle.plain.proofs.Plain.{up_start, from, from_none}
+use Rattle.plain.proofs.Listing.{count_step, lists_step, all_step}
 use borrow.Author.Rules.{rules}
 use Rattle.plain.proofs.near.list_candidates.Statement.{statement}
 use Rattle.plain.proofs.near.list_candidates.Tie as tie
 use Rattle.plain.proofs.near.list_candidates.Proof.Places.*
 mod Places
 
-abbrev invariant-loop : tie.invariant-loop
-invariant-loop points radius limits i w₀ lengths₀ count₀ j₀ w lengths count j =
+abbrev invariant_loop : tie.invariant-loop
+invariant_loop points radius limits i w₀ lengths₀ count₀ j₀ w lengths count j =
     (j ≤ i) × (count ≤ j) × (length w ≡ length w₀) × (length lengths ≡ length lengths₀) × DistancesListed points i w lengths count
     × (take count w ++ from points radius i j ≡ candidates points radius i (up_from 0 i))
 
-abbrev decreases-loop : tie.decreases-loop
-decreases-loop points radius limits i w₀ lengths₀ count₀ j₀ w lengths count j = i - j
+abbrev decreases_loop : tie.decreases-loop
+decreases_loop points radius limits i w₀ lengths₀ count₀ j₀ w lengths count j = i - j
 
-loop-holds : tie.Need-loop-init invariant-loop decreases-loop
-loop-holds c =
+loop_holds : tie.Need-loop-init invariant_loop decreases_loop
+loop_holds c =
     let a = c.before.before.before.args in (
       search rules,
       search rules,
       refl,
       refl,
-      record { words-enough = search rules; lengths-enough = search rules; below = λ k h. absurd (omega arith); distances = λ k h. absurd (omega arith) },
+      record { words_enough = search rules; lengths_enough = search rules; below = λ k h. absurd (omega arith); distances = λ k h. absurd (omega arith) },
       ap (candidates a.points.now a.radius a.i) (sym (up_start a.i)),
     )
 
-add-candidate-requires : tie.Need-add-candidate-requires invariant-loop decreases-loop
-add-candidate-requires c κs = search rules
+add_candidate_requires : tie.Need-add-candidate-requires invariant_loop decreases_loop
+add_candidate_requires c κs = search rules
 
-add-j : tie.Need-overflow-add-j invariant-loop decreases-loop
-add-j c = search rules
+add_j : tie.Need-overflow-add-j invariant_loop decreases_loop
+add_j c = search rules
 
-loop-less : tie.Need-loop-smaller invariant-loop decreases-loop
-loop-less c = search rules
+loop_less : tie.Need-loop-smaller invariant_loop decreases_loop
+loop_less c = search rules
 
-loop-again : tie.Need-loop-preserved invariant-loop decreases-loop
-loop-again c =
-    let t = add-candidate-of-slice-known4 c in
+loop_again : tie.Need-loop-preserved invariant_loop decreases_loop
+loop_again c =
+    let t = add_candidate_of_slice_known4 c in
     let l = t.before.before.before.before.loop in
     let h = t.before.before.before.loop-test.taken in
     let s = t.before.before.before.before.before.before.before.before in
@@ -54,42 +54,42 @@ loop-again c =
     let m : s.args.i ≤ length l.lengths = omega (arith, l.inv.3, s.pre.3) in
     let e = t.add-candidate.ensures in (
       search rules,
-      count-step e h l.inv.1 n m,
+      count_step e h l.inv.1 n m,
       search rules,
       search rules,
-      lists-step e h l.inv.1 n m l.inv.4,
-      all-step e h l.inv.1 n m _ l.inv.5,
+      lists_step e h l.inv.1 n m l.inv.4,
+      all_step e h l.inv.1 n m _ l.inv.5,
     )
 
-same_length : tie.Need-same-length invariant-loop decreases-loop
+same_length : tie.Need-same-length invariant_loop decreases_loop
 same_length c = search rules
 
-same-length-2 : tie.Need-same-length-2 invariant-loop decreases-loop
-same-length-2 c = search rules
+same_length_2 : tie.Need-same-length-2 invariant_loop decreases_loop
+same_length_2 c = search rules
 
-returns : tie.Need-returns invariant-loop decreases-loop
+returns : tie.Need-returns invariant_loop decreases_loop
 returns c =
     let l = c.before.loop in
-    let s = start-of-after-loop c in
+    let s = start_of_after_loop c in
     record {
       ready = s.pre.0;
       few = omega (arith, l.invariant.0, l.invariant.1);
       lists = l.invariant.4;
       all = sym (append-nil _) ∙ ap (λ (r : List _). take l.count l.w ++ r)
-          (sym (from-none s.args.points.now s.args.radius s.args.i l.j c.loop-test.false)) ∙ l.invariant.5;
+          (sym (from_none s.args.points.now s.args.radius s.args.i l.j c.loop-test.false)) ∙ l.invariant.5;
     }
 
 pub list-candidates-spec : {M : Type 1} → statement M
 list-candidates-spec =
     tie.close
     (tie.spec
-    invariant-loop
-    decreases-loop
-    loop-holds
-    add-candidate-requires
-    add-j
-    loop-less
-    loop-again
+    invariant_loop
+    decreases_loop
+    loop_holds
+    add_candidate_requires
+    add_j
+    loop_less
+    loop_again
     same_length
-    same-length-2
+    same_length_2
     returns)

@@ -7,20 +7,20 @@ use borrow.Author.Rules.{rules}
 use Rattle.quality.proofs.measure.measures.Statement.{statement}
 use Rattle.quality.proofs.measure.measures.Tie as tie
 
-angle-requires : tie.Need-angle-requires
-angle-requires c κs = search rules
+angle_requires : tie.Need-angle-requires
+angle_requires c κs = search rules
 
-angle-requires-2 : tie.Need-angle-requires-2
-angle-requires-2 c κs = search rules
+angle_requires_2 : tie.Need-angle-requires-2
+angle_requires_2 c κs = search rules
 
-least-requires : tie.Need-least-requires
-least-requires c κs = search rules
+least_requires : tie.Need-least-requires
+least_requires c κs = search rules
 
-largest-requires : tie.Need-largest-requires
-largest-requires c κs = search rules
+largest_requires : tie.Need-largest-requires
+largest_requires c κs = search rules
 
-score-requires : tie.Need-score-requires
-score-requires c κs = search rules
+score_requires : tie.Need-score-requires
+score_requires c κs = search rules
 
 returns : tie.Need-returns
 unfolding measures shape
@@ -34,9 +34,9 @@ pub measures-spec : {M : Type 1} → statement M
 measures-spec =
     tie.close
     (tie.spec
-    angle-requires
-    angle-requires-2
-    least-requires
-    largest-requires
-    score-requires
+    angle_requires
+    angle_requires_2
+    least_requires
+    largest_requires
+    score_requires
     returns)

@@ -6,14 +6,14 @@ use borrow.Author.Rules.{rules}
 use Rattle.radii.proofs.nearest.clear_tenth.Statement.{statement}
 use Rattle.radii.proofs.nearest.clear_tenth.Tie as tie
 
-add-f : tie.Need-overflow-add-f
-add-f c = search rules
+add_f : tie.Need-overflow-add-f
+add_f c = search rules
 
-mul-f : tie.Need-overflow-mul-f
-mul-f c = search rules
+mul_f : tie.Need-overflow-mul-f
+mul_f c = search rules
 
-slice-write-f : tie.Need-slice-write-f
-slice-write-f c = search rules
+slice_write_f : tie.Need-slice-write-f
+slice_write_f c = search rules
 
 same_length : tie.Need-same-length
 same_length c = search rules
@@ -22,4 +22,4 @@ returns : tie.Need-returns
 returns c = take-set-le c.args.n _ (c.args.n + 9) _ (omega arith)
 
 pub clear-tenth-spec : {M : Type 1} → statement M
-clear-tenth-spec = tie.close (tie.spec add-f mul-f slice-write-f same_length returns)
+clear-tenth-spec = tie.close (tie.spec add_f mul_f slice_write_f same_length returns)

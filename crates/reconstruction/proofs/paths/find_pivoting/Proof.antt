@@ -1,55 +1,55 @@
 -- The state that the laying leaves, as it is counted, and the reason where it has no faces. Assumes nothing.
 use native.Mathlib.Omega.{arith}
 use lib.ListN.{take}
-use Rattle.laying.proofs.Claim.{laid-few}
+use Rattle.laying.proofs.Claim.{laid_few}
 use Rattle.ball_pivoting.specs.Reconstruct.{laid}
-use Rattle.ball_pivoting.proofs.Judged.{fresh-after}
+use Rattle.ball_pivoting.proofs.Judged.{fresh_after}
 use borrow.Author.Rules.{rules}
 use Rattle.reconstruction.proofs.paths.find_pivoting.Statement.{statement}
 use Rattle.reconstruction.proofs.paths.find_pivoting.Tie as tie
 use Rattle.reconstruction.proofs.paths.find_pivoting.Proof.Places.*
 mod Places
 
-cast-count : tie.Need-overflow-cast-count
-cast-count c = search rules
+cast_count : tie.Need-overflow-cast-count
+cast_count c = search rules
 
-advanced-ball-pivoting-requires : tie.Need-advanced-ball-pivoting-requires
-advanced-ball-pivoting-requires c κs = search rules
+advanced_ball_pivoting_requires : tie.Need-advanced-ball-pivoting-requires
+advanced_ball_pivoting_requires c κs = search rules
 
-sub-reason-after : tie.Need-overflow-sub-reason-after
-sub-reason-after c = search rules
+sub_reason_after : tie.Need-overflow-sub-reason-after
+sub_reason_after c = search rules
 
-mul-reason-after : tie.Need-overflow-mul-reason-after
-mul-reason-after c = search rules
+mul_reason_after : tie.Need-overflow-mul-reason-after
+mul_reason_after c = search rules
 
-array-read-reason-after : tie.Need-array-read-reason-after
-array-read-reason-after c = search rules
+array_read_reason_after : tie.Need-array-read-reason-after
+array_read_reason_after c = search rules
 
-reason-after-requires : tie.Need-reason-after-requires
-reason-after-requires c κs =
-    let advanced-ball-pivoting = (advanced-ball-pivoting-of-reason-after-arg c).advanced-ball-pivoting in
-    let start = start-of-reason-after-arg c in
+reason_after_requires : tie.Need-reason-after-requires
+reason_after_requires c κs =
+    let advanced-ball-pivoting = (advanced_ball_pivoting_of_reason_after_arg c).advanced-ball-pivoting in
+    let start = start_of_reason_after_arg c in
     let h = advanced-ball-pivoting.ensures in
-    λ z. fresh-after start.args.rule (take start.args.radii.count start.args.radii.list) h.0 h.1 z
+    λ z. fresh_after start.args.rule (take start.args.radii.count start.args.radii.list) h.0 h.1 z
 
 same_length : tie.Need-same-length
 same_length c = search rules
 
-same-length-2 : tie.Need-same-length-2
-same-length-2 c = search rules
+same_length_2 : tie.Need-same-length-2
+same_length_2 c = search rules
 
 returns : tie.Need-returns
 unfolding laid
 returns c =
-    let advanced-ball-pivoting = (advanced-ball-pivoting-of-slice-known5 c).advanced-ball-pivoting in
-    let start = start-of-slice-known5 c in
+    let advanced-ball-pivoting = (advanced_ball_pivoting_of_slice_known5 c).advanced-ball-pivoting in
+    let start = start_of_slice_known5 c in
     let h = advanced-ball-pivoting.ensures in
     let a = start.args in
     let p = start.pre in
     record {
-      faces = h.0.faces-count;
-      few = omega (arith, h.0.faces-count, p.0.held.few, laid-few a.rule a.scene a.points.now (take a.radii.count a.radii.list));
-      seeds = h.0.seeds-count;
+      faces = h.0.faces_count;
+      few = omega (arith, h.0.faces_count, p.0.held.few, laid_few a.rule a.scene a.points.now (take a.radii.count a.radii.list));
+      seeds = h.0.seeds_count;
       looks = h.0.looks;
       pivots = h.0.pivots;
       radii = p.1;
@@ -62,12 +62,12 @@ pub find-pivoting-spec : {M : Type 1} → statement M
 find-pivoting-spec =
     tie.close
     (tie.spec
-    cast-count
-    advanced-ball-pivoting-requires
-    sub-reason-after
-    mul-reason-after
-    array-read-reason-after
-    reason-after-requires
+    cast_count
+    advanced_ball_pivoting_requires
+    sub_reason_after
+    mul_reason_after
+    array_read_reason_after
+    reason_after_requires
     same_length
-    same-length-2
+    same_length_2
     returns)

@@ -3,220 +3,220 @@
 use Prim.Native.Nat.{◌-◌, ◌≤◌}
 use mathlib.Core.Path.{refl, sym, ap, ◌∙◌}
 use native.Mathlib.Omega.{arith}
-use borrow.Author.Tests.{not-true, not-false}
-use Rattle.lists.proofs.Bools.{true-not-false}
-use Rattle.nearby.specs.Inner.Ready.{usedInScene}
+use borrow.Author.Tests.{not_true, not-false}
+use Rattle.lists.proofs.Bools.{true_not_false}
+use Rattle.nearby.specs.Inner.Ready.{used_in_scene}
 use Rattle.nearby.proofs.Keeping.{kept_on}
-use Rattle.seed.specs.Inner.Found.{seedFound}
-use Rattle.seed.proofs.State.{Seeking, seek-start, seek-end, seek-spent, seek-used, seek-kept, seek_hit, seek-miss}
+use Rattle.seed.specs.Inner.Found.{seed_found}
+use Rattle.seed.proofs.State.{Seeking, seek_start, seek_end, seek_spent, seek_used, seek_kept, seek_hit, seek_miss}
 use Rattle.seedless.specs.Inner.Seedless.{SeedlessBetween}
-use Rattle.seedless.proofs.Threes.{seedless-used, unused-kept}
-use Rattle.seed.proofs.Known.{seedless-on, unused-back, nothing-back, told-nothing}
-use Rattle.seed.proofs.First.{before-kept}
+use Rattle.seedless.proofs.Threes.{seedless_used, unused_kept}
+use Rattle.seed.proofs.Known.{seedless_on, unused_back, nothing_back, told_nothing}
+use Rattle.seed.proofs.First.{before_kept}
 use borrow.Author.Rules.{rules}
 use Rattle.seed.proofs.triples.find_from.Statement.{statement}
 use Rattle.seed.proofs.triples.find_from.Tie as tie
 use Rattle.seed.proofs.triples.find_from.Proof.Places.*
 mod Places
 
-abbrev invariant-loop : tie.invariant-loop
-invariant-loop p points w₀ largest asks s n left₀ asking₀ budget₀ lo₀ i₀ w left asking budget lo i =
-    Seeking p.scene points p.radius p.hash w₀ w left i × (lo ≤ i) × SeedlessBetween p.scene points p.radius (usedInScene p.scene w₀) lo i
+abbrev invariant_loop : tie.invariant-loop
+invariant_loop p points w₀ largest asks s n left₀ asking₀ budget₀ lo₀ i₀ w left asking budget lo i =
+    Seeking p.scene points p.radius p.hash w₀ w left i × (lo ≤ i) × SeedlessBetween p.scene points p.radius (used_in_scene p.scene w₀) lo i
 
-abbrev decreases-loop : tie.decreases-loop
-decreases-loop p points w₀ largest asks s n left₀ asking₀ budget₀ lo₀ i₀ w left asking budget lo i = p.scene.n - i
+abbrev decreases_loop : tie.decreases-loop
+decreases_loop p points w₀ largest asks s n left₀ asking₀ budget₀ lo₀ i₀ w left asking budget lo i = p.scene.n - i
 
-loop-holds : tie.Need-loop-init invariant-loop decreases-loop
-loop-holds c = (
-  seek-start c.before.before.before.requires.0 c.before.before.before.requires.1 c.before.before.before.requires.2,
+loop_holds : tie.Need-loop-init invariant_loop decreases_loop
+loop_holds c = (
+  seek_start c.before.before.before.requires.0 c.before.before.before.requires.1 c.before.before.before.requires.2,
   omega arith,
   λ x h. absurd
       (omega arith),
 )
 
-nothing-more-requires : tie.Need-nothing-more-requires invariant-loop decreases-loop
-nothing-more-requires c κs = search rules
+nothing_more_requires : tie.Need-nothing-more-requires invariant_loop decreases_loop
+nothing_more_requires c κs = search rules
 
-same_length : tie.Need-same-length invariant-loop decreases-loop
+same_length : tie.Need-same-length invariant_loop decreases_loop
 same_length c = c.before.before.before.loop.invariant.0.same
 
-returns : tie.Need-returns invariant-loop decreases-loop
+returns : tie.Need-returns invariant_loop decreases_loop
 returns c =
     let l = c.before.before.before.loop in
     let m = c.nothing-more.ensures in (
-      m.0 ∙ sym (ap seedFound (seek-spent l.invariant.0 c.before.before.loop-test.true c.before.if1.true)),
+      m.0 ∙ sym (ap seed_found (seek_spent l.invariant.0 c.before.before.loop-test.true c.before.if1.true)),
       λ h. absurd
-          (true-not-false h m.1),
+          (true_not_false h m.1),
       l.invariant.0.kept,
     )
 
-is-unused-requires : tie.Need-is-unused-requires invariant-loop decreases-loop
-is-unused-requires c κs = let l = c.before.before.before.loop in (l.invariant.0.held.work-long, l.invariant.0.held.few, c.before.before.loop-test.true)
+is_unused_requires : tie.Need-is-unused-requires invariant_loop decreases_loop
+is_unused_requires c κs = let l = c.before.before.before.loop in (l.invariant.0.held.work_long, l.invariant.0.held.few, c.before.before.loop-test.true)
 
-add-i : tie.Need-overflow-add-i invariant-loop decreases-loop
-add-i c = search rules
+add_i : tie.Need-overflow-add-i invariant_loop decreases_loop
+add_i c = search rules
 
-loop-less : tie.Need-loop-smaller invariant-loop decreases-loop
-loop-less c = search rules
+loop_less : tie.Need-loop-smaller invariant_loop decreases_loop
+loop_less c = search rules
 
-loop-again : tie.Need-loop-preserved invariant-loop decreases-loop
-loop-again c =
-    let loop-test = (in-loop-of-then2 c).loop-test in
-    let loop = (at-loop-of-then2 c).loop in
-    let start = start-of-then2 c in
+loop_again : tie.Need-loop-preserved invariant_loop decreases_loop
+loop_again c =
+    let loop-test = (in_loop_of_then2 c).loop-test in
+    let loop = (at_loop_of_then2 c).loop in
+    let start = start_of_then2 c in
     let u = c.before.is-unused in
     let l = loop in
     let a = start.args in
-    let used = sym u.ensures ∙ not-true u.result c.if2.true in (
-      seek-used l.inv.0 loop-test.taken c.before.before.before.if1.false used,
+    let used = sym u.ensures ∙ not_true u.result c.if2.true in (
+      seek_used l.inv.0 loop-test.taken c.before.before.before.if1.false used,
       omega (arith, l.inv.1),
-      seedless-used (usedInScene a.p.scene a.w.now) l.inv.2 (unused-back {s = a.p.scene} l.i l.inv.0.kept used),
+      seedless_used (used_in_scene a.p.scene a.w.now) l.inv.2 (unused_back {s = a.p.scene} l.i l.inv.0.kept used),
     )
 
-ask-early-requires : tie.Need-ask-early-requires invariant-loop decreases-loop
-ask-early-requires c κs =
-    let loop-test = (in-loop-of-ask-early-arg c).loop-test in
-    let loop = (at-loop-of-ask-early-arg c).loop in
+ask_early_requires : tie.Need-ask-early-requires invariant_loop decreases_loop
+ask_early_requires c κs =
+    let loop-test = (in_loop_of_ask_early_arg c).loop-test in
+    let loop = (at_loop_of_ask_early_arg c).loop in
     let l = loop in
     (l.inv.0.held, l.inv.0.hashed, loop-test.taken)
 
-is-known-by-requires : tie.Need-is-known-by-requires invariant-loop decreases-loop
-is-known-by-requires c κs = search rules
+is_known_by_requires : tie.Need-is-known-by-requires invariant_loop decreases_loop
+is_known_by_requires c κs = search rules
 
-nothing-more-requires-2 : tie.Need-nothing-more-requires-2 invariant-loop decreases-loop
-nothing-more-requires-2 c κs = search rules
+nothing_more_requires_2 : tie.Need-nothing-more-requires-2 invariant_loop decreases_loop
+nothing_more_requires_2 c κs = search rules
 
-same-length-2 : tie.Need-same-length-2 invariant-loop decreases-loop
-same-length-2 c =
-    let ask-early = (ask-early-of-nothing-more2 c).ask-early in
-    let loop = (at-loop-of-nothing-more2 c).loop in
+same_length_2 : tie.Need-same-length-2 invariant_loop decreases_loop
+same_length_2 c =
+    let ask-early = (ask_early_of_nothing_more2 c).ask-early in
+    let loop = (at_loop_of_nothing_more2 c).loop in
     ask-early.kept.1.1.0 ∙ loop.inv.0.same
 
-returns-2 : tie.Need-returns-2 invariant-loop decreases-loop
-returns-2 c =
-    let ask-early = (ask-early-of-nothing-more2 c).ask-early in
-    let loop = (at-loop-of-nothing-more2 c).loop in
-    let start = start-of-nothing-more2 c in
+returns_2 : tie.Need-returns-2 invariant_loop decreases_loop
+returns_2 c =
+    let ask-early = (ask_early_of_nothing_more2 c).ask-early in
+    let loop = (at_loop_of_nothing_more2 c).loop in
+    let start = start_of_nothing_more2 c in
     let a = start.args in
     let l = loop in
     let e = ask-early in
     let k = c.before.before.is-known-by.ensures c.before.if3.true in
-    let upto = nothing-back {s = a.p.scene} a.points.now a.largest l.inv.0.kept (e.ensures.0 k.0) in (
-      c.nothing-more2.ensures.0 ∙ sym (ap seedFound (told-nothing a.p.scene a.points.now (usedInScene a.p.scene a.w.now) k.1 upto)),
+    let upto = nothing_back {s = a.p.scene} a.points.now a.largest l.inv.0.kept (e.ensures.0 k.0) in (
+      c.nothing-more2.ensures.0 ∙ sym (ap seed_found (told_nothing a.p.scene a.points.now (used_in_scene a.p.scene a.w.now) k.1 upto)),
       λ _. upto,
       kept_on l.inv.0.kept e.ensures.1,
     )
 
-try-first-requires : tie.Need-try-first-requires invariant-loop decreases-loop
-try-first-requires c κs =
-    let ask-early = (ask-early-of-try-first-arg c).ask-early in
-    let if2 = (else2-of-try-first-arg c).if2 in
-    let is-unused = (is-unused-of-try-first-arg c).is-unused in
-    let loop-test = (in-loop-of-try-first-arg c).loop-test in
-    let loop = (at-loop-of-try-first-arg c).loop in
-    let start = start-of-try-first-arg c in
+try_first_requires : tie.Need-try-first-requires invariant_loop decreases_loop
+try_first_requires c κs =
+    let ask-early = (ask_early_of_try_first_arg c).ask-early in
+    let if2 = (else2_of_try_first_arg c).if2 in
+    let is-unused = (is_unused_of_try_first_arg c).is-unused in
+    let loop-test = (in_loop_of_try_first_arg c).loop-test in
+    let loop = (at_loop_of_try_first_arg c).loop in
+    let start = start_of_try_first_arg c in
     let a = start.args in
     let u = is-unused in
     let l = loop in
     let e = ask-early in
-    let q = seek-kept l.inv.0 e.last.1.1.0 e.ensures.1 e.kept.1.1.0 in
-    let free = unused-back {s = a.p.scene} l.i l.inv.0.kept (sym u.ensures ∙ not-false u.result if2.left) in (
+    let q = seek_kept l.inv.0 e.last.1.1.0 e.ensures.1 e.kept.1.1.0 in
+    let free = unused_back {s = a.p.scene} l.i l.inv.0.kept (sym u.ensures ∙ not-false u.result if2.left) in (
       record { held = q.held; indexed = q.indexed; hashed = q.hashed; limiting = start.pre.3; inside = loop-test.taken },
-      before-kept {p = a.p} {w = a.w.now} (record { between = l.inv.2; order = l.inv.1; free = free }) q.kept,
+      before_kept {p = a.p} {w = a.w.now} (record { between = l.inv.2; order = l.inv.1; free = free }) q.kept,
     )
 
-enum-known-found : tie.Need-enum-known-found invariant-loop decreases-loop
-enum-known-found c = search rules
+enum_known_found : tie.Need-enum-known-found invariant_loop decreases_loop
+enum_known_found c = search rules
 
-same-length-3 : tie.Need-same-length-3 invariant-loop decreases-loop
-same-length-3 c =
-    let try-first = (try-first-of-known-told c).try-first in
-    let ask-early = (ask-early-of-known-told c).ask-early in
-    let loop = (at-loop-of-known-told c).loop in
+same_length_3 : tie.Need-same-length-3 invariant_loop decreases_loop
+same_length_3 c =
+    let try-first = (try_first_of_known_told c).try-first in
+    let ask-early = (ask_early_of_known_told c).ask-early in
+    let loop = (at_loop_of_known_told c).loop in
     try-first.kept.1.1.0 ∙ ask-early.kept.1.1.0 ∙ loop.inv.0.same
 
-returns-3 : tie.Need-returns-3 invariant-loop decreases-loop
-returns-3 c =
-    let try-first = (try-first-of-known-told c).try-first in
-    let ask-early = (ask-early-of-known-told c).ask-early in
-    let if2 = (else2-of-known-told c).if2 in
-    let is-unused = (is-unused-of-known-told c).is-unused in
-    let if1 = (else1-of-known-told c).if1 in
-    let loop-test = (in-loop-of-known-told c).loop-test in
-    let loop = (at-loop-of-known-told c).loop in
-    let start = start-of-known-told c in
+returns_3 : tie.Need-returns-3 invariant_loop decreases_loop
+returns_3 c =
+    let try-first = (try_first_of_known_told c).try-first in
+    let ask-early = (ask_early_of_known_told c).ask-early in
+    let if2 = (else2_of_known_told c).if2 in
+    let is-unused = (is_unused_of_known_told c).is-unused in
+    let if1 = (else1_of_known_told c).if1 in
+    let loop-test = (in_loop_of_known_told c).loop-test in
+    let loop = (at_loop_of_known_told c).loop in
+    let start = start_of_known_told c in
     let a = start.args in
     let u = is-unused in
     let l = loop in
     let e = ask-early in
-    let q = seek-kept l.inv.0 e.last.1.1.0 e.ensures.1 e.kept.1.1.0 in
+    let q = seek_kept l.inv.0 e.last.1.1.0 e.ensures.1 e.kept.1.1.0 in
     let f = try-first in
-    let free = unused-kept {s = a.p.scene} l.i e.ensures.1 (sym u.ensures ∙ not-false u.result if2.left) in (
+    let free = unused_kept {s = a.p.scene} l.i e.ensures.1 (sym u.ensures ∙ not-false u.result if2.left) in (
       seek_hit q loop-test.taken if1.left free f.ensures.0.same c.before.found.given.1,
-      λ h. absurd (true-not-false h refl),
+      λ h. absurd (true_not_false h refl),
       kept_on q.kept f.ensures.1,
     )
 
-enum_told : tie.Need-enum-told invariant-loop decreases-loop
+enum_told : tie.Need-enum-told invariant_loop decreases_loop
 enum_told c = search rules
 
-known-from-requires : tie.Need-known-from-requires invariant-loop decreases-loop
-known-from-requires c κs =
-    let loop-test = (in-loop-of-enum-told c).loop-test in
-    let loop = (at-loop-of-enum-told c).loop in
+known_from_requires : tie.Need-known-from-requires invariant_loop decreases_loop
+known_from_requires c κs =
+    let loop-test = (in_loop_of_enum_told c).loop-test in
+    let loop = (at_loop_of_enum_told c).loop in
     let l = loop in
     (l.inv.1, omega (arith, l.inv.0.held.few, loop-test.taken))
 
-sub-left : tie.Need-overflow-sub-left invariant-loop decreases-loop
-sub-left c = search rules
+sub_left : tie.Need-overflow-sub-left invariant_loop decreases_loop
+sub_left c = search rules
 
-add-i-2 : tie.Need-overflow-add-i-2 invariant-loop decreases-loop
-add-i-2 c =
-    let loop-test = (in-loop-of-known-from c).loop-test in
-    let loop = (at-loop-of-known-from c).loop in
+add_i_2 : tie.Need-overflow-add-i-2 invariant_loop decreases_loop
+add_i_2 c =
+    let loop-test = (in_loop_of_known_from c).loop-test in
+    let loop = (at_loop_of_known_from c).loop in
     omega (arith, loop-test.taken, loop.inv.0.held.few)
 
-loop-less-2 : tie.Need-loop-smaller-2 invariant-loop decreases-loop
-loop-less-2 c = search rules
+loop_less_2 : tie.Need-loop-smaller-2 invariant_loop decreases_loop
+loop_less_2 c = search rules
 
-loop-again-2 : tie.Need-loop-preserved-2 invariant-loop decreases-loop
-loop-again-2 c =
-    let try-first = (try-first-of-known-from c).try-first in
-    let ask-early = (ask-early-of-known-from c).ask-early in
-    let if2 = (else2-of-known-from c).if2 in
-    let is-unused = (is-unused-of-known-from c).is-unused in
-    let if1 = (else1-of-known-from c).if1 in
-    let loop-test = (in-loop-of-known-from c).loop-test in
-    let loop = (at-loop-of-known-from c).loop in
-    let start = start-of-known-from c in
+loop_again_2 : tie.Need-loop-preserved-2 invariant_loop decreases_loop
+loop_again_2 c =
+    let try-first = (try_first_of_known_from c).try-first in
+    let ask-early = (ask_early_of_known_from c).ask-early in
+    let if2 = (else2_of_known_from c).if2 in
+    let is-unused = (is_unused_of_known_from c).is-unused in
+    let if1 = (else1_of_known_from c).if1 in
+    let loop-test = (in_loop_of_known_from c).loop-test in
+    let loop = (at_loop_of_known_from c).loop in
+    let start = start_of_known_from c in
     let a = start.args in
     let u = is-unused in
     let l = loop in
     let e = ask-early in
-    let q = seek-kept l.inv.0 e.last.1.1.0 e.ensures.1 e.kept.1.1.0 in
+    let q = seek_kept l.inv.0 e.last.1.1.0 e.ensures.1 e.kept.1.1.0 in
     let f = try-first in
     let m = c.Known-from in
-    let free = unused-kept {s = a.p.scene} l.i e.ensures.1 (sym u.ensures ∙ not-false u.result if2.left) in (
-      seek-miss q f.last.1.1.0 loop-test.taken if1.left free f.ensures.0.same c.before.enum_told.given.1 f.ensures.1
+    let free = unused_kept {s = a.p.scene} l.i e.ensures.1 (sym u.ensures ∙ not-false u.result if2.left) in (
+      seek_miss q f.last.1.1.0 loop-test.taken if1.left free f.ensures.0.same c.before.enum_told.given.1 f.ensures.1
           f.kept.1.1.0,
       m.ensures.inside,
-      seedless-on {w₀ = a.w.now} l.inv.2 q.kept f.ensures.0.told m.ensures,
+      seedless_on {w₀ = a.w.now} l.inv.2 q.kept f.ensures.0.told m.ensures,
     )
 
-nothing-more-requires-3 : tie.Need-nothing-more-requires-3 invariant-loop decreases-loop
-nothing-more-requires-3 c κs = search rules
+nothing_more_requires_3 : tie.Need-nothing-more-requires-3 invariant_loop decreases_loop
+nothing_more_requires_3 c κs = search rules
 
-same-length-4 : tie.Need-same-length-4 invariant-loop decreases-loop
-same-length-4 c = c.before.before.loop.invariant.0.same
+same_length_4 : tie.Need-same-length-4 invariant_loop decreases_loop
+same_length_4 c = c.before.before.loop.invariant.0.same
 
-returns-4 : tie.Need-returns-4 invariant-loop decreases-loop
-returns-4 c =
+returns_4 : tie.Need-returns-4 invariant_loop decreases_loop
+returns_4 c =
     let l = c.before.before.loop in
     let m = c.nothing-more3.ensures in
-    (m.0 ∙ sym (ap seedFound (seek-end l.invariant.0 c.before.loop-test.false)), λ h. absurd (true-not-false h m.1), l.invariant.0.kept)
+    (m.0 ∙ sym (ap seed_found (seek_end l.invariant.0 c.before.loop-test.false)), λ h. absurd (true_not_false h m.1), l.invariant.0.kept)
 
 pub find-from-spec : {M : Type 1} → statement M
 find-from-spec =
-    tie.close (tie.spec invariant-loop decreases-loop loop-holds nothing-more-requires same_length returns is-unused-requires add-i loop-less loop-again ask-early-requires
-    is-known-by-requires nothing-more-requires-2 same-length-2 returns-2 try-first-requires enum-known-found same-length-3 returns-3 enum_told
-    known-from-requires sub-left add-i-2 loop-less-2 loop-again-2 nothing-more-requires-3 same-length-4 returns-4)
+    tie.close (tie.spec invariant_loop decreases_loop loop_holds nothing_more_requires same_length returns is_unused_requires add_i loop_less loop_again ask_early_requires
+    is_known_by_requires nothing_more_requires_2 same_length_2 returns_2 try_first_requires enum_known_found same_length_3 returns_3 enum_told
+    known_from_requires sub_left add_i_2 loop_less_2 loop_again_2 nothing_more_requires_3 same_length_4 returns_4)

@@ -7,8 +7,8 @@ use Rattle.seed.proofs.triples.lesser.Tie as tie
 returns : tie.Need-returns
 returns c = (omega arith, omega (arith, c.if1.true), λ _. refl)
 
-returns-2 : tie.Need-returns-2
-returns-2 c = (c.if1.false, omega arith, λ h. absurd (omega arith))
+returns_2 : tie.Need-returns-2
+returns_2 c = (c.if1.false, omega arith, λ h. absurd (omega arith))
 
 pub lesser-spec : {M : Type 1} → statement M
-lesser-spec = tie.close (tie.spec returns returns-2)
+lesser-spec = tie.close (tie.spec returns returns_2)

@@ -1,8 +1,8 @@
 -- `spatial_hash::links::clear_heads` meets its contract. Assumes nothing.
 use mathlib.Core.Path.{refl}
 use Prim.Native.Nat.{◌-◌}
-use Rattle.spatial_hash.proofs.Heads.{Cleared, cleared-step}
-use Rattle.spatial_hash.proofs.Sizes.{square-few}
+use Rattle.spatial_hash.proofs.Heads.{Cleared, cleared_step}
+use Rattle.spatial_hash.proofs.Sizes.{square_few}
 use native.Mathlib.Omega.{arith}
 use borrow.Author.Rules.{rules}
 use Rattle.spatial_hash.proofs.links.clear_heads.Statement.{statement}
@@ -10,67 +10,67 @@ use Rattle.spatial_hash.proofs.links.clear_heads.Tie as tie
 use Rattle.spatial_hash.proofs.links.clear_heads.Reads as reads
 use Rattle.spatial_hash.proofs.links.clear_heads.Lts as lts
 
-abbrev invariant-loop : tie.invariant-loop
-invariant-loop w₀ n side buckets b₀ w b = Cleared w₀ n w b
+abbrev invariant_loop : tie.invariant-loop
+invariant_loop w₀ n side buckets b₀ w b = Cleared w₀ n w b
 
-abbrev decreases-loop : tie.decreases-loop
-decreases-loop w₀ n side buckets b₀ w b = buckets - b
+abbrev decreases_loop : tie.decreases-loop
+decreases_loop w₀ n side buckets b₀ w b = buckets - b
 
-mul-buckets : tie.Need-overflow-mul-buckets invariant-loop decreases-loop
-mul-buckets c = omega (arith, square-few c.args.side c.requires.1)
+mul_buckets : tie.Need-overflow-mul-buckets invariant_loop decreases_loop
+mul_buckets c = omega (arith, square_few c.args.side c.requires.1)
 
-add-buckets : tie.Need-overflow-add-buckets invariant-loop decreases-loop
-add-buckets c = search rules
+add_buckets : tie.Need-overflow-add-buckets invariant_loop decreases_loop
+add_buckets c = search rules
 
-mul-buckets-2 : tie.Need-overflow-mul-buckets-2 invariant-loop decreases-loop
-mul-buckets-2 c = search rules
+mul_buckets_2 : tie.Need-overflow-mul-buckets-2 invariant_loop decreases_loop
+mul_buckets_2 c = search rules
 
-loop-holds : tie.Need-loop-init invariant-loop decreases-loop
-loop-holds c = record { zero = λ i h. absurd (omega arith); before = refl; length-same = refl }
+loop_holds : tie.Need-loop-init invariant_loop decreases_loop
+loop_holds c = record { zero = λ i h. absurd (omega arith); before = refl; length_same = refl }
 
-mul-w : tie.Need-overflow-mul-w invariant-loop decreases-loop
-mul-w c = search rules
+mul_w : tie.Need-overflow-mul-w invariant_loop decreases_loop
+mul_w c = search rules
 
-add-w : tie.Need-overflow-add-w invariant-loop decreases-loop
-add-w c = search rules
+add_w : tie.Need-overflow-add-w invariant_loop decreases_loop
+add_w c = search rules
 
-mul-w-2 : tie.Need-overflow-mul-w-2 invariant-loop decreases-loop
-mul-w-2 c = search rules
+mul_w_2 : tie.Need-overflow-mul-w-2 invariant_loop decreases_loop
+mul_w_2 c = search rules
 
-slice-write-w : tie.Need-slice-write-w invariant-loop decreases-loop
-slice-write-w c = search rules
+slice_write_w : tie.Need-slice-write-w invariant_loop decreases_loop
+slice_write_w c = search rules
 
-add-b : tie.Need-overflow-add-b invariant-loop decreases-loop
-add-b c = search rules
+add_b : tie.Need-overflow-add-b invariant_loop decreases_loop
+add_b c = search rules
 
-loop-less : tie.Need-loop-smaller invariant-loop decreases-loop
-loop-less c = search rules
+loop_less : tie.Need-loop-smaller invariant_loop decreases_loop
+loop_less c = search rules
 
-loop-again : tie.Need-loop-preserved invariant-loop decreases-loop
-loop-again c = let l = c.before.loop in cleared-step _ l.w c.before.before.args.n l.b (omega arith) l.invariant
+loop_again : tie.Need-loop-preserved invariant_loop decreases_loop
+loop_again c = let l = c.before.loop in cleared_step _ l.w c.before.before.args.n l.b (omega arith) l.invariant
 
-same_length : tie.Need-same-length invariant-loop decreases-loop
-same_length c = c.before.loop.invariant.length-same
+same_length : tie.Need-same-length invariant_loop decreases_loop
+same_length c = c.before.loop.invariant.length_same
 
-returns : tie.Need-returns invariant-loop decreases-loop
+returns : tie.Need-returns invariant_loop decreases_loop
 returns c = ((λ b h. c.before.loop.invariant.zero b (omega arith)), c.before.loop.invariant.before)
 
 pub clear-heads-spec : {M : Type 1} → statement M
 clear-heads-spec =
     tie.close
     (tie.spec
-    invariant-loop
-    decreases-loop
-    mul-buckets
-    add-buckets
-    mul-buckets-2
-    loop-holds
-    mul-w
-    add-w
-    mul-w-2
-    slice-write-w
-    add-b
-    loop-less
-    loop-again
+    invariant_loop
+    decreases_loop
+    mul_buckets
+    add_buckets
+    mul_buckets_2
+    loop_holds
+    mul_w
+    add_w
+    mul_w_2
+    slice_write_w
+    add_b
+    loop_less
+    loop_again
     same_length
     returns)

@@ -3,71 +3,71 @@ use native.Mathlib.Omega.{arith}
 use borrow.Author.Rules.{rules}
 use mathlib.Core.Path.{ap, ◌∙◌}
 use Prim.Native.Nat.{◌-◌}
-use Rattle.spatial_hash.specs.Inner.Buckets.{bucketOf}
-use Rattle.spatial_hash.proofs.Heads.{Linking, linking-start, linking-step, linking-end, bucket-below}
+use Rattle.spatial_hash.specs.Inner.Buckets.{bucket_of}
+use Rattle.spatial_hash.proofs.Heads.{Linking, linking_start, linking_step, linking_end, bucket_below}
 use Rattle.spatial_hash.proofs.links.link_points.Statement.{statement}
 use Rattle.spatial_hash.proofs.links.link_points.Tie as tie
 use Rattle.spatial_hash.proofs.links.link_points.Proof.Places.*
 mod Places
 
-abbrev invariant-loop : tie.invariant-loop
-invariant-loop points w₀ n hash j₀ w j = Linking hash points n w₀ w j
+abbrev invariant_loop : tie.invariant-loop
+invariant_loop points w₀ n hash j₀ w j = Linking hash points n w₀ w j
 
-abbrev decreases-loop : tie.decreases-loop
-decreases-loop points w₀ n hash j₀ w j = n - j
+abbrev decreases_loop : tie.decreases-loop
+decreases_loop points w₀ n hash j₀ w j = n - j
 
-loop-holds : tie.Need-loop-init invariant-loop decreases-loop
-loop-holds c = linking-start _ _ _ _ c.before.before.requires
+loop_holds : tie.Need-loop-init invariant_loop decreases_loop
+loop_holds c = linking_start _ _ _ _ c.before.before.requires
 
-point-at-requires : tie.Need-point-at-requires invariant-loop decreases-loop
-point-at-requires c κs = search rules
+point_at_requires : tie.Need-point-at-requires invariant_loop decreases_loop
+point_at_requires c κs = search rules
 
-bucket-of-requires : tie.Need-bucket-of-requires invariant-loop decreases-loop
-bucket-of-requires c κs = search rules
+bucket_of_requires : tie.Need-bucket-of-requires invariant_loop decreases_loop
+bucket_of_requires c κs = search rules
 
-link-point-requires : tie.Need-link-point-requires invariant-loop decreases-loop
-link-point-requires c κs =
-    let s = start-of-link-point-arg c in
-    let b = bucket-below s.args.hash c.before.before.point_at.result s.pre.sound.some in
+link_point_requires : tie.Need-link-point-requires invariant_loop decreases_loop
+link_point_requires c κs =
+    let s = start_of_link_point_arg c in
+    let b = bucket_below s.args.hash c.before.before.point_at.result s.pre.sound.some in
     let e = c.before.bucket-of.ensures in
     (search rules, search rules, omega (arith, s.pre.sound.fitting), search rules)
 
-add-j : tie.Need-overflow-add-j invariant-loop decreases-loop
-add-j c = search rules
+add_j : tie.Need-overflow-add-j invariant_loop decreases_loop
+add_j c = search rules
 
-loop-less : tie.Need-loop-smaller invariant-loop decreases-loop
-loop-less c = search rules
+loop_less : tie.Need-loop-smaller invariant_loop decreases_loop
+loop_less c = search rules
 
-loop-again : tie.Need-loop-preserved invariant-loop decreases-loop
-loop-again c =
-    let bucket-of = (bucket-of-of-slice-known2 c).bucket-of in
-    let point_at = (point-at-of-slice-known2 c).point_at in
-    let loop-test = (in-loop-of-slice-known2 c).loop-test in
-    let loop = (at-loop-of-slice-known2 c).loop in
-    let start = start-of-slice-known2 c in
+loop_again : tie.Need-loop-preserved invariant_loop decreases_loop
+loop_again c =
+    let bucket-of = (bucket_of_of_slice_known2 c).bucket-of in
+    let point_at_lem = (point_at_of_slice_known2 c).point_at in
+    let loop-test = (in_loop_of_slice_known2 c).loop-test in
+    let loop = (at_loop_of_slice_known2 c).loop in
+    let start = start_of_slice_known2 c in
     let l = loop in
     let s = start in
-    linking-step s.args.hash s.args.points.now s.args.n s.args.w.now l.w _ l.j bucket-of.result s.pre loop-test.taken
-    (bucket-of.ensures ∙ ap (bucketOf s.args.hash) point_at.ensures) c.before.before.link-point.ensures l.inv
+    linking_step s.args.hash s.args.points.now s.args.n s.args.w.now l.w _ l.j bucket-of.result s.pre loop-test.taken
+    (bucket-of.ensures ∙ ap (bucket_of s.args.hash) point_at_lem.ensures) c.before.before.link-point.ensures l.inv
 
-same_length : tie.Need-same-length invariant-loop decreases-loop
-same_length c = c.before.loop.invariant.length-same
+same_length : tie.Need-same-length invariant_loop decreases_loop
+same_length c = c.before.loop.invariant.length_same
 
-returns : tie.Need-returns invariant-loop decreases-loop
-returns c = (linking-end _ _ _ _ c.before.loop.w c.before.loop.j c.loop-test.false c.before.loop.invariant, c.before.loop.invariant.before)
+returns : tie.Need-returns invariant_loop decreases_loop
+returns c = (linking_end _ _ _ _ c.before.loop.w c.before.loop.j c.loop-test.false c.before.loop.invariant, c.before.loop.invariant.before)
 
 pub link-points-spec : {M : Type 1} → statement M
 link-points-spec =
     tie.close
     (tie.spec
-    invariant-loop
-    decreases-loop
-    loop-holds
-    point-at-requires
-    bucket-of-requires
-    link-point-requires
-    add-j
-    loop-less
-    loop-again
+    invariant_loop
+    decreases_loop
+    loop_holds
+    point_at_requires
+    bucket_of_requires
+    link_point_requires
+    add_j
+    loop_less
+    loop_again
     same_length
     returns)

@@ -3,8 +3,8 @@
 use Prim.Native.Nat.{◌+◌, ◌*◌, ◌<◌}
 use mathlib.Core.Path.{subst}
 use Rattle.spatial_hash.specs.Inner.Buckets.{Appended}
-use Rattle.spatial_hash.proofs.Sizes.{joined-below}
-use Rattle.spatial_hash.proofs.Runs.{start-most, run-goes, run_is, run_room}
+use Rattle.spatial_hash.proofs.Sizes.{joined_below}
+use Rattle.spatial_hash.proofs.Runs.{start_most, run_goes, run_is, run_room}
 use native.Mathlib.Omega.{arith}
 use borrow.Author.Rules.{rules}
 use Rattle.spatial_hash.proofs.walk.visit_run.Statement.{statement}
@@ -15,62 +15,62 @@ last_word : (s : tie.Start) → s.args.at * (s.args.hash.side + 1) + s.args.end 
 last_word s =
     let m = s.args.hash.side in
     let e = s.requires.2 in
-    omega (arith, joined-below (m * m) (m + 1) s.args.at s.args.end s.requires.0 (omega arith), s.requires.3.linked.sound.fitting)
+    omega (arith, joined_below (m * m) (m + 1) s.args.at s.args.end s.requires.0 (omega arith), s.requires.3.linked.sound.fitting)
 
-mul-starts : tie.Need-overflow-mul-starts
-mul-starts c = search rules
+mul_starts : tie.Need-overflow-mul-starts
+mul_starts c = search rules
 
-add-starts : tie.Need-overflow-add-starts
-add-starts c = search rules
+add_starts : tie.Need-overflow-add-starts
+add_starts c = search rules
 
-mul-starts-2 : tie.Need-overflow-mul-starts-2
-mul-starts-2 c = let s = c.before.before in let l = last_word s in let r = s.requires.3.linked.ready in omega arith
+mul_starts_2 : tie.Need-overflow-mul-starts-2
+mul_starts_2 c = let s = c.before.before in let l = last_word s in let r = s.requires.3.linked.ready in omega arith
 
-add-starts-2 : tie.Need-overflow-add-starts-2
-add-starts-2 c = let s = c.before.before in let l = last_word s in let r = s.requires.3.linked.ready in omega arith
+add_starts_2 : tie.Need-overflow-add-starts-2
+add_starts_2 c = let s = c.before.before in let l = last_word s in let r = s.requires.3.linked.ready in omega arith
 
-add-from : tie.Need-overflow-add-from
-add-from c = let s = c.before.before in let l = last_word s in let r = s.requires.3.linked.ready in omega arith
+add_from : tie.Need-overflow-add-from
+add_from c = let s = c.before.before in let l = last_word s in let r = s.requires.3.linked.ready in omega arith
 
-mul-from : tie.Need-overflow-mul-from
-mul-from c = let s = c.before.before in let l = last_word s in let r = s.requires.3.linked.ready in omega arith
+mul_from : tie.Need-overflow-mul-from
+mul_from c = let s = c.before.before in let l = last_word s in let r = s.requires.3.linked.ready in omega arith
 
-slice-read-from : tie.Need-slice-read-from
-slice-read-from c = let s = c.before.before.before in let l = last_word s in let r = s.requires.3.linked.ready in omega arith
+slice_read_from : tie.Need-slice-read-from
+slice_read_from c = let s = c.before.before.before in let l = last_word s in let r = s.requires.3.linked.ready in omega arith
 
-cast-from : tie.Need-overflow-cast-from
-cast-from c =
+cast_from : tie.Need-overflow-cast-from
+cast_from c =
     let s = c.before.before.before in let o = s.requires.1 in let e = s.requires.2 in omega (
       arith,
-      start-most _ _ _ _ _ s.args.first s.args.end s.requires.0 o e s.requires.3.linked s.args.first
+      start_most _ _ _ _ _ s.args.first s.args.end s.requires.0 o e s.requires.3.linked s.args.first
           (omega arith),
       s.requires.3.linked.ready.few,
     )
 
-add-to : tie.Need-overflow-add-to
-add-to c = let s = c.before.before.before in let l = last_word s in let r = s.requires.3.linked.ready in omega arith
+add_to : tie.Need-overflow-add-to
+add_to c = let s = c.before.before.before in let l = last_word s in let r = s.requires.3.linked.ready in omega arith
 
-mul-to : tie.Need-overflow-mul-to
-mul-to c = let s = c.before.before.before in let l = last_word s in let r = s.requires.3.linked.ready in omega arith
+mul_to : tie.Need-overflow-mul-to
+mul_to c = let s = c.before.before.before in let l = last_word s in let r = s.requires.3.linked.ready in omega arith
 
-slice-read-to : tie.Need-slice-read-to
-slice-read-to c = let s = c.before.before.before.before in let l = last_word s in let r = s.requires.3.linked.ready in omega arith
+slice_read_to : tie.Need-slice-read-to
+slice_read_to c = let s = c.before.before.before.before in let l = last_word s in let r = s.requires.3.linked.ready in omega arith
 
-cast-to : tie.Need-overflow-cast-to
-cast-to c =
+cast_to : tie.Need-overflow-cast-to
+cast_to c =
     let s = c.before.before.before.before in let o = s.requires.1 in let e = s.requires.2 in omega
-    (arith, start-most _ _ _ _ _ s.args.first s.args.end s.requires.0 o e s.requires.3.linked s.args.end e, s.requires.3.linked.ready.few)
+    (arith, start_most _ _ _ _ _ s.args.first s.args.end s.requires.0 o e s.requires.3.linked s.args.end e, s.requires.3.linked.ready.few)
 
-copy-points-requires : tie.Need-copy-points-requires
-copy-points-requires c κs =
+copy_points_requires : tie.Need-copy-points-requires
+copy_points_requires c κs =
     let s = c.before.before.before.before.before in
     let r = s.requires.3 in
     let o = s.requires.1 in
     let e = s.requires.2 in (
       r.linked.ready.few,
-      r.linked.ready.work-long,
-      run-goes _ _ _ _ _ _ _ s.requires.0 o e r.linked,
-      start-most _ _ _ _ _ s.args.first
+      r.linked.ready.work_long,
+      run_goes _ _ _ _ _ _ _ s.requires.0 o e r.linked,
+      start_most _ _ _ _ _ s.args.first
           s.args.end s.requires.0 o e r.linked s.args.end e,
       run_room _ _ _ _ _ _ _ s.requires.0 o e _ r,
     )
@@ -88,18 +88,18 @@ pub visit-run-spec : {M : Type 1} → statement M
 visit-run-spec =
     tie.close
     (tie.spec
-    mul-starts
-    add-starts
-    mul-starts-2
-    add-starts-2
-    add-from
-    mul-from
-    slice-read-from
-    cast-from
-    add-to
-    mul-to
-    slice-read-to
-    cast-to
-    copy-points-requires
+    mul_starts
+    add_starts
+    mul_starts_2
+    add_starts_2
+    add_from
+    mul_from
+    slice_read_from
+    cast_from
+    add_to
+    mul_to
+    slice_read_to
+    cast_to
+    copy_points_requires
     same_length
     returns)

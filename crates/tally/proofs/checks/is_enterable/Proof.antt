@@ -14,17 +14,17 @@ returns c =
           c.before.if3.true,
     )
 
-returns-2 : tie.Need-returns-2
+returns_2 : tie.Need-returns-2
 unfolding enterable
-returns-2 c = rw (le-leb _ _ c.before.before.before.before.if1.true, le-leb _ _ c.before.before.if2.true, lt-leb _ _ c.if3.false)
+returns_2 c = rw (le-leb _ _ c.before.before.before.before.if1.true, le-leb _ _ c.before.before.if2.true, lt-leb _ _ c.if3.false)
 
-returns-3 : tie.Need-returns-3
+returns_3 : tie.Need-returns-3
 unfolding enterable
-returns-3 c = rw (le-leb _ _ c.before.before.if1.true, lt-leb _ _ c.if2.false)
+returns_3 c = rw (le-leb _ _ c.before.before.if1.true, lt-leb _ _ c.if2.false)
 
-returns-4 : tie.Need-returns-4
+returns_4 : tie.Need-returns-4
 unfolding enterable
-returns-4 c = rw (lt-leb _ _ c.if1.false)
+returns_4 c = rw (lt-leb _ _ c.if1.false)
 
 pub is-enterable-spec : {M : Type 1} → statement M
-is-enterable-spec = tie.close (tie.spec returns returns-2 returns-3 returns-4)
+is-enterable-spec = tie.close (tie.spec returns returns_2 returns_3 returns_4)

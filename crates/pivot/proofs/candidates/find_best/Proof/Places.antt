@@ -1,29 +1,29 @@
 -- The ways back from a place of `find_best` to an earlier one.
 use Rattle.pivot.proofs.candidates.find_best.Tie as tie
 
-abbrev pub point-at-of-gather-both-arg : tie.After-gather-both-arg → tie.After-point-at
-point-at-of-gather-both-arg c = c.before.before.before.before
+abbrev pub point_at_of_gather_both_arg : tie.After-gather-both-arg → tie.After-point-at
+point_at_of_gather_both_arg c = c.before.before.before.before
 
-abbrev pub start-of-gather-both-arg : tie.After-gather-both-arg → tie.Start
-start-of-gather-both-arg c = (point-at-of-gather-both-arg c).before.before.before
+abbrev pub start_of_gather_both_arg : tie.After-gather-both-arg → tie.Start
+start_of_gather_both_arg c = (point_at_of_gather_both_arg c).before.before.before
 
-abbrev pub start-of-best-of-arg : tie.After-best-of-arg → tie.Start
-start-of-best-of-arg c = start-of-gather-both-arg c.before.before.before.before
+abbrev pub start_of_best_of_arg : tie.After-best-of-arg → tie.Start
+start_of_best_of_arg c = start_of_gather_both_arg c.before.before.before.before
 
-abbrev pub gather-both-of-best-of : tie.After-best-of → tie.After-gather-both
-gather-both-of-best-of c = c.before.before.before.before
+abbrev pub gather_both_of_best_of : tie.After-best-of → tie.After-gather-both
+gather_both_of_best_of c = c.before.before.before.before
 
-abbrev pub filter-of-of-best-of : tie.After-best-of → tie.After-filter-of
-filter-of-of-best-of c = (gather-both-of-best-of c).before.before
+abbrev pub filter_of_of_best_of : tie.After-best-of → tie.After-filter-of
+filter_of_of_best_of c = (gather_both_of_best_of c).before.before
 
-abbrev pub middle-of-of-best-of : tie.After-best-of → tie.After-middle-of
-middle-of-of-best-of c = (filter-of-of-best-of c).before
+abbrev pub middle_of_of_best_of : tie.After-best-of → tie.After-middle-of
+middle_of_of_best_of c = (filter_of_of_best_of c).before
 
-abbrev pub point-at2-of-best-of : tie.After-best-of → tie.After-point-at2
-point-at2-of-best-of c = (middle-of-of-best-of c).before
+abbrev pub point_at2_of_best_of : tie.After-best-of → tie.After-point-at2
+point_at2_of_best_of c = (middle_of_of_best_of c).before
 
-abbrev pub point-at-of-best-of : tie.After-best-of → tie.After-point-at
-point-at-of-best-of c = (point-at2-of-best-of c).before
+abbrev pub point_at_of_best_of : tie.After-best-of → tie.After-point-at
+point_at_of_best_of c = (point_at2_of_best_of c).before
 
-abbrev pub start-of-best-of : tie.After-best-of → tie.Start
-start-of-best-of c = start-of-best-of-arg c.before
+abbrev pub start_of_best_of : tie.After-best-of → tie.Start
+start_of_best_of c = start_of_best_of_arg c.before

@@ -1,23 +1,23 @@
 -- The ways back from a place of `is_wide` to an earlier one.
 use Rattle.plain.proofs.acceptance.is_wide.Tie as tie
 
-abbrev pub then7-of-struct-known2 : tie.After-struct-known2 → tie.Then7
-then7-of-struct-known2 c = c.before.before.before.before
+abbrev pub then7_of_struct_known2 : tie.After-struct-known2 → tie.Then7
+then7_of_struct_known2 c = c.before.before.before.before
 
-abbrev pub then6-of-struct-known2 : tie.After-struct-known2 → tie.Then6
-then6-of-struct-known2 c = (then7-of-struct-known2 c).before
+abbrev pub then6_of_struct_known2 : tie.After-struct-known2 → tie.Then6
+then6_of_struct_known2 c = (then7_of_struct_known2 c).before
 
-abbrev pub then5-of-struct-known2 : tie.After-struct-known2 → tie.Then5
-then5-of-struct-known2 c = (then6-of-struct-known2 c).before
+abbrev pub then5_of_struct_known2 : tie.After-struct-known2 → tie.Then5
+then5_of_struct_known2 c = (then6_of_struct_known2 c).before
 
-abbrev pub then4-of-struct-known2 : tie.After-struct-known2 → tie.Then4
-then4-of-struct-known2 c = (then5-of-struct-known2 c).before
+abbrev pub then4_of_struct_known2 : tie.After-struct-known2 → tie.Then4
+then4_of_struct_known2 c = (then5_of_struct_known2 c).before
 
-abbrev pub then3-of-struct-known2 : tie.After-struct-known2 → tie.Then3
-then3-of-struct-known2 c = (then4-of-struct-known2 c).before
+abbrev pub then3_of_struct_known2 : tie.After-struct-known2 → tie.Then3
+then3_of_struct_known2 c = (then4_of_struct_known2 c).before
 
-abbrev pub then2-of-struct-known2 : tie.After-struct-known2 → tie.Then2
-then2-of-struct-known2 c = (then3-of-struct-known2 c).before
+abbrev pub then2_of_struct_known2 : tie.After-struct-known2 → tie.Then2
+then2_of_struct_known2 c = (then3_of_struct_known2 c).before
 
-abbrev pub then1-of-struct-known2 : tie.After-struct-known2 → tie.Then1
-then1-of-struct-known2 c = (then2-of-struct-known2 c).before
+abbrev pub then1_of_struct_known2 : tie.After-struct-known2 → tie.Then1
+then1_of_struct_known2 c = (then2_of_struct_known2 c).before

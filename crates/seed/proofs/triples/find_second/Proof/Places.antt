@@ -1,24 +1,24 @@
 -- The ways back from a place of `find_second` to an earlier one.
 use Rattle.seed.proofs.triples.find_second.Tie as tie
 
-module _ {invariant-loop : tie.invariant-loop} {decreases-loop : tie.decreases-loop} where
-  abbrev pub start-of-in-loop : tie.In-loop invariant-loop decreases-loop → tie.Start invariant-loop decreases-loop
-  start-of-in-loop c = c.before.before.before.before
+module _ {invariant_loop : tie.invariant-loop} {decreases_loop : tie.decreases-loop} where
+  abbrev pub start_of_in_loop : tie.In-loop invariant_loop decreases_loop → tie.Start invariant_loop decreases_loop
+  start_of_in_loop c = c.before.before.before.before
 
-  abbrev pub start-of-listed-point : tie.After-listed-point invariant-loop decreases-loop → tie.Start invariant-loop decreases-loop
-  start-of-listed-point c = start-of-in-loop c.before
+  abbrev pub start_of_listed_point : tie.After-listed-point invariant_loop decreases_loop → tie.Start invariant_loop decreases_loop
+  start_of_listed_point c = start_of_in_loop c.before
 
-  abbrev pub in-loop-of-enum-told : tie.After-enum-told invariant-loop decreases-loop → tie.In-loop invariant-loop decreases-loop
-  in-loop-of-enum-told c = c.before.before.before.before
+  abbrev pub in_loop_of_enum_told : tie.After-enum-told invariant_loop decreases_loop → tie.In-loop invariant_loop decreases_loop
+  in_loop_of_enum_told c = c.before.before.before.before
 
-  abbrev pub at-loop-of-enum-told : tie.After-enum-told invariant-loop decreases-loop → tie.At-loop invariant-loop decreases-loop
-  at-loop-of-enum-told c = (in-loop-of-enum-told c).before
+  abbrev pub at_loop_of_enum_told : tie.After-enum-told invariant_loop decreases_loop → tie.At-loop invariant_loop decreases_loop
+  at_loop_of_enum_told c = (in_loop_of_enum_told c).before
 
-  abbrev pub listed-point-of-known-told : tie.After-known-told invariant-loop decreases-loop → tie.After-listed-point invariant-loop decreases-loop
-  listed-point-of-known-told c = c.before.before.before.before
+  abbrev pub listed_point_of_known_told : tie.After-known-told invariant_loop decreases_loop → tie.After-listed-point invariant_loop decreases_loop
+  listed_point_of_known_told c = c.before.before.before.before
 
-  abbrev pub in-loop-of-known-told : tie.After-known-told invariant-loop decreases-loop → tie.In-loop invariant-loop decreases-loop
-  in-loop-of-known-told c = (listed-point-of-known-told c).before
+  abbrev pub in_loop_of_known_told : tie.After-known-told invariant_loop decreases_loop → tie.In-loop invariant_loop decreases_loop
+  in_loop_of_known_told c = (listed_point_of_known_told c).before
 
-  abbrev pub at-loop-of-known-told : tie.After-known-told invariant-loop decreases-loop → tie.At-loop invariant-loop decreases-loop
-  at-loop-of-known-told c = (in-loop-of-known-told c).before
+  abbrev pub at_loop_of_known_told : tie.After-known-told invariant_loop decreases_loop → tie.At-loop invariant_loop decreases_loop
+  at_loop_of_known_told c = (in_loop_of_known_told c).before

@@ -1,21 +1,21 @@
 -- The ways back from a place of `visit_plane` to an earlier one.
 use Rattle.spatial_hash.proofs.walk.visit_plane.Tie as tie
 
-module _ {invariant-loop : tie.invariant-loop} {decreases-loop : tie.decreases-loop} where
-  abbrev pub start-of-after-loop : tie.After-loop invariant-loop decreases-loop → tie.Start invariant-loop decreases-loop
-  start-of-after-loop c = c.before.before.before.before
+module _ {invariant_loop : tie.invariant-loop} {decreases_loop : tie.decreases-loop} where
+  abbrev pub start_of_after_loop : tie.After-loop invariant_loop decreases_loop → tie.Start invariant_loop decreases_loop
+  start_of_after_loop c = c.before.before.before.before
 
-  abbrev pub start-of-struct-known : tie.After-struct-known invariant-loop decreases-loop → tie.Start invariant-loop decreases-loop
-  start-of-struct-known c = c.before.before.before.before.before.before
+  abbrev pub start_of_struct_known : tie.After-struct-known invariant_loop decreases_loop → tie.Start invariant_loop decreases_loop
+  start_of_struct_known c = c.before.before.before.before.before.before
 
-  abbrev pub at-loop-of-slice-known2 : tie.After-slice-known2 invariant-loop decreases-loop → tie.At-loop invariant-loop decreases-loop
-  at-loop-of-slice-known2 c = c.before.before.before.before.before.before
+  abbrev pub at_loop_of_slice_known2 : tie.After-slice-known2 invariant_loop decreases_loop → tie.At-loop invariant_loop decreases_loop
+  at_loop_of_slice_known2 c = c.before.before.before.before.before.before
 
-  abbrev pub in-loop-of-next : tie.After-next invariant-loop decreases-loop → tie.In-loop invariant-loop decreases-loop
-  in-loop-of-next c = c.before.before.before.before.before.before
+  abbrev pub in_loop_of_next : tie.After-next invariant_loop decreases_loop → tie.In-loop invariant_loop decreases_loop
+  in_loop_of_next c = c.before.before.before.before.before.before
 
-  abbrev pub at-loop-of-next : tie.After-next invariant-loop decreases-loop → tie.At-loop invariant-loop decreases-loop
-  at-loop-of-next c = (in-loop-of-next c).before
+  abbrev pub at_loop_of_next : tie.After-next invariant_loop decreases_loop → tie.At-loop invariant_loop decreases_loop
+  at_loop_of_next c = (in_loop_of_next c).before
 
-  abbrev pub start-of-next : tie.After-next invariant-loop decreases-loop → tie.Start invariant-loop decreases-loop
-  start-of-next c = (at-loop-of-next c).before.before.before
+  abbrev pub start_of_next : tie.After-next invariant_loop decreases_loop → tie.Start invariant_loop decreases_loop
+  start_of_next c = (at_loop_of_next c).before.before.before
