@@ -13,7 +13,7 @@ use Rattle.numbers.proofs.OrderLaws.{lt_le, lt_le_trans}
 use Rattle.patch.specs.Lay.{Edge, Face, face}
 use Rattle.lists.specs.Lists.{unused, up_from}
 use Rattle.patch.specs.Search.{Floats, is_second, is_third, third_of, second_of, first_of, score_of, best_of, searching}
-use Rattle.lists.proofs.Bools.{true_not_false, not_true}
+use Rattle.lists.proofs.Bools.{true_not_false, not-true}
 use Rattle.amending.proofs.Fitting.{All, all_if, Triple, or_else, seed_fits}
 use Rattle.amending.specs.Amending.{seed_face, pivot_face, amend, LowScores, Amends}
 
@@ -129,7 +129,7 @@ abbrev High : Float → Type 0
 High top = (x : Float) → lt zero_float x ≡ false → lt top x ≡ false
 
 high_on : (top s : Float) → High top → lt top s ≡ true → High s
-high_on top s h l x z = not_true (λ (t : lt s x ≡ true). true_not_false
+high_on top s h l x z = not-true (λ (t : lt s x ≡ true). true_not_false
     (is_true (lt top x) (lt_le_trans top s x (subst T (sym l) tt) (lt_le s x (subst T (sym t) tt))))
     (h x z))
 

@@ -21,7 +21,7 @@ use Rattle.numbers.proofs.ProductOrder.{mul_monotone}
 use Rattle.numbers.proofs.RootMonotone.{root_above}
 use Rattle.vector.specs.Vector.{difference, magnitude_squared, magnitude, cross}
 use Rattle.vector.specs.declared.Point3f.{Point3f}
-use Rattle.lists.proofs.Bools.{not_true, true_not_false}
+use Rattle.lists.proofs.Bools.{not-true, true_not_false}
 use Rattle.quality.specs.Measures.{half, tiny, degenerate}
 use Rattle.triangle.specs.Quality.{area, quality, is_zero, acceptable}
 use Rattle.triangle.proofs.Acceptance.{zero_refused, edges_refused}
@@ -42,7 +42,7 @@ root_not_below (fin false zero e) f = le-ltb (0 * up e * 1) (0 * down e) (omega 
 root_not_below (fin true (suc m) e) f = refl
 root_not_below (fin false (suc m) e) f =
     let x = fin false (suc m) e in
-    not_true (λ (t : lt (root x) (f32 0) ≡ true). le_not_lt (f32 0) (root x) (lt_le (f32 0) (root x) (root_above x f (above_zero m e)).0) (subst T (sym t) tt))
+    not-true (λ (t : lt (root x) (f32 0) ≡ true). le_not_lt (f32 0) (root x) (lt_le (f32 0) (root x) (root_above x f (above_zero m e)).0) (subst T (sym t) tt))
 
 half_finite : T (finite half)
 unfolding of_bits
@@ -61,7 +61,7 @@ unfolding is_nan of_bits
 zero_number = tt
 
 halved : (r : Float) → T (not (is_nan r)) → lt r (f32 0) ≡ false → lt (r ⊗ half) (f32 0) ≡ false
-halved r number h = not_true (λ (t : lt (r ⊗ half) (f32 0) ≡ true).
+halved r number h = not-true (λ (t : lt (r ⊗ half) (f32 0) ≡ true).
     let below : T (lt (r ⊗ half) (f32 0)) = subst T (sym t) tt in
     let z : T (not (is_nan (f32 0 ⊗ half))) = rw zero_half zero_number in
     let k : T (not (lt r (f32 0))) = rw h tt in
@@ -123,4 +123,4 @@ module _ (r m threshold factor : Float) (bounded : T (lt (r ⊗ factor) (inf fal
         (area_not_below p1 p2 p3))
 
     pub accepted_large : acceptable (quality p1 p2 p3) r m threshold factor ≡ true → lt (area p1 p2 p3) tiny ≡ false
-    accepted_large h = not_true (λ (t : lt (area p1 p2 p3) tiny ≡ true). true_not_false h (tiny_refused (subst T (sym t) tt)))
+    accepted_large h = not-true (λ (t : lt (area p1 p2 p3) tiny ≡ true). true_not_false h (tiny_refused (subst T (sym t) tt)))

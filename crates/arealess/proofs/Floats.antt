@@ -38,16 +38,16 @@ zero_zero : lt (f32 0) (f32 0) ≡ false
 unfolding lt of_bits
 zero_zero = refl
 
-pub zero_le : (x : Float) → is_zero x ≡ true → T (le x (f32 0))
+pub zero-le : (x : Float) → is_zero x ≡ true → T (le x (f32 0))
 unfolding le
-zero_le x h = go (lt x (f32 0)) (is_zero x) h
+zero-le x h = go (lt x (f32 0)) (is_zero x) h
   where
     go : (a b : Bool) → b ≡ true → T (a || b)
     go true b h = tt
     go false b h = subst T (sym h) tt
 
 zero_small : (x : Float) → is_zero x ≡ true → lt x tiny ≡ true
-zero_small x h = is_true (lt x tiny) (le_lt_trans x (f32 0) tiny (zero_le x h) zero_tiny)
+zero_small x h = is_true (lt x tiny) (le_lt_trans x (f32 0) tiny (zero-le x h) zero_tiny)
 
 -- ---- the floats
 module _ (s : Scene) (pts : List Float) where

@@ -18,11 +18,11 @@ use Rattle.points.specs.Points.{point_at}
 use Rattle.lists.specs.Lists.{bit, count, up_from}
 use Rattle.patch.specs.Lay.{Face, face}
 use Rattle.lists.proofs.Counts.{count_append}
-use Rattle.lists.proofs.Bools.{and_both, not_true}
+use Rattle.lists.proofs.Bools.{and_both, not-true}
 use Rattle.decisions.specs.Found.{area_at}
 use Rattle.plain.specs.Plain.{candidates, sound, valid, faces_over, faces_at, plain_faces_from, plain_faces}
 use Rattle.arealess.specs.Arealess.{area_zero}
-use Rattle.arealess.proofs.Floats.{zero_le}
+use Rattle.arealess.proofs.Floats.{zero-le}
 
 abbrev least : Float
 least = f32 0x358637bd
@@ -44,8 +44,8 @@ unfolding mul round odd of_bits le lt eq
 least_above = refl
 
 long_not_zero : (m : Float) → lt least m ≡ true → is_zero (m ⊗ half) ≡ false
-long_not_zero m h = not_true (λ (z : is_zero (m ⊗ half) ≡ true).
-    let low = zero_le (m ⊗ half) z in
+long_not_zero m h = not-true (λ (z : is_zero (m ⊗ half) ≡ true).
+    let low = zero-le (m ⊗ half) z in
     let up = mul_monotone least m half half_finite (lt_le least m (subst T (sym h) tt)) half_above least_number (le_left (m ⊗ half) (f32 0) low) in
     subst T least_above (le_trans (least ⊗ half) (m ⊗ half) (f32 0) up low))
 

@@ -14,7 +14,7 @@ use lib.ListN.{length, take, drop, get_or, take-append-drop}
 use lib.Seq.{length-take-le, take_at, drop_at}
 use Rattle.lists.specs.Lists.{count}
 use Rattle.lists.specs.Members.{In, Below, only}
-use Rattle.lists.proofs.Bools.{not_true, true_not_false}
+use Rattle.lists.proofs.Bools.{not-true, true_not_false}
 use Rattle.lists.proofs.Counts.{count_append}
 use Rattle.lists.proofs.Members.{in_at, in_cases, only_count, only_none}
 use Rattle.numbers.proofs.OrderLaws.{le_not_lt, not_le_lt, lt_le}
@@ -156,7 +156,7 @@ module _ {points : List Float} (numbers : CoordinatesFit points) (axis : ℕ) (a
   passes v i =
       let lv = first_below v i in
       let lp = second_below pivot at_pivot in
-      let after : precedes points axis pivot v ≡ false = not_true (λ (t : precedes points axis pivot v ≡ true).
+      let after : precedes points axis pivot v ≡ false = not-true (λ (t : precedes points axis pivot v ≡ true).
       let e : v ≡ pivot = before_both numbers.cloud axis axis_is v pivot lv lp (first_before (precedes points axis) whole m (omega (arith, size)) rises v i)
       (true_T _ t) in
       let j : In pivot (take m whole) = subst (λ (k : ℕ). In k (take m whole)) e i in

@@ -2,7 +2,7 @@
 -- is the pattern's digits. There is only one nearest pattern, it is the one that the format's rounding gives, and of
 -- the file's decimals it is no tie and no subnormal number. Assumes nothing.
 use mathlib.Core.Path.{◌≡◌, refl, sym, ap, ap₂, ◌∙◌, subst}
-use Prim.Native.Nat.{ℕ, zero, suc, ◌+◌, ◌-◌, ◌*◌, ◌/◌, ◌%◌, ◌^◌, ◌≤◌, ◌<◌, zero_le}
+use Prim.Native.Nat.{ℕ, zero, suc, ◌+◌, ◌-◌, ◌*◌, ◌/◌, ◌%◌, ◌^◌, ◌≤◌, ◌<◌, zero-le}
 use native.Mathlib.Nat.{le_of_lt, le_antisymm, lt_irrefl, lt_of_le_of_lt, zero-mul, le_trans, le_of_eq, lt_of_lt_of_le, mul_assoc, mul_comm, mul_right_comm}
 use native.Mathlib.Nat.{mul-pos, mul-sub, mul-le-mul_right, mul-lt-mul_of_pos_right, le-div_iff_mul-le, div-lt_iff_lt-mul, eq_of_mul-eq-mul_right, two-pow-succ}
 use native.Mathlib.Nat.{div-add-mod'}
@@ -348,7 +348,7 @@ zero_round d D =
 
 zero_rounded : (d : ℕ) → 0 < d → Rounded 0 d 0
 zero_rounded d D = record {
-  nearest = record { number = omega arith; nearest = λ c C. le_trans (le_of_eq none) zero_le; even = λ c C ne e. refl };
+  nearest = record { number = omega arith; nearest = λ c C. le_trans (le_of_eq none) zero-le; even = λ c C ne e. refl };
   alone = λ c C ne. lt_of_le_of_lt (le_of_eq none) (some c (ne_pos c ne));
   normal = inl refl;
   value = zero_round d D;

@@ -10,7 +10,7 @@ use lib.Ieee.Scale.{finite}
 use Rattle.numbers.specs.Rounded.{f32}
 use Rattle.numbers.proofs.OrderLaws.{le_left, le_right, le_lt_trans}
 use Rattle.numbers.proofs.ProductOrder.{mul_monotone, mul_number}
-use Rattle.lists.proofs.Bools.{not_true}
+use Rattle.lists.proofs.Bools.{not-true}
 use Rattle.decisions.specs.Decisions.{reach, apart, is_close}
 
 -- ---- twice the radius
@@ -33,7 +33,7 @@ double_monotone x y h = mul_monotone x y (f32 0x40000000) two_finite h two_above
 
 -- what is not below the lesser is not below the greater
 pub not_below : (x y v : Float) → T (le x y) → not (lt x v) ≡ true → not (lt y v) ≡ true
-not_below x y v h t = ap not (not_true (λ (l : lt y v ≡ true).
+not_below x y v h t = ap not (not-true (λ (l : lt y v ≡ true).
     let d = le_lt_trans x y v h (subst T (sym l) tt) in
     subst T (ap not (is_true (lt x v) d)) (subst T (sym t) tt)))
 

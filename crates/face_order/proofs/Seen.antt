@@ -10,7 +10,7 @@ use borrow.Author.Tests.{lt-ltb}
 use Rattle.lists.specs.Lists.{bit, count, any, up_from}
 use Rattle.lists.proofs.Counts.{count_append}
 use Rattle.grid.proofs.Sequence.{snoc_up}
-use Rattle.axis_sort.proofs.Floats.{map_append}
+use Rattle.axis_sort.proofs.Floats.{map-append}
 use Rattle.patch.specs.Lay.{Face}
 use Rattle.patch.specs.Shape.{no_face}
 use Rattle.orders.specs.Order.{face_at}
@@ -35,7 +35,7 @@ module _ (f : ℕ → Face) where
   one_more i =
       let s : suc i ≡ i + 1 = omega arith in
       sym (ap (map f) (ap (λ (k : ℕ). up_from 0 i ++ (k ∷ [])) (let z : i ≡ 0 + i = omega arith in z) ∙ snoc_up 0 i ∙ ap (up_from 0) s))
-      ∙ map_append f (up_from 0 i) (i ∷ [])
+      ∙ map-append f (up_from 0 i) (i ∷ [])
 
 pub faces_many : (numbers : List ℕ) → length (faces_of numbers) ≡ length numbers / 3
 faces_many numbers = told_length (face_in numbers) 0 (length numbers / 3)

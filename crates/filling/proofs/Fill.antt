@@ -12,7 +12,7 @@ use lib.ListN.{drop_of_length-le}
 use lib.Seq.{length-take-le, take_all, take_at, drop_at, set_split, drop-drop, take-suc, drop-cons, get_or-take}
 use Rattle.lists.specs.Lists.{up_from, bit, count}
 use Rattle.axis_sort.specs.Inner.Small.{Small}
-use Rattle.axis_sort.proofs.Floats.{map_append}
+use Rattle.axis_sort.proofs.Floats.{map-append}
 use Rattle.kd_tree.specs.Tree.{same_numbers}
 use Rattle.filling.specs.Inner.Put.{PutList}
 
@@ -146,7 +146,7 @@ bits_step {fs} {w₀} {w} {at} {i} {v} b h l ev =
     let e : suc i ≡ i + 1 = omega arith in
     let n = bits_length fs i b.most in
     let s : map (to_bits binary32) (take i fs) ++ (v ∷ []) ≡ map (to_bits binary32) (take (i + 1) fs) =
-    ap (λ (k : ℕ). map (to_bits binary32) (take i fs) ++ (k ∷ [])) ev ∙ sym (map_append (to_bits binary32) (take i fs) (get_or fs i nan ∷ []))
+    ap (λ (k : ℕ). map (to_bits binary32) (take i fs) ++ (k ∷ [])) ev ∙ sym (map-append (to_bits binary32) (take i fs) (get_or fs i nan ∷ []))
     ∙ ap (map (to_bits binary32)) (sym (take-suc fs i nan l)) ∙ ap (λ (k : ℕ). map (to_bits binary32) (take k fs)) e in
     record { most = omega arith; put = subst (λ (z : List ℕ). PutList w₀ (set w (at + i) v) at z) s (put_next (at + i) v b.put (omega arith) (omega arith)) }
 

@@ -17,7 +17,7 @@ use Rattle.vector.proofs.Distances.{squared_fits}
 use Rattle.points.specs.Points.{point_at}
 use Rattle.lists.specs.Lists.{bit, count, any, unused}
 use Rattle.lists.specs.Members.{In, only}
-use Rattle.lists.proofs.Bools.{either, not_true, true_not_false, and_both}
+use Rattle.lists.proofs.Bools.{either, not-true, true_not_false, and_both}
 use Rattle.lists.proofs.Counts.{any_true, true_any, count_mono}
 use Rattle.lists.proofs.Members.{in_head, only_count, only_none}
 use Rattle.bounds.specs.Inner.Within.{Limit}
@@ -157,7 +157,7 @@ near_is {s} {pts} {w} {r} {f} {i} {k} a h e =
 -- ---- whoever is close is within the limit
 close_within : (pts : List Float) (r t : Float) (i k : ℕ) → Limit (reach r) t → is_close pts r i k ≡ true → is_within pts (point_at pts i) t k ≡ true
 unfolding is_close apart
-close_within pts r t i k l h = ap not (not_true (λ (g : lt t (squared (point_at pts k) (point_at pts i)) ≡ true).
+close_within pts r t i k l h = ap not (not-true (λ (g : lt t (squared (point_at pts k) (point_at pts i)) ≡ true).
     let far : T (lt (reach r) (distance (point_at pts i) (point_at pts k))) =
     subst (λ (d : Float). T (lt (reach r) d)) (sym (distance_back (point_at pts i) (point_at pts k)))
     (l (squared (point_at pts k) (point_at pts i)) (squared_fits (point_at pts k) (point_at pts i)) (subst T (sym g) tt)) in
@@ -253,7 +253,7 @@ module _ {s : Scene} {hash : Hash} {pts : List Float} {r : Float} {w₀ : List �
     }
 
     pub ask_none : ((t : Reaches (floats_of s pts) s.n r) → t.i < i) → false ≡ reaches (floats_of s pts) s.n r
-    ask_none h = sym (not_true (λ q. let t = (reaches_exactly (floats_of s pts) s.n r).0 q in so_far.none t (h t)))
+    ask_none h = sym (not-true (λ q. let t = (reaches_exactly (floats_of s pts) s.n r).0 q in so_far.none t (h t)))
 
 pub ask_some : {s : Scene} {pts : List Float} {r : Float} {i : ℕ} {b : Bool} → TellsFirst s pts r i b → b ≡ true → true ≡ reaches (floats_of s pts) s.n r
 ask_some {s} {pts} {r} tells e = sym ((reaches_exactly (floats_of s pts) s.n r).1 (tells.some e))

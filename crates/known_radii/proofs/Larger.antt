@@ -26,7 +26,7 @@ use Rattle.known_radii.specs.Inner.Known.{Growing, NothingTo, Silent, RadiusKnow
 use Rattle.decisions.proofs.Growth.{not_below, close_more}
 use Rattle.seedless.proofs.Nothing.{first_nothing, flat_nothing}
 use Rattle.seedless.proofs.Threes.{seedless_nothing}
-use Rattle.lists.proofs.Bools.{not_true, true_not_false, and_both}
+use Rattle.lists.proofs.Bools.{not-true, true_not_false, and_both}
 
 -- ---- from a radius r to one that is not smaller
 module _ (s : Scene) (pts : List Float) (r t : Float) (h : T (le r t)) where
@@ -53,8 +53,8 @@ module _ (s : Scene) (pts : List Float) (r t : Float) (h : T (le r t)) where
 
     no_seed_less : {i j k : ℕ} → NoSeed s pts t i j k → NoSeed s pts r i j k
     no_seed_less {i} {j} {k} f = record {
-      forward = λ d. not_true (λ c. true_not_false (completes_more i j k c) (f.forward (close_more pts r t h i j d)));
-      backward = λ d. not_true (λ c. true_not_false (completes_more i k j c) (f.backward (close_more pts r t h i k d)));
+      forward = λ d. not-true (λ c. true_not_false (completes_more i j k c) (f.forward (close_more pts r t h i j d)));
+      backward = λ d. not-true (λ c. true_not_false (completes_more i k j c) (f.backward (close_more pts r t h i k d)));
     }
 
     seedless_less : {i j k : ℕ} → Seedless s pts t i j k → Seedless s pts r i j k

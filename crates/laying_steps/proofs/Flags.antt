@@ -3,14 +3,14 @@ use Prim.Native.Nat.{ℕ, ◌+◌, ◌*◌, ◌/◌, ◌%◌, ◌<◌}
 use mathlib.Core.Path.{◌≡◌, refl, sym, ap, ap₂, ◌∙◌}
 use mathlib.Core.Logic.{⊎_elim}
 use mathlib.Core.Bool.{Bool, true, false}
-use mathlib.Core.List.{List, [], ◌∷◌, ◌++◌, map, map_append, append_assoc}
+use mathlib.Core.List.{List, [], ◌∷◌, ◌++◌, map, map-append, append_assoc}
 use native.Mathlib.Omega.{arith}
 use lib.Dec.{leb, ltb}
 use borrow.Author.Tests.{le-leb, lt-leb}
 use Rattle.lists.specs.Lists.{bit, count, any}
 use Rattle.patch.specs.Lay.{Edge, edge, same, Face, face, edges_of, State, push}
 use Rattle.patch.specs.Inner.Entries.{encode, decode}
-use Rattle.lists.proofs.Bools.{either, not_true}
+use Rattle.lists.proofs.Bools.{either, not-true}
 use Rattle.lists.proofs.Counts.{any_false, true_any, false_any, count_append}
 use Rattle.patch.proofs.Edges.{same_key, same_refl, same_false}
 use Rattle.patch.proofs.View.{decode_encode}
@@ -60,7 +60,7 @@ entries_kept processed e fs none = go fs (any_false (same e) fs none)
     go : (gs : List Edge) → count (same e) gs ≡ 0 → map (entry_of (processed ++ (e ∷ []))) gs ≡ map (entry_of processed) gs
     go [] z = refl
     go (g ∷ gs) z =
-        let other : same g e ≡ false = same_false e g (not_true (λ (t : same e g ≡ true). let o : bit (same e g) ≡ 1 = ap bit t in omega arith)) in
+        let other : same g e ≡ false = same_false e g (not-true (λ (t : same e g ≡ true). let o : bit (same e g) ≡ 1 = ap bit t in omega arith)) in
         ap₂ (λ (x : ℕ) (xs : List ℕ). x ∷ xs) (ap (λ (b : Bool). encode g + bit b * flag) (any_other processed e g other)) (go gs (omega arith))
 
 -- ---- the three edges of a face
@@ -83,7 +83,7 @@ module _ {s : State} {processed : List Edge} {mark : ℕ} {f : Face} (fresh : Fr
       (edge f.a f.b ∷ []) (edge f.b f.c ∷ edge f.c f.a ∷ []))
 
   pub fresh_words : map (entry_of processed) (s.frontier ++ edges_of f) ≡ map (entry_of s.processed) s.frontier ++ words_of mark f
-  fresh_words = map_append (entry_of processed) s.frontier (edges_of f) ∙ ap₂ (λ (x y : List ℕ). x ++ y) fresh.others fresh.words
+  fresh_words = map-append (entry_of processed) s.frontier (edges_of f) ∙ ap₂ (λ (x y : List ℕ). x ++ y) fresh.others fresh.words
 
 three : {x y z x' y' z' : ℕ} → x ≡ x' → y ≡ y' → z ≡ z' → ◌≡◌ {A = List ℕ} (x ∷ y ∷ z ∷ []) (x' ∷ y' ∷ z' ∷ [])
 three p q r = cc
@@ -105,11 +105,11 @@ pivot_fresh e k s o =
     let all : List Edge = s.processed ++ (e ∷ []) in
     let second : any (same (edge e.v2 k)) all
     ≡ false = any_other s.processed e (edge e.v2 k)
-    (not_true (λ (t : same (edge e.v2 k) e ≡ true). let q = same_key (edge e.v2 k) e t in o.not_first
+    (not-true (λ (t : same (edge e.v2 k) e ≡ true). let q = same_key (edge e.v2 k) e t in o.not_first
     (omega (arith, q.low, q.high)))) ∙ o.second in
     let third : any (same (edge k e.v1)) all
     ≡ false = any_other s.processed e (edge k e.v1)
-    (not_true (λ (t : same (edge k e.v1) e ≡ true). let q = same_key (edge k e.v1) e t in o.not_second
+    (not-true (λ (t : same (edge k e.v1) e ≡ true). let q = same_key (edge k e.v1) e t in o.not_second
     (omega (arith, q.low, q.high)))) ∙ o.third in
     record {
       first = o.alone.unprocessed;

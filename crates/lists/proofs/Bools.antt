@@ -9,9 +9,9 @@ pub either : (b : Bool) → (b ≡ true) ⊎ (b ≡ false)
 either true = inl refl
 either false = inr refl
 
-pub not_true : {b : Bool} → (b ≡ true → ⊥) → b ≡ false
-not_true {b = true} h = absurd (h refl)
-not_true {b = false} h = refl
+pub not-true : {b : Bool} → (b ≡ true → ⊥) → b ≡ false
+not-true {b = true} h = absurd (h refl)
+not-true {b = false} h = refl
 
 pub true_not_false : {b : Bool} → b ≡ true → b ≡ false → ⊥
 true_not_false p q = let z : ◌≡◌ {A = ℕ} 0 1 = cc in omega arith

@@ -11,7 +11,7 @@ use lib.Seq.{get_or-take, get_or-drop, length-take-le}
 use borrow.Author.Tests.{eqb-true, eq-eqb}
 use Rattle.lists.specs.Lists.{bit, count, up_from}
 use Rattle.lists.specs.Members.{In, Below, only}
-use Rattle.lists.proofs.Bools.{either, not_true, true_not_false, and_true, and_false}
+use Rattle.lists.proofs.Bools.{either, not-true, true_not_false, and_true, and_false}
 
 -- ---- members, by counting
 pub in_head : (x : ℕ) (xs : List ℕ) → In x (x ∷ xs)
@@ -67,7 +67,7 @@ module _ (test : ℕ → Bool) where
             ≡ count (eqb k) (x ∷ xs)
         go true e ih = omega arith
         go false e ih =
-            let z : eqb k x ≡ false = not_true (λ q. true_not_false t (ap test (eqb-true k x q) ∙ e)) in
+            let z : eqb k x ≡ false = not-true (λ q. true_not_false t (ap test (eqb-true k x q) ∙ e)) in
             rw z (omega arith)
 
     pub only_none : test k ≡ false → (xs : List ℕ) → count (eqb k) (only test xs) ≡ 0
@@ -77,7 +77,7 @@ module _ (test : ℕ → Bool) where
       where
         go : (b : Bool) → test x ≡ b → count (eqb k) (only test xs) ≡ 0 → count (eqb k) (cond b (x ∷ only test xs) (only test xs)) ≡ 0
         go true e ih =
-            let z : eqb k x ≡ false = not_true (λ q. true_not_false e (ap test (sym (eqb-true k x q)) ∙ t)) in
+            let z : eqb k x ≡ false = not-true (λ q. true_not_false e (ap test (sym (eqb-true k x q)) ∙ t)) in
             rw z (omega arith)
         go false e ih = ih
 

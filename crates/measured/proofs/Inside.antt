@@ -74,8 +74,8 @@ short_finite = unfold of_bits in tt
 short_number : T (not (is_nan short))
 short_number = unfold is_nan of_bits in tt
 
-zero_le : (x : Float) → T (lt (f32 0) x) → T (le (f32 0) x)
-zero_le x h = lt_le (f32 0) x h
+zero-le : (x : Float) → T (lt (f32 0) x) → T (le (f32 0) x)
+zero-le x h = lt_le (f32 0) x h
 
 -- ---- numbers from 0 to a finite bound
 pub record Within (b x : Float) : Type 0 where
@@ -187,7 +187,7 @@ module _ (a b c A : Float) (wa : Within far a) (wb : Within far b) (wc : Within 
   unfolding fits
   stretch_number r n f h =
       let up = root_monotone A wide f (unfold of_bits in tt) wA.low wA.high in
-      let w : Within (root wide) (root A) = record { low = zero_le (root A) (root_above A f h).0; high = up } in
+      let w : Within (root wide) (root A) = record { low = zero-le (root A) (root_above A f h).0; high = up } in
       let g = within_finite (root wide) (unfold root of_bits in tt) (unfold root le neg of_bits in tt) (root A) w in
       number_scaled r (root A) n (positive_is (root A) (root_above A f h).0 g)
 
@@ -285,7 +285,7 @@ module _ (a b c A : Float) (wa : Within far a) (wb : Within far b) (wc : Within 
             let most = radius_most far far_finite (unfold mul of_bits in tt) (unfold mul of_bits in tt) (unfold of_bits in tt) (unfold mul of_bits in tt)
             (unfold mul of_bits in tt) far_below wa wb wc in
             let fR = within_finite ((far ⊗ far ⊗ far) ⊘ base) (unfold mul div of_bits in tt) (unfold le neg mul div of_bits in tt) R
-            (record { low = zero_le R above_zero; high = most }) in
+            (record { low = zero-le R above_zero; high = most }) in
             let pR = positive_is R above_zero fR in
             let sum = long_enough h in
             let fS = sum_finite.1 in

@@ -10,7 +10,7 @@ use lib.Dec.{eqb, ltb}
 use borrow.Author.Tests.{eqb-true, eqb-false, eq-eqb, lt-ltb, ltb-true}
 use Rattle.sorting.specs.Insertion.{insert_before}
 use Rattle.lists.specs.Lists.{bit, count}
-use Rattle.lists.proofs.Bools.{either, not_true, true_not_false}
+use Rattle.lists.proofs.Bools.{either, not-true, true_not_false}
 use Rattle.lists.specs.Members.{only, In}
 use Rattle.lists.proofs.Members.{in_head, in_cases, only_count, only_none, only_fewer}
 use Rattle.sorting.proofs.Counting.{insert_count}
@@ -71,8 +71,8 @@ module _ {less : ℕ → ℕ → Bool} where
         -- if the first ones differed, each would come before the other
         crossed : (x ≡ y → ⊥) → ⊥
         crossed ne =
-            let xy : eqb x y ≡ false = not_true (λ b. ne (eqb-true x y b)) in
-            let yx : eqb y x ≡ false = not_true (λ b. ne (sym (eqb-true y x b))) in
+            let xy : eqb x y ≡ false = not-true (λ b. ne (eqb-true x y b)) in
+            let yx : eqb y x ≡ false = not-true (λ b. ne (sym (eqb-true y x b))) in
             let zx : bit (eqb x y) ≡ 0 = ap bit xy in
             let zy : bit (eqb y x) ≡ 0 = ap bit yx in
             let hx = in_head x xs in
@@ -108,7 +108,7 @@ module _ {less : ℕ → ℕ → Bool} where
               → count (eqb k) (insert_passing less test (cond b (insert_before (less j) j xs) xs) js) ≡ count (eqb k) xs + count (eqb k) (j ∷ js)
           go true e p q = let c = insert_count (eqb k) (less j) j xs in omega arith
           go false e p q =
-              let z : eqb k j ≡ false = not_true (λ b. true_not_false t (ap test (eqb-true k j b) ∙ e)) in
+              let z : eqb k j ≡ false = not-true (λ b. true_not_false t (ap test (eqb-true k j b) ∙ e)) in
               let o : bit (eqb k j) ≡ 0 = ap bit z in
               omega arith
 
@@ -121,7 +121,7 @@ module _ {less : ℕ → ℕ → Bool} where
               → count (eqb k) (insert_passing less test (insert_before (less j) j xs) js) ≡ count (eqb k) (insert_before (less j) j xs)
               → count (eqb k) (insert_passing less test (cond b (insert_before (less j) j xs) xs) js) ≡ count (eqb k) xs
           go true e p q =
-              let z : eqb k j ≡ false = not_true (λ b. true_not_false e (ap test (sym (eqb-true k j b)) ∙ t)) in
+              let z : eqb k j ≡ false = not-true (λ b. true_not_false e (ap test (sym (eqb-true k j b)) ∙ t)) in
               let o : bit (eqb k j) ≡ 0 = ap bit z in
               let c = insert_count (eqb k) (less j) j xs in omega arith
           go false e p q = p

@@ -40,8 +40,8 @@ most = record { value = (refl, refl); low = le_refl (2 ^ 249); high = le_refl (2
 nothing : (w n : ℕ) → 0 * w ≤ n * w
 nothing w n = omega arith
 
-zero_le : {x : Float} {n i j : ℕ} → Units x n i j → T (le (f32 0) x)
-zero_le {x} {n} u = le_of_values (f32 0) x 0 (2 ^ 149) n (2 ^ 149) (pow_pos 149) (pow_pos 149) (unfold of_bits in (refl, refl)) u.value (nothing (2 ^ 149) n)
+zero-le : {x : Float} {n i j : ℕ} → Units x n i j → T (le (f32 0) x)
+zero-le {x} {n} u = le_of_values (f32 0) x 0 (2 ^ 149) n (2 ^ 149) (pow_pos 149) (pow_pos 149) (unfold of_bits in (refl, refl)) u.value (nothing (2 ^ 149) n)
 
 number : {x : Float} {n i j : ℕ} → Units x n i j → T (not (is_nan x))
 number {x} u = finite_number x (positive-finite x (units_positive u))
@@ -67,7 +67,7 @@ margin s f l h =
     let p = mul_units 49 250 u.1 factor tt in
     let a = root_units 98 200 f u.1 tt in
     let b = root_units 98 200 tf p.is tt in
-    limit_tested (root s) t tf (zero_le p.is)
+    limit_tested (root s) t tf (zero-le p.is)
     (⊎_elim (λ k. absurd (apart u.0 p.n a.n b.n (units_pos u.1) p.above b.above a.below (units_le b.is a.is k))) (λ k. k)
     (le_or_lt (root t) (root s) (number b.is) (number a.is)))
 

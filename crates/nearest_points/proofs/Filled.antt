@@ -7,7 +7,7 @@ use lib.ListN.{length, get_or, drop, set, length-set}
 use lib.Seq.{drop-cons, set-append_seam}
 use Rattle.lists.specs.Lists.{up_from}
 use Rattle.grid.proofs.Sequence.{snoc_up}
-use Rattle.axis_sort.proofs.Floats.{map_append}
+use Rattle.axis_sort.proofs.Floats.{map-append}
 
 mapped_length : {A : Type 0} (f : ℕ → A) (i m : ℕ) → length (map f (up_from i m)) ≡ m
 unfolding up_from
@@ -31,7 +31,7 @@ filled_step {A} {f} {m} {found₀} {i} {found} {v} d l h e =
     let a = map f (up_from 0 i) in
     let n : length a ≡ i = mapped_length f 0 i in
     let s : suc i ≡ i + 1 = omega arith in
-    let up : a ++ (f i ∷ []) ≡ map f (up_from 0 (i + 1)) = sym (map_append f (up_from 0 i) (i ∷ []))
+    let up : a ++ (f i ∷ []) ≡ map f (up_from 0 (i + 1)) = sym (map-append f (up_from 0 i) (i ∷ []))
     ∙ ap (map f) (ap (λ (k : ℕ). up_from 0 i ++ (k ∷ [])) (let z : i ≡ 0 + i = omega arith in z) ∙ snoc_up 0 i ∙ ap (up_from 0) s) in
     record {
       most = omega arith;

@@ -27,7 +27,7 @@ use Rattle.grid.proofs.Near.{indexed_kept}
 use Rattle.bounds.specs.declared.Bounds.{Bounds}
 use Rattle.cell_bounds.specs.Inner.CellBounds.{Holding, Reaching}
 use Rattle.lists.proofs.Members.{below_first, below_rest}
-use Rattle.lists.proofs.Bools.{not_true, and_both}
+use Rattle.lists.proofs.Bools.{not-true, and_both}
 use Rattle.lists.proofs.Counts.{count_mono, count_zero, count_all}
 use Rattle.spatial_hash.specs.declared.Hash.{Hash}
 use Rattle.spatial_hash.specs.Inner.Near.{none_out, Surrounds, NearPlace, Gathered}
@@ -55,7 +55,7 @@ module _ (near : ℕ → Bool) (pts : List Float) (i : ℕ) where
   le_close v j t l = let e : le (key pts i j) v ≡ true = is_true (le (key pts i j) v) l in rw (t, e)
 
   close_nan : (v : Float) → is_nan v ≡ true → (j : ℕ) → close v j ≡ false
-  close_nan v e j = not_true (λ (t : close v j ≡ true). subst (λ (b : Bool). T (not b)) e (le_right (key pts i j) v (close_le v j t).1))
+  close_nan v e j = not-true (λ (t : close v j ≡ true). subst (λ (b : Bool). T (not b)) e (le_right (key pts i j) v (close_le v j t).1))
 
   squares_count : (v : Float) (js : List ℕ) → count (at_most v) (squares_to near pts i js) ≡ count (close v) js
   unfolding squares_to

@@ -4,7 +4,7 @@ use mathlib.Core.Bool.{Bool, true, false, cond, not, ◌&&◌}
 use mathlib.Core.List.{List, [], ◌∷◌}
 use Prim.Native.Nat.{ℕ, suc, ◌+◌, ◌-◌, ◌≤◌, ◌<◌}
 use native.Mathlib.Omega.{arith}
-use borrow.Author.Tests.{not_true, not-false, eqb-true}
+use borrow.Author.Tests.{not-true, not-false, eqb-true}
 use lib.Dec.{T, eqb}
 use lib.ListN.{length, take, drop, get_or, length-take, drop_of_length-le}
 use lib.Seq.{drop-cons}
@@ -112,7 +112,7 @@ module _ (near : ℕ → Bool) (pts : List Float) (i j : ℕ) (limit : Float) (k
 
   pub with_above : not (le s limit) ≡ true → kept ≡ with_square (within_limit limit near pts i) pts i j kept
   with_above e = sym (with_within near pts i j limit kept ∙ ap (λ (b : Bool). cond b (with_square near pts i j kept) kept)
-      (ap (λ (x : Float). le x limit) (sym same) ∙ not_true (le s limit) e))
+      (ap (λ (x : Float). le x limit) (sym same) ∙ not-true (le s limit) e))
 
   -- not above the limit: as if there were none
   upto : not (le s limit) ≡ false → with_square near pts i j kept ≡ with_square (within_limit limit near pts i) pts i j kept

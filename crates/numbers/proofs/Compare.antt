@@ -17,11 +17,11 @@ level_self s a =
     rw (e, same s)
 
 -- the code's test `x != x`
-pub is_nan : (x : Float) → is_nan x ≡ ne x x
+pub is_nan_lem : (x : Float) → is_nan x ≡ ne x x
 unfolding is_nan ne eq
-is_nan nan = refl
-is_nan (inf s) = ap not (sym (same s))
-is_nan (fin s m e) = ap not (sym (level_self s (m * up e * down e)))
+is_nan_lem nan = refl
+is_nan_lem (inf s) = ap not (sym (same s))
+is_nan_lem (fin s m e) = ap not (sym (level_self s (m * up e * down e)))
 
 -- the code's infinity
 pub infinite : div binary32 (of_bits binary32 0x3f800000) (of_bits binary32 0) ≡ inf false

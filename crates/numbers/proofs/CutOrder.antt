@@ -1,7 +1,7 @@
 -- The cut to a whole number keeps the order (`cut_monotone`), and so does the cut of a product
 -- (`cut_product_monotone`). Assumes nothing.
 use mathlib.Core.Path.{◌≡◌, refl, sym, ap, subst}
-use Prim.Native.Nat.{ℕ, ◌*◌, ◌/◌, ◌≤◌, ◌<◌, zero_le}
+use Prim.Native.Nat.{ℕ, ◌*◌, ◌/◌, ◌≤◌, ◌<◌, zero-le}
 use native.Mathlib.Nat.{zero-div, mul-pos, le_of_eq, le_trans}
 use native.Mathlib.Omega.{arith}
 use mathlib.Core.Bool.{Bool, true, false, not, cond}
@@ -20,9 +20,9 @@ use Rattle.numbers.proofs.ProductOrder.{mul_number, mul_monotone}
 pub cut_monotone : (x y : Float) → T (le x y) → cut x ≤ cut y
 unfolding le to_unsigned
 cut_monotone nan y h = absurd h
-cut_monotone (inf true) y h = zero_le
+cut_monotone (inf true) y h = zero-le
 cut_monotone (inf false) y h = le_of_eq (ap cut (sym (top_le y h)))
-cut_monotone (fin true m e) y h = zero_le
+cut_monotone (fin true m e) y h = zero-le
 cut_monotone (fin false m e) nan h = absurd h
 cut_monotone (fin false m e) (inf true) h = absurd h
 cut_monotone (fin false m e) (inf false) h = omega arith
@@ -47,13 +47,13 @@ unfolding of_bits to_unsigned
 cut_zero s c C = cut_monotone (round binary32 s 0 c) (f32 0) (go s)
   where
     go : (s : Bool) → T (le (round binary32 s 0 c) (f32 0))
-    go true = rounds_nonpositive {p = 0} {n = 0} C (under 0 refl refl) zero_le
-    go false = rounds_nonpositive {p = 0} {n = 0} C (above 0 refl refl) zero_le
+    go true = rounds_nonpositive {p = 0} {n = 0} C (under 0 refl refl) zero-le
+    go false = rounds_nonpositive {p = 0} {n = 0} C (above 0 refl refl) zero-le
 
 cut_times_zero : (u : Float) (t : Bool) (d : ℤ) → cut (u ⊗ fin t 0 d) ≤ 0
 unfolding mul to_unsigned
-cut_times_zero nan t d = zero_le
-cut_times_zero (inf s) t d = zero_le
+cut_times_zero nan t d = zero-le
+cut_times_zero (inf s) t d = zero-le
 cut_times_zero (fin s m e) t d =
     let z : m * up e * (0 * up d) ≡ 0 = omega arith in
     subst (λ (a : ℕ). cut (round binary32 (unlike s t) a (down e * down d)) ≤ 0) (sym z)
@@ -78,7 +78,7 @@ pub cut_product_monotone : (u v c : Float) → T (finite c) → T (le u v) → T
 cut_product_monotone u v c f h z = go (is_nan (u ⊗ c)) (is_nan (v ⊗ c)) refl refl
   where
     go : (a b : Bool) → is_nan (u ⊗ c) ≡ a → is_nan (v ⊗ c) ≡ b → cut (u ⊗ c) ≤ cut (v ⊗ c)
-    go true b p q = rw (cut_nan (u ⊗ c) (subst T (sym p) tt)) zero_le
-    go false true p q = le_trans (cut_nothing u v c (le_right u v h) f (subst T (sym q) tt)) zero_le
+    go true b p q = rw (cut_nan (u ⊗ c) (subst T (sym p) tt)) zero-le
+    go false true p q = le_trans (cut_nothing u v c (le_right u v h) f (subst T (sym q) tt)) zero-le
     go false false p q = cut_monotone (u ⊗ c) (v ⊗ c)
         (mul_monotone u v c f h z (subst (λ (b : Bool). T (not b)) (sym p) tt) (subst (λ (b : Bool). T (not b)) (sym q) tt))

@@ -1,7 +1,7 @@
 -- `root` is the square root that IEEE 754 asks for, strictly nearest to the true root (`root_nearest`), as
 -- specs/Nearest says it. Assumes nothing.
 use mathlib.Core.Path.{◌≡◌, sym, ap, ◌∙◌, subst}
-use Prim.Native.Nat.{ℕ, zero, suc, ◌+◌, ◌*◌, ◌^◌, ◌≤◌, ◌<◌, zero_le}
+use Prim.Native.Nat.{ℕ, zero, suc, ◌+◌, ◌*◌, ◌^◌, ◌≤◌, ◌<◌, zero-le}
 use native.Mathlib.Nat.{le_of_lt, le_trans, lt_of_lt_of_le, lt_of_le_of_lt, mul-pos, mul-le-mul_left, mul-le-mul_right, mul-lt-mul_of_pos_right}
 use native.Mathlib.Nat.{lt_of_mul-lt-mul_right}
 use native.Mathlib.Omega.{arith}
@@ -31,7 +31,7 @@ sq_below w u p n P h k =
 sq_under : (w u p n : ℕ) → 0 < p → w < u * p → u * u ≤ 4 * n → w * w < 4 * (n * (p * p))
 sq_under w u p n P h k =
     let a : w * w ≤ w * (u * p) = mul-le-mul_left w (le_of_lt h) in
-    let b : w * (u * p) < u * p * (u * p) = mul-lt-mul_of_pos_right h (lt_of_le_of_lt zero_le h) in
+    let b : w * (u * p) < u * p * (u * p) = mul-lt-mul_of_pos_right h (lt_of_le_of_lt zero-le h) in
     let c : u * u * (p * p) ≤ 4 * n * (p * p) = mul-le-mul_right (p * p) k in
     omega arith
 

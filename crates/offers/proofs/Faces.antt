@@ -8,7 +8,7 @@ use native.Mathlib.Omega.{arith}
 use lib.Dec.{eqb}
 use borrow.Author.Tests.{eqb-true, eqb-false, eq-eqb, ne_eqb}
 use Rattle.lists.specs.Lists.{bit, count, up_from}
-use Rattle.lists.proofs.Bools.{either, not_true, true_not_false}
+use Rattle.lists.proofs.Bools.{either, not-true, true_not_false}
 use Rattle.lists.proofs.Counts.{bit_le, bit_true, any_bit, true_any}
 use Rattle.patch.specs.Lay.{Edge, edge, same, Face, points_of, edges_of}
 use Rattle.patch.specs.Shape.{has, touches}
@@ -73,11 +73,11 @@ module _ (x y : ℕ) (f : Face) (apart : x ≢ y) where
       (λ (s : touches x f ≡ true). ⊎_elim
       (λ (t : touches y f ≡ true). both_has s t ∙ sym (let q : (touches x f && touches y f) ≡ true = rw (s, t) in q))
       (λ (t : touches y f ≡ false).
-      not_true (λ (h : has (edge x y) f ≡ true). true_not_false (touches_v2 (edge x y) f h) t)
+      not-true (λ (h : has (edge x y) f ≡ true). true_not_false (touches_v2 (edge x y) f h) t)
       ∙ sym (let q : (touches x f && touches y f) ≡ false = rw (s, t) in q))
       (either (touches y f)))
       (λ (s : touches x f ≡ false).
-      not_true (λ (h : has (edge x y) f ≡ true). true_not_false (touches_v1 (edge x y) f h) s)
+      not-true (λ (h : has (edge x y) f ≡ true). true_not_false (touches_v1 (edge x y) f h) s)
       ∙ sym (let q : (touches x f && touches y f) ≡ false = rw s in q))
       (either (touches x f))
 

@@ -11,7 +11,7 @@ use lib.Seq.{get_or-set_same, get_or-set_other}
 use borrow.Author.Tests.{eqb-true, eqb-false, ltb-true, lt-ltb, le-ltb}
 use Rattle.lists.specs.Lists.{bit, count, any, up_from}
 use Rattle.lists.specs.Members.{In}
-use Rattle.lists.proofs.Bools.{either, not_true, true_not_false, and_false}
+use Rattle.lists.proofs.Bools.{either, not-true, true_not_false, and_false}
 use Rattle.lists.proofs.Counts.{bit_le, bit_true, any_false, false_any}
 use Rattle.lists.proofs.Members.{in_head}
 use Rattle.patch.specs.Lay.{Edge, Face}
@@ -107,7 +107,7 @@ module _ (n faces : ℕ) (few : faces ≤ n) (corner : ℕ → ℕ) (at : ℕ �
             let g = f.element in
             let value-is : root ≡ value at faces placed f.element = f.is ∙ kept.values f.element f.below in
             let out : any (eqb f.element) placed
-            ≡ false = not_true (λ (t : any (eqb f.element) placed ≡ true).
+            ≡ false = not-true (λ (t : any (eqb f.element) placed ≡ true).
             (let v = value_placed at faces placed f.element t in let s = small in omega arith)) in
             let in_g = out_left f.element f.below out in
             ⊎_elim
@@ -135,7 +135,7 @@ module _ (n faces : ℕ) (few : faces ≤ n) (corner : ℕ → ℕ) (at : ℕ �
               shared = le-ltb root faces ge ∙ sym (ap (joined at placed) face_is ∙ j);
               first = first_default (joined at placed) x (x ∷ rest) none
                   ∙ head_least x f.element rest risen (subst (λ (l : List ℕ). In f.element l) e in_g)
-                  (λ k h. (let v = value_left at faces placed k (left_out k (back k h)) (not_true (none k h)) in let q = root_le k
+                  (λ k h. (let v = value_left at faces placed k (left_out k (back k h)) (not-true (none k h)) in let q = root_le k
                   (left_below k (back k h)) in omega arith))
                   ∙ sym face_is;
               is_left_lem = subst (λ (k : ℕ). In k left) (sym face_is) in_g;

@@ -7,12 +7,12 @@ use mathlib.Core.Bool.{true, false, not}
 use mathlib.Core.List.{List, [], ◌∷◌}
 use native.Mathlib.Omega.{arith}
 use lib.Dec.{ltb}
-use borrow.Author.Tests.{not_true as unnot, lt-ltb, ltb-true, ltb-false}
+use borrow.Author.Tests.{not-true as unnot, lt-ltb, ltb-true, ltb-false}
 use lib.ListN.{length}
 use Rattle.lists.specs.Lists.{bit, count, any, up_from}
 use Rattle.patch.specs.Lay.{Edge, same, Face, edges_of}
 use Rattle.patch.specs.Shape.{has}
-use Rattle.lists.proofs.Bools.{either, not_true, and_both}
+use Rattle.lists.proofs.Bools.{either, not-true, and_both}
 use Rattle.lists.proofs.Counts.{any_true, any_false, true_any}
 use Rattle.patch.proofs.Edges.{laid_congr}
 use Rattle.orders.specs.Order.{face_at, all_fit, greedy, loose, Permutes, Valid, AllDifferent, crowded, order_accepted}
@@ -39,7 +39,7 @@ numbers_length (suc m) k = let ih = numbers_length m (k + 1) in omega arith
 
 pub numbers_permute : (n : ℕ) → Permutes n (up_from 0 n)
 numbers_permute n j =
-    let z : bit (ltb j 0) ≡ 0 = ap bit (not_true (λ (t : ltb j 0 ≡ true). let l = ltb-true j 0 t in omega arith)) in
+    let z : bit (ltb j 0) ≡ 0 = ap bit (not-true (λ (t : ltb j 0 ≡ true). let l = ltb-true j 0 t in omega arith)) in
     let e : bit (ltb j (0 + n)) ≡ bit (ltb j n) = let q : 0 + n ≡ n = omega arith in ap (λ (k : ℕ). bit (ltb j k)) q in
     omega (arith, numbers_once n 0 j)
 
@@ -80,7 +80,7 @@ module _ (fs : List Face) (different : AllDifferent fs) where
   -- ---- and the test
   pub few_uncrowded : ((e : Edge) → count (has e) fs ≤ 2) → crowded fs ≡ false
   unfolding crowded
-  few_uncrowded h = not_true (λ t.
+  few_uncrowded h = not-true (λ t.
       let f = some_one (λ f. any (λ e. ltb 2 (count (has e) fs)) (edges_of f)) fs (any_true (λ f. any (λ e. ltb 2 (count (has e) fs)) (edges_of f)) fs t) in
       let e = some_one (λ e. ltb 2 (count (has e) fs)) (edges_of f.x) (any_true (λ e. ltb 2 (count (has e) fs)) (edges_of f.x) f.passes) in
       let l = ltb-true 2 (count (has e.x) fs) e.passes in

@@ -12,7 +12,7 @@ use borrow.Author.Tests.{not-false, ltb-false, eqb-true, eqb-false, eq-eqb, ne_e
 use lib.ListN.{length}
 use Rattle.lists.specs.Lists.{bit, count, any, up_from}
 use Rattle.patch.specs.Lay.{Face}
-use Rattle.lists.proofs.Bools.{either, not_true, true_not_false}
+use Rattle.lists.proofs.Bools.{either, not-true, true_not_false}
 use Rattle.lists.proofs.Counts.{bit_le, bit_true, any_true, any_false, any_bit, count_append, upto}
 use Rattle.orders.specs.Order.{neighbours, joined, first_or, without, greedy_from, loose, Permutes}
 use Rattle.orders.proofs.Sums.{some_one, member_passes}
@@ -282,7 +282,7 @@ module _ (at : ℕ → Face) (n : ℕ) where
         (λ (t : joined at placed i ≡ false).
         let z : bit (not (joined at placed i)) ≡ 1 = ap (λ (b : Bool). bit (not b)) t in
         let c = all_closed old more (x ∷ left) h
-        (λ j k. not_true (λ (u : joined at placed j ≡ true). let v = member_passes (joined at placed) j u
+        (λ j k. not-true (λ (u : joined at placed j ≡ true). let v = member_passes (joined at placed) j u
         (x ∷ left) k in let w = pick.none t in omega arith)) in
         let ih = least m placed (i ∷ []) rest short (record {
           split = λ j. omega (arith, h.split j, gone j, count_append (eqb j) more old);

@@ -4,7 +4,7 @@ use Prim.Native.Nat.{ℕ, zero, suc, ◌+◌, ◌-◌, ◌*◌, ◌≤◌, ◌<�
 use mathlib.Core.Path.{◌≡◌, refl, sym, ap, ap₂, ◌∙◌, subst}
 use mathlib.Core.Logic.{◌⊎◌, ⊎_elim}
 use mathlib.Core.Bool.{Bool, true, false, ◌&&◌, cond}
-use mathlib.Core.List.{List, [], ◌∷◌, ◌++◌, map, map_append, append-nil, append_assoc}
+use mathlib.Core.List.{List, [], ◌∷◌, ◌++◌, map, map-append, append-nil, append_assoc}
 use mathlib.Core.Option.{Option, none, some}
 use native.Mathlib.Omega.{arith}
 use native.Mathlib.Decide.{dec_lt}
@@ -170,7 +170,7 @@ known_face : (flags : List Bool) (fs : List Face) (frontier : List Edge) (entrie
 known_face flags fs frontier entries rest parents h fewer b f p extra own s o = record {
   flagged = omega (arith, h.flagged, length-append flags (b ∷ []), length-append fs (f ∷ []));
   long = omega (arith, h.long, length-append parents (p ∷ []), length-append fs (f ∷ []));
-  same_frontier = map_append (λ (y : Entry). y.along) rest (map (entry (length fs)) extra) ∙ ap (λ (l : List Edge). map (λ (y : Entry). y.along) rest ++ l)
+  same_frontier = map-append (λ (y : Entry). y.along) rest (map (entry (length fs)) extra) ∙ ap (λ (l : List Edge). map (λ (y : Entry). y.along) rest ++ l)
       (numbered (length fs) extra);
   entry_known = λ x y j m. known x y j m (either (any (is_entry x y j) rest));
   noted = noted_snoc flags fs parents b f p h.flagged h.long h.noted s o;

@@ -11,7 +11,7 @@ use borrow.Author.Tests.{eqb-true, eqb-false, eq-eqb, ne_eqb}
 use Rattle.lists.specs.Lists.{bit, count, any}
 use Rattle.patch.specs.Lay.{Edge, edge, same, Face, points_of, edges_of}
 use Rattle.patch.specs.Shape.{touches, has}
-use Rattle.lists.proofs.Bools.{either, not_true, true_not_false, and_both}
+use Rattle.lists.proofs.Bools.{either, not-true, true_not_false, and_both}
 use Rattle.lists.proofs.Counts.{bit_le, any_true, any_false, false_any, any_bit, count_mono, count_ext}
 
 -- ---- two numbers, direction aside
@@ -85,11 +85,11 @@ same_trans e f g h i =
 pub same_congr : (e f : Edge) → same e f ≡ true → (g : Edge) → same e g ≡ same f g
 same_congr e f h g = ⊎_elim
     (λ (t : same f g ≡ true). same_trans e f g h t ∙ sym t)
-    (λ (t : same f g ≡ false). not_true (λ (u : same e g ≡ true). true_not_false (same_trans f e g (same_sym e f h) u) t) ∙ sym t)
+    (λ (t : same f g ≡ false). not-true (λ (u : same e g ≡ true). true_not_false (same_trans f e g (same_sym e f h) u) t) ∙ sym t)
     (either (same f g))
 
 pub same_false : (e f : Edge) → same e f ≡ false → same f e ≡ false
-same_false e f h = not_true (λ (t : same f e ≡ true). true_not_false (same_sym f e t) h)
+same_false e f h = not-true (λ (t : same f e ≡ true). true_not_false (same_sym f e t) h)
 
 -- ---- an edge in a face
 pub record Distinct (f : Face) : Type 0 where
@@ -201,7 +201,7 @@ module _ (e : Edge) (f : Face) (h : has e f ≡ true) where
 pub has_straight : (x : ℕ) (f : Face) → Distinct f → has (edge x x) f ≡ false
 has_straight x f d =
     let e : Edge = edge x x in
-    not_true (λ h. ⊎_elim
+    not-true (λ h. ⊎_elim
     (λ (u : same e (ab_of f) ≡ true). let k = same_key e (ab_of f) u in d.ab (flat x f.a f.b k.low k.high))
     (⊎_elim
     (λ (u : same e (bc_of f) ≡ true). let k = same_key e (bc_of f) u in d.bc (flat x f.b f.c k.low k.high))

@@ -7,7 +7,7 @@ use mathlib.Core.List.{List, [], ◌∷◌}
 use mathlib.Core.Option.{Option, none, some}
 use native.Mathlib.Omega.{arith}
 use lib.Dec.{eqb}
-use borrow.Author.Tests.{eqb-true, eqb-false, not_true}
+use borrow.Author.Tests.{eqb-true, eqb-false, not-true}
 use lib.ListN.{get_or}
 use lib.Ieee.{Float, binary32, of_bits, lt}
 use Rattle.lists.specs.Lists.{unused, up_from}
@@ -39,7 +39,7 @@ all_true P none h = tt
 all_true P (some x) h = h x
 
 differ : (i k : ℕ) → not (eqb i k) ≡ true → i ≢ k
-differ i k h = eqb-false i k (not_true (eqb i k) h)
+differ i k h = eqb-false i k (not-true (eqb i k) h)
 
 module _ {R : Type 0} (n : ℕ) (floats : Floats R) (within : NeighborsWithin n floats) (r : R) (used : List ℕ) where
   free : (k : ℕ) → k < n → unused used k ≡ true → Free n used k

@@ -12,7 +12,7 @@ use Rattle.lists.specs.Lists.{bit, count, any}
 use Rattle.patch.specs.Lay.{Edge, edge, same, Face, edges_of, State, seeds_of, push, marked}
 use Rattle.patch.specs.Fair.{Free}
 use Rattle.patch.specs.Shape.{touches, has, Laid}
-use Rattle.lists.proofs.Bools.{either, not_true}
+use Rattle.lists.proofs.Bools.{either, not-true}
 use Rattle.lists.proofs.Counts.{any_true, any_false, true_any, false_any, count_append, count_all}
 use Rattle.patch.proofs.Edges.{same_refl, Distinct, one_edge, has_bit, has_straight}
 use Rattle.patch.specs.Inner.Invariant.{Edgewise, Pointwise, waiting, Inv}
@@ -178,7 +178,7 @@ module _ (n : ℕ) (s : State) (inv : Inv n s) where
           (omega (arith, count_append (touches x) s.faces (f ∷ [])))
           (point_more n x (count (eqb x) inv.points) (count (touches x) s.faces) (count (eqb x) ks) (bit (touches x f)) (inv.pointwise x) (c.ks_once x)
           (λ m. let o : bit (touches x f) ≡ 1 = ap bit (c.ks_touched x m) in (unlisted x m, (c.ks_free x m).below, omega arith))
-          (λ z u. ap bit (not_true (λ (t : touches x f ≡ true). let k = c.others_used x z t in omega arith))))
+          (λ z u. ap bit (not-true (λ (t : touches x f ≡ true). let k = c.others_used x z t in omega arith))))
 
       pub grown : (looks pivots : ℕ) → looks ≡ s.looks + length hand → pivots ≡ s.pivots + length hand
           → Inv n (record {

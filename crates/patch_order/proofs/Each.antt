@@ -8,7 +8,7 @@ use lib.Dec.{ltb}
 use lib.ListN.{length, get_or}
 use borrow.Author.Tests.{leb-false, eqb-false, ltb-true, ltb-false, lt-ltb, le-ltb}
 use Rattle.lists.specs.Lists.{bit, count, any}
-use Rattle.lists.proofs.Bools.{not_true, true_not_false, and_both}
+use Rattle.lists.proofs.Bools.{not-true, true_not_false, and_both}
 use Rattle.lists.proofs.Counts.{any_false}
 use Rattle.patch.specs.Lay.{Face}
 use Rattle.patch.specs.Shape.{no_face}
@@ -22,7 +22,7 @@ use Rattle.patch_order.specs.Inner.Ready.{too_many}
 module _ (p : Face → Bool) where
   none_of : (fs : List Face) (i : ℕ) → count p fs ≡ 0 → i < length fs → p (get_or fs i no_face) ≡ false
   none_of [] i z h = absurd (omega arith)
-  none_of (f ∷ fs) zero z h = not_true (λ t. let b : bit (p f) ≡ 1 = ap bit t in omega arith)
+  none_of (f ∷ fs) zero z h = not-true (λ t. let b : bit (p f) ≡ 1 = ap bit t in omega arith)
   none_of (f ∷ fs) (suc i) z h = none_of fs i (omega arith) (omega arith)
 
   none_at : (fs : List Face) → any p fs ≡ false → (i : ℕ) → i < length fs → p (face_at fs i) ≡ false
@@ -54,7 +54,7 @@ module _ (fs : List Face) (different : any twice fs ≡ false) where
 
     pub too_many_lem : too_many n (length fs) ≡ true → order_accepted fs ≡ false
     unfolding too_many
-    too_many_lem e = not_true (λ t.
+    too_many_lem e = not-true (λ t.
         let b = and_both {p = ltb 0 (length fs)} {q = ltb n (length fs + 2)} e in
         let some : 0 < length fs = ltb-true _ _ b.0 in
         let more : n < length fs + 2 = ltb-true _ _ b.1 in

@@ -15,7 +15,7 @@ use Rattle.numbers.proofs.OrderLaws.{le_right, lt_le, le_or_lt, le_not_lt, le_tr
 use Rattle.lists.specs.Lists.{count}
 use Rattle.patch.specs.Lay.{Edge}
 use Rattle.patch.specs.Search.{Floats, score_of, best_of}
-use Rattle.lists.proofs.Bools.{either, not_true, true_not_false, and_both, and_false}
+use Rattle.lists.proofs.Bools.{either, not-true, true_not_false, and_both, and_false}
 use Rattle.decisions.specs.declared.Score.{Score}
 use Rattle.decisions.specs.declared.Score.TheVariants.{Of, None}
 use Rattle.decisions.specs.Found.{score_found, at_least}
@@ -33,7 +33,7 @@ or_false true = refl
 or_false false = refl
 
 lt_self : (x : Float) → lt x x ≡ false
-lt_self x = not_true (λ e. le_not_lt x x (lt_le x x (holds e)) (holds e))
+lt_self x = not-true (λ e. le_not_lt x x (lt_le x x (holds e)) (holds e))
 
 -- ---- one point
 module _ (less : ℕ → ℕ → Bool) (top : Float) (best : Option ℕ) (k : ℕ) where
@@ -124,7 +124,7 @@ module _ {less : ℕ → ℕ → Bool} (strict : Strict less) where
   -- whoever is behind the best so far is so behind the next one
   overtaken : (top x : Float) (best : Option ℕ) (k j : ℕ) (o : Option Float) → le top x ≡ true → (lt top x || is_before_best less k best) ≡ true
       → score_ahead less top best j o ≡ none → score_ahead less x (some k) j o ≡ none
-  overtaken top x best k j o l b h = not_ahead less x (some k) j o (λ y q. not_true (λ t.
+  overtaken top x best k j o l b h = not_ahead less x (some k) j o (λ y q. not-true (λ t.
       let p = and_both {p = le x y} t in
       let m = behind_parts less top best j y (ap (score_ahead less top best j) (sym q) ∙ h) (is_true (le top y) (le_trans top x y (holds l) (holds p.0))) in
       ⊎_elim
@@ -270,7 +270,7 @@ module _ {less : ℕ → ℕ → Bool} (strict : Strict less) where
         rest j h = b j (omega arith)
 
         later : (j : ℕ) → In j xs → less j k ≡ false
-        later j h = not_true (λ t. true_not_false (strict.transitive k j k (s.0 j h) t) (strict.irreflexive k))
+        later j h = not-true (λ t. true_not_false (strict.transitive k j k (s.0 j h) t) (strict.irreflexive k))
 
         go : (t : Bool) → ((top : Float) (best : Option ℕ) → ((j : ℕ) → In j xs → is_before_best less j best ≡ false) → leader less scored xs top best
             ≡ best_of floats r used e (only near xs) top best)

@@ -11,7 +11,7 @@ use Rattle.numbers.proofs.OrderLaws.{le_not_lt}
 use Rattle.patch.specs.Lay.{edge}
 use Rattle.lists.specs.Lists.{unused}
 use Rattle.patch.specs.Search.{score_of}
-use Rattle.lists.proofs.Bools.{either, not_true, and_false}
+use Rattle.lists.proofs.Bools.{either, not-true, and_false}
 use Rattle.decisions.specs.declared.Scene.{Scene}
 use Rattle.decisions.specs.Decisions.{apart, score_at, floats_of}
 use Rattle.pivot.proofs.Laws.{met, not_met}
@@ -20,7 +20,7 @@ module _ (s : Scene) (pts : List Float) (r : Float) (used : List ℕ) where
   -- a pivot's point is within the radius of both ends of the edge
   module _ (a b k : ℕ) where
     too_far : (i : ℕ) → lt r (apart pts k i) ≡ true → le (apart pts k i) r ≡ false
-    too_far i h = not_true (λ e. le_not_lt (apart pts k i) r (subst T (sym e) tt) (subst T (sym h) tt))
+    too_far i h = not-true (λ e. le_not_lt (apart pts k i) r (subst T (sym e) tt) (subst T (sym h) tt))
 
     pub first_far : lt r (apart pts k a) ≡ true → score_at s pts r (edge a b) k ≡ none
     unfolding score_at

@@ -10,7 +10,7 @@ use lib.ListN.{length, set, get_or, length-set}
 use lib.Seq.{get_or-set_same, get_or-set_other}
 use borrow.Author.Tests.{eqb-true, eqb-false, eq-eqb, ne_eqb, leb-true, leb-false}
 use Rattle.lists.specs.Lists.{bit, any, up_from}
-use Rattle.lists.proofs.Bools.{either, not_true, true_not_false, and_both}
+use Rattle.lists.proofs.Bools.{either, not-true, true_not_false, and_both}
 use Rattle.lists.proofs.Counts.{bit_le, false_any, count_ext}
 use Rattle.patch.specs.Lay.{Edge, edge, same, Face, face}
 use Rattle.patch.specs.Shape.{has, touches}
@@ -429,7 +429,7 @@ module _ (n faces i : ℕ) (corner : ℕ → ℕ) (at : ℕ → Face) (placed : 
             (value_joined at faces (i ∷ placed) g out-now (offered_joined t)))
             (λ (t : (t1 || (t2 || t3)) ≡ false).
             none_three faces g (omega arith) t1 t2 t3 t
-            ∙ sym (value_left at faces (i ∷ placed) g out-now (not_true (λ (h : joined at (i ∷ placed) g ≡ true). true_not_false (joined_offered j h) t))))
+            ∙ sym (value_left at faces (i ∷ placed) g out-now (not-true (λ (h : joined at (i ∷ placed) g ≡ true). true_not_false (joined_offered j h) t))))
             (either (t1 || (t2 || t3))))
             (either (joined at placed g))
 

@@ -53,12 +53,12 @@ largest_finite_lem : T (finite largest_number)
 unfolding of_bits
 largest_finite_lem = tt
 
-zero_le : (x : Float) → T (lt (f32 0) x) → T (le (f32 0) x)
-zero_le x h = lt_le (f32 0) x h
+zero-le : (x : Float) → T (lt (f32 0) x) → T (le (f32 0) x)
+zero-le x h = lt_le (f32 0) x h
 
 -- an unsigned number of a square that is below another
 square_finite : (z s : Float) → T (lt (f32 0) z) → T (lt (z ⊗ z) s) → T (finite z)
-square_finite z s p h = (mul_finite z z (finite_below (z ⊗ z) s (square_unsigned z (le_right (f32 0) z (zero_le z p))) h)).0
+square_finite z s p h = (mul_finite z z (finite_below (z ⊗ z) s (square_unsigned z (le_right (f32 0) z (zero-le z p))) h)).0
 
 pub number_scaled : (y c : Float) → T (not (is_nan y)) → T (positive c) → T (not (is_nan (y ⊗ c)))
 number_scaled nan c k p = absurd (unfold is_nan in k)
@@ -105,7 +105,7 @@ edge_most e b f g p z q h = go (le_or_lt e (f32 0) (le_left e (b ⊗ b) (lt_le e
   where
     go : T (le e (f32 0)) ⊎ T (lt (f32 0) e) → T (le (root e) b)
     go (inl k) = le_trans (root e) (f32 0) b
-        (le_trans (root e) (root (f32 0)) (f32 0) (root_monotone e (f32 0) f (unfold fits of_bits in tt) z k) (unfold root le of_bits in tt)) (zero_le b q)
+        (le_trans (root e) (root (f32 0)) (f32 0) (root_monotone e (f32 0) f (unfold fits of_bits in tt) z k) (unfold root le of_bits in tt)) (zero-le b q)
     go (inr k) = root_most b e g f p (positive_is e k (finite_below e (b ⊗ b) (positive_unsigned e k) h)) h
 
 -- ---- four times the area
@@ -243,7 +243,7 @@ module _ (p1 p2 p3 : Point3f) (b z s : Float) (f : T (fits binary32 b)) (g : T (
       let md = fourfold_monotone z (root s) (positive_signless z pz) (length_finite s k l h) mz (length_halved s k l h) in
       let pD = fourfold_positive s k l h in
       let pd = positive_is d n.area_above (finite_under d D (positive_unsigned d n.area_above) md (positive-finite D pD)) in
-      let aw = factor_above w d (positive-finite d pd) (zero_le d n.area_above) (lt_le_trans (f32 0) x (w ⊗ d) n.x_above (lt_le x (w ⊗ d) n.within)) in
+      let aw = factor_above w d (positive-finite d pd) (zero-le d n.area_above) (lt_le_trans (f32 0) x (w ⊗ d) n.x_above (lt_le x (w ⊗ d) n.within)) in
       le_trans (A ⊗ root E ⊗ C ⊘ D) (x ⊘ D) w (div_monotone (A ⊗ root E ⊗ C) x D pD m2)
       (le_trans (x ⊘ D) (x ⊘ d) w (quotient_antitone x d D px pd pD md) (most x w d (mul-fits binary32 (A ⊗ b) C) i px aw pd n.within))
 
@@ -263,7 +263,7 @@ module _ (p1 p2 p3 : Point3f) (b z s : Float) (f : T (fits binary32 b)) (g : T (
       let uA = length_plain p2 p1 fAb.0 in
       let above = guess_above A b C fAb.0 fAC.1 uA (length_plain p1 p3 fAC.1) n.x_above in
       let pb = positive_is b above.0 fAb.1 in
-      let aC = factor_above C (A ⊗ b) fAC.0 (zero_le (A ⊗ b) above.1)
+      let aC = factor_above C (A ⊗ b) fAC.0 (zero-le (A ⊗ b) above.1)
       (subst (λ (v : Float). T (lt (f32 0) v)) (mul_commutative (A ⊗ b) C) n.x_above) in
       let pC = positive_is C aC fAC.1 in
       let aE = le_lt_trans (f32 0) (b ⊗ b) E (unsigned_le (b ⊗ b) (square_unsigned b (finite_number b fAb.1))) n.short in
@@ -272,7 +272,7 @@ module _ (p1 p2 p3 : Point3f) (b z s : Float) (f : T (fits binary32 b)) (g : T (
       let fr = positive-finite (root E) (root_positive E (squared_fits p3 p2) pE) in
       let m1 : T (le (A ⊗ b) (A ⊗ root E)) = rw (mul_commutative A b, mul_commutative A (root E))
       (mul_monotone_finite b (root E) A fAb.1 fr fAb.0 mE (unsigned_le A uA)) in
-      let m2 : T (le x (A ⊗ root E ⊗ C)) = mul_monotone (A ⊗ b) (A ⊗ root E) C fAC.1 m1 (zero_le C aC) (finite_number x fx)
+      let m2 : T (le x (A ⊗ root E ⊗ C)) = mul_monotone (A ⊗ b) (A ⊗ root E) C fAC.1 m1 (zero-le C aC) (finite_number x fx)
       (number_scaled (A ⊗ root E) C (mul_number A (root E) fAb.0 fr) pC) in
       let px = positive_is x n.x_above fx in
       let fd = finite_under d largest_number (positive_unsigned d n.area_above) n.area_fits largest_finite_lem in

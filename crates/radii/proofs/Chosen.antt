@@ -4,7 +4,7 @@ use mathlib.Core.Bool.{true, false, not}
 use mathlib.Core.List.{List, [], ◌∷◌, ◌++◌, map}
 use Prim.Native.Nat.{ℕ, suc, ◌+◌, ◌≤◌, ◌<◌}
 use native.Mathlib.Omega.{arith}
-use borrow.Author.Tests.{not_true, not-false}
+use borrow.Author.Tests.{not-true, not-false}
 use lib.ListN.{length, take, drop, get_or}
 use lib.Seq.{length-take-le, take-suc, take-take}
 use lib.Ieee.{Float, nan, lt}
@@ -32,9 +32,9 @@ unfolding insert_all
 insert_count xs [] = omega arith
 insert_count xs (y ∷ ys) = insert_count (insert y xs) ys ∙ omega (arith, insert_length (lt y) y xs)
 
-map_append : (h : Float → Float) (xs ys : List Float) → map h (xs ++ ys) ≡ map h xs ++ map h ys
-map_append h [] ys = refl
-map_append h (x ∷ xs) ys = ap (λ (l : List Float). h x ∷ l) (map_append h xs ys)
+map-append : (h : Float → Float) (xs ys : List Float) → map h (xs ++ ys) ≡ map h xs ++ map h ys
+map-append h [] ys = refl
+map-append h (x ∷ xs) ys = ap (λ (l : List Float). h x ∷ l) (map-append h xs ys)
 
 -- the first k + 1 of a list
 one_more : (ps : List Float) (k : ℕ) → k < length ps → take (k + 1) ps ≡ take k ps ++ (get_or ps k nan ∷ [])
@@ -58,7 +58,7 @@ percentiles_step f₀ f u ps at count k p v few inside hp hv same inv r =
           ∙ ap (λ (l : List Float). insert v l) inv
           ∙ ap (λ (x : Float). insert x (sorted (map (radius_at_percentile (take count f₀)) (take k ps)))) e
           ∙ sym (insert_one [] (map (radius_at_percentile (take count f₀)) (take k ps)) (radius_at_percentile (take count f₀) (get_or ps k nan)))
-          ∙ ap sorted (sym (map_append (radius_at_percentile (take count f₀)) (take k ps) (get_or ps k nan ∷ [])))
+          ∙ ap sorted (sym (map-append (radius_at_percentile (take count f₀)) (take k ps) (get_or ps k nan ∷ [])))
           ∙ ap (λ (l : List Float). sorted (map (radius_at_percentile (take count f₀)) l)) (sym (one_more ps k inside)),
       r.below ∙ same,
     )
@@ -108,7 +108,7 @@ radii_some c f (d ∷ ds) count h long e = ap (λ (l : List Float). dedup (sorte
 
 pub radii_off : (c : BallPivotingConfig) (g : SpatialGrid) (pts : List Float) (n : ℕ) → not c.adaptive_radius ≡ true → [] ≡ adaptive_radii c g pts n
 unfolding adaptive_radii
-radii_off c g pts n e = rw (not_true c.adaptive_radius e)
+radii_off c g pts n e = rw (not-true c.adaptive_radius e)
 
 pub radii_on : (c : BallPivotingConfig) (g : SpatialGrid) (pts : List Float) (n : ℕ) → not c.adaptive_radius ≡ false
     → radii_from c (densities_from c g pts n (step_of n) 0 (sample_count n)) ≡ adaptive_radii c g pts n

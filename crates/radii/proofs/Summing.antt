@@ -54,7 +54,7 @@ roots_step f₀ f at count k v long h r hv =
           ∙ take-suc-set (drop at f) k v l
           ∙ ap (λ (xs : List Float). xs ++ (v ∷ [])) r.taken
           ∙ ap (λ (x : Float). map root (take k (drop at f₀)) ++ (x ∷ [])) (hv ∙ ap root old)
-          ∙ sym (map_append (take k (drop at f₀)) (get_or (drop at f₀) k nan ∷ []))
+          ∙ sym (map-append (take k (drop at f₀)) (get_or (drop at f₀) k nan ∷ []))
           ∙ ap (map root) (sym (take-suc (drop at f₀) k nan l₀))
           ∙ ap (λ (m : ℕ). map root (take m (drop at f₀))) (sym n);
       rest =
@@ -67,9 +67,9 @@ roots_step f₀ f at count k v long h r hv =
       front = take-set-le at f (at + k) v (omega arith) ∙ r.front;
     }
   where
-    map_append : (xs ys : List Float) → map root (xs ++ ys) ≡ map root xs ++ map root ys
-    map_append [] ys = refl
-    map_append (x ∷ xs) ys = ap (λ (l : List Float). root x ∷ l) (map_append xs ys)
+    map-append : (xs ys : List Float) → map root (xs ++ ys) ≡ map root xs ++ map root ys
+    map-append [] ys = refl
+    map-append (x ∷ xs) ys = ap (λ (l : List Float). root x ∷ l) (map-append xs ys)
 
 pub roots_end : (f₀ f : List Float) (at count k : ℕ) → count ≤ k → Rooted f₀ f at count k → (take count (drop at f) ≡ map root (take count (drop at f₀)))
     × (take at f ≡ take at f₀)

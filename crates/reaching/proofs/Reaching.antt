@@ -8,7 +8,7 @@ use mathlib.Core.List.{List, [], ◌∷◌}
 use mathlib.Core.Option.{Option, none, some}
 use native.Mathlib.Omega.{arith}
 use lib.Dec.{eqb}
-use borrow.Author.Tests.{eqb-true, eqb-false, eq-eqb, ne_eqb, not_true}
+use borrow.Author.Tests.{eqb-true, eqb-false, eq-eqb, ne_eqb, not-true}
 use lib.ListN.{get_or, replicate}
 use Rattle.lists.specs.Lists.{bit, count, unused, up_from}
 use Rattle.patch.specs.Search.{Floats, is_second, is_third, third_of, second_of, first_of}
@@ -43,7 +43,7 @@ both_true true q h g = g
 both_true false q h g = absurd (true_not_false refl (sym h))
 
 pub differ : (i k : ℕ) → not (eqb i k) ≡ true → i ≢ k
-differ i k h = eqb-false i k (not_true (eqb i k) h)
+differ i k h = eqb-false i k (not-true (eqb i k) h)
 
 pub differs : (i k : ℕ) → i ≢ k → not (eqb i k) ≡ true
 differs i k h = ap not (ne_eqb i k h)

@@ -7,7 +7,7 @@ use mathlib.Core.Option.{Option, none, some}
 use lib.Ieee.{Float}
 use Rattle.triangle.specs.Quality.{is_zero}
 use Rattle.triangle.proofs.Acceptance.{zero_refused}
-use Rattle.lists.proofs.Bools.{not_true, true_not_false}
+use Rattle.lists.proofs.Bools.{not-true, true_not_false}
 use Rattle.patch.specs.Search.{searching}
 use Rattle.amending.proofs.Fitting.{seed_fits}
 use Rattle.decisions.specs.declared.Scene.{Scene}
@@ -19,7 +19,7 @@ use Rattle.seed.specs.declared.Seed.{Seed}
 
 accepted_area : (s : Scene) (pts : List Float) (r : Float) (i j k : ℕ) → accepts s r (quality_at pts i j k) ≡ true → is_zero (area_at pts i j k) ≡ false
 unfolding accepts
-accepted_area s pts r i j k h = not_true (λ (z : is_zero (area_at pts i j k) ≡ true).
+accepted_area s pts r i j k h = not-true (λ (z : is_zero (area_at pts i j k) ≡ true).
     true_not_false h (zero_refused (quality_at pts i j k) r s.min_triangle_area s.quality_threshold s.max_edge_factor
     (ap is_zero (area_at_lem pts i j k) ∙ z)))
 

@@ -16,7 +16,7 @@ use Rattle.points.specs.Points.{point_at}
 use Rattle.lists.specs.Lists.{count, unused, up_from}
 use Rattle.patch.specs.Search.{Floats, is_second, is_third, third_of, second_of, first_of}
 use Rattle.lists.specs.Members.{Below}
-use Rattle.lists.proofs.Bools.{either, not_true, true_not_false, and_both, and_false}
+use Rattle.lists.proofs.Bools.{either, not-true, true_not_false, and_both, and_false}
 use Rattle.decisions.specs.declared.Scene.{Scene}
 use Rattle.decisions.specs.Decisions.{is_close, accepts, quality_at, floats_of}
 use Rattle.decisions.specs.Inner.Completes.{completes}
@@ -111,7 +111,7 @@ refuses_all_nothing s pts r used tries numbers h =
   where
     none_of : (i : ℕ) → i < s.n → (j : ℕ) → j < s.n → is_second (floats_of s pts) r used i j ≡ true → (k : ℕ) → k < s.n → is_third (floats_of s pts) r used i j k
         ≡ false
-    none_of i hi j hj second k hk = not_true (λ third.
+    none_of i hi j hj second k hk = not-true (λ third.
         let p = third_parts s pts r used i j k third in
         true_not_false p.1.1
         (refuses_all_accepts s pts r i j k (numbers i hi) (numbers j hj) (numbers k hk) (close_second s pts r used i j second) p.0 p.1.0 h))

@@ -17,7 +17,7 @@ use Rattle.points.specs.Points.{point_at}
 use Rattle.spatial_hash.specs.declared.Hash.{Hash}
 use Rattle.lists.specs.Lists.{bit, count, unused}
 use Rattle.patch.specs.Search.{is_second, is_third}
-use Rattle.lists.proofs.Bools.{either, not_true, true_not_false, and_both}
+use Rattle.lists.proofs.Bools.{either, not-true, true_not_false, and_both}
 use Rattle.decisions.specs.declared.Scene.{Scene}
 use Rattle.decisions.specs.Decisions.{reach, apart, is_close, floats_of}
 use Rattle.decisions.specs.Inner.Completes.{completes}
@@ -263,7 +263,7 @@ module _ {s : Scene} {pts : List Float} {r : Float} {lo i : ℕ} where
   -- of point i and two others the least from lo on has been met
   pub seedless_nothing : (used : List ℕ) → unused used i ≡ true → i < s.n → lo ≤ i → SeedlessBetween s pts r used lo (i + 1)
       → with_first (floats_of s pts) r used i ≡ none
-  seedless_nothing used ui hi hl b = first_around s pts r used i (λ j hj second k hk. not_true (λ third.
+  seedless_nothing used ui hi hl b = first_around s pts r used i (λ j hj second k hk. not-true (λ third.
       let p = second_free s pts r used i j second in
       let q = third_free s pts r used i j k third in
       let close = close_second s pts r used i j second in

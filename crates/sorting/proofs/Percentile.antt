@@ -3,7 +3,7 @@
 use mathlib.Core.Path.{◌≡◌, refl, sym, ap, ◌∙◌, subst}
 use mathlib.Core.Bool.{Bool, true, false, cond, ◌&&◌, ◌||◌, true≢false}
 use mathlib.Core.List.{List, [], ◌∷◌}
-use Prim.Native.Nat.{ℕ, zero, suc, ◌+◌, ◌-◌, ◌*◌, ◌/◌, ◌%◌, ◌^◌, ◌≤◌, ◌<◌, zero_le, compare}
+use Prim.Native.Nat.{ℕ, zero, suc, ◌+◌, ◌-◌, ◌*◌, ◌/◌, ◌%◌, ◌^◌, ◌≤◌, ◌<◌, zero-le, compare}
 use native.Mathlib.Omega.{arith}
 use lib.ListN.{length, take, drop, get_or, get_or-eq_default}
 use lib.Dec.{T, ltb, eqb, ltb→lt, eqb→eq, le→leb}
@@ -72,12 +72,12 @@ at_most a b t = go (ltb a b) (eqb a b) (ltb→lt a b) (eqb→eq a b)
 -- what is at most a whole number is cut to at most that
 cut_under : (w k : ℕ) (x y : Float) → HasValue y false k 1 → T (le x y) → to_unsigned w x ≤ k
 unfolding to_unsigned le
-cut_under w k nan y v h = zero_le
-cut_under w k (inf true) y v h = zero_le
+cut_under w k nan y v h = zero-le
+cut_under w k (inf true) y v h = zero-le
 cut_under w k (inf false) nan v h = absurd v
 cut_under w k (inf false) (inf t) v h = absurd v
 cut_under w k (inf false) (fin t n d) v h = absurd h
-cut_under w k (fin true m e) y v h = zero_le
+cut_under w k (fin true m e) y v h = zero-le
 cut_under w k (fin false m e) nan v h = absurd v
 cut_under w k (fin false m e) (inf t) v h = absurd v
 cut_under w k (fin false m e) (fin true n d) v h = absurd (true≢false v.0)

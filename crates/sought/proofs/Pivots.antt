@@ -13,7 +13,7 @@ use Rattle.numbers.specs.Rounded.{f32}
 use Rattle.numbers.proofs.OrderLaws.{lt_le, le_not_lt, le_right, le_or_lt, lt_le_trans}
 use Rattle.lists.specs.Members.{In}
 use Rattle.lists.proofs.Members.{in_head, in_cases}
-use Rattle.lists.proofs.Bools.{not_true, true_not_false}
+use Rattle.lists.proofs.Bools.{not-true, true_not_false}
 use Rattle.patch.specs.Lay.{Edge}
 use Rattle.patch.specs.Search.{Floats, score_of, best_of, searching}
 use Rattle.sought.specs.Sought.{Highest, NoneHigh, PivotSought}
@@ -39,13 +39,13 @@ none_some {A} {x} q = subst is_none q tt
 
 -- ---- order
 lower : (x y : Float) → lt x y ≡ true → le y x ≡ false
-lower x y h = not_true (λ (k : le y x ≡ true). le_not_lt y x (holds k) (holds h))
+lower x y h = not-true (λ (k : le y x ≡ true). le_not_lt y x (holds k) (holds h))
 
 between : (top x y : Float) → lt top x ≡ true → lt x y ≡ true → lt top y ≡ true
 between top x y h k = is_true (lt top y) (lt_le_trans top x y (holds h) (lt_le x y (holds k)))
 
 not_reached : (top x y : Float) → lt top x ≡ true → lt top y ≡ false → le x y ≡ false
-not_reached top x y h k = not_true (λ (l : le x y ≡ true).
+not_reached top x y h k = not-true (λ (l : le x y ≡ true).
     true_not_false (is_true (lt top y) (lt_le_trans top x y (holds h) (holds l))) k)
 
 -- x is above z, and no y that is not below x is reached: y is below x

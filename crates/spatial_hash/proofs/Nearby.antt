@@ -19,7 +19,7 @@ use Rattle.vector.specs.Inner.Numbers.{Finite}
 use Rattle.points.specs.Points.{point_at}
 use Rattle.lists.specs.Lists.{up_from, count, bit}
 use Rattle.lists.specs.Members.{Below}
-use Rattle.lists.proofs.Bools.{either, not_true, true_not_false}
+use Rattle.lists.proofs.Bools.{either, not-true, true_not_false}
 use Rattle.bounds.specs.declared.Bounds.{Bounds}
 use Rattle.bounds.specs.Inner.Within.{within, Covers}
 use Rattle.sifting.specs.Inner.Sift.{is_within, Sifted}
@@ -114,7 +114,7 @@ module _ {pts : List Float} {n : ℕ} where
   pub surrounds_near : {p : Point3f} {t : Float} {js : List ℕ} → Surrounds pts n none_out p t js → (j : ℕ) → j < n → T (le (squared (point_at pts j) p) t)
       → 1 ≤ count (eqb j) js
   surrounds_near {p} {t} g j h l = g.complete j h refl
-      (ap not (not_true (λ (e : lt t (squared (point_at pts j) p) ≡ true). le_not_lt (squared (point_at pts j) p) t l (subst T (sym e) tt))))
+      (ap not (not-true (λ (e : lt t (squared (point_at pts j) p) ≡ true). le_not_lt (squared (point_at pts j) p) t l (subst T (sym e) tt))))
 
 -- ---- the numbers from i on, m of them
 pub up_in : (j i m : ℕ) → 1 ≤ count (eqb j) (up_from i m) → (i ≤ j) × (j < i + m)

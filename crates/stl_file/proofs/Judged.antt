@@ -4,7 +4,7 @@ use mathlib.Core.Bool.{Bool, true, false, not, cond}
 use mathlib.Core.List.{List, ◌++◌}
 use Prim.Native.Nat.{ℕ, ◌+◌, ◌*◌, ◌/◌, ◌%◌, ◌≤◌, ◌<◌}
 use native.Mathlib.Omega.{arith}
-use borrow.Author.Tests.{le-leb, lt-leb, lt-ltb, le-ltb, eq-eqb, ne_eqb, not_true, not-false}
+use borrow.Author.Tests.{le-leb, lt-leb, lt-ltb, le-ltb, eq-eqb, ne_eqb, not-true, not-false}
 use lib.Dec.{T, leb, ltb, eqb}
 use lib.ListN.{length, get_or, drop}
 use lib.Seq.{sets, sets-eq}
@@ -68,7 +68,7 @@ module _ (points : List Float) (faces bytes : List ℕ) (told : StlWritten) (hel
 
           pub missing : told ≡ not_written 14 0 → not named ≡ true → Wrote points faces bytes told bytes
           unfolding stl_outcome
-          missing e h = let t : all_below (length points / 3) faces ≡ false = sym test ∙ not_true named h in refused 14 0 e (rw (a, b, d, f, t)) refl
+          missing e h = let t : all_below (length points / 3) faces ≡ false = sym test ∙ not-true named h in refused 14 0 e (rw (a, b, d, f, t)) refl
 
           module _ (all : not named ≡ false) where
             g : all_below (length points / 3) faces ≡ true

@@ -5,7 +5,7 @@ use mathlib.Core.Path.{◌≡◌, ap, ◌∙◌}
 use mathlib.Core.Bool.{true, false, not}
 use mathlib.Core.List.{List}
 use lib.Ieee.{Float, lt}
-use Rattle.lists.proofs.Bools.{not_true, true_not_false, and_both, and_false}
+use Rattle.lists.proofs.Bools.{not-true, true_not_false, and_both, and_false}
 use Rattle.vector.specs.Vector.{distance}
 use Rattle.vector.proofs.Distances.{distance_turned, squared_turned}
 use Rattle.points.specs.Points.{point_at}
@@ -24,7 +24,7 @@ use Rattle.three_points.proofs.Measured.{each_seedless}
 pub refused_completes : {s : Scene} {pts : List Float} {r : Float} {l : Limits} {i j k : ℕ} → LimitsAtRadius s pts r l → i < s.n → j < s.n → k < s.n
     → Refused l (point_at pts i) (point_at pts j) (point_at pts k) → is_close pts r i j ≡ true → completes s pts r i j k ≡ false
 unfolding completes
-refused_completes {s} {pts} {r} {l} {i} {j} {k} g hi hj hk h close = not_true (λ done.
+refused_completes {s} {pts} {r} {l} {i} {j} {k} g hi hj hk h close = not-true (λ done.
     let p = and_both {p = is_close pts r i k} done in
     let q = and_both {p = is_close pts r j k} p.1 in
     true_not_false q.1 (refused_accepts s pts r i j k (g.numbers i hi) (g.numbers j hj) (g.numbers k hk) close p.0 q.0 g.limits h))

@@ -1,7 +1,7 @@
 -- `score_from` meets its contract: the bound refuses only what is below `top`. Assumes nothing.
 use mathlib.Core.Path.{sym, ap, ◌∙◌}
 use lib.Ieee.{le}
-use borrow.Author.Tests.{not_true, not-false}
+use borrow.Author.Tests.{not-true, not-false}
 use Rattle.quality.proofs.Shapes.{shape_own, quality_own}
 use Rattle.decisions.specs.Found.{score_found}
 use Rattle.decisions.proofs.Scores.{score_bound_lem, score_low, score_refused, score_kept}
@@ -31,7 +31,7 @@ returns_2 c =
     let a = c.before.before.before.before.before.before.args in
     let q = c.before.before.quality-of in
     rw (quality_own a.a a.b a.c a.area c.before.before.before.before.before.shape_of.ensures q.ensures)
-    (ap score_found (score_low a.s a.radius a.top q.result (not_true (le a.top q.result.quality_score) c.if2.true)))
+    (ap score_found (score_low a.s a.radius a.top q.result (not-true (le a.top q.result.quality_score) c.if2.true)))
 
 is_accepted_requires : tie.Need-is-accepted-requires
 is_accepted_requires c κs = search rules
@@ -42,7 +42,7 @@ returns_3 c =
     let q = c.before.before.before.before.quality-of in
     rw (quality_own a.a a.b a.c a.area c.before.before.before.before.before.before.before.shape_of.ensures q.ensures)
     (ap score_found (score_refused a.s a.radius a.top q.result
-    (sym c.before.is-accepted.ensures ∙ not_true c.before.is-accepted.result c.if3.true)))
+    (sym c.before.is-accepted.ensures ∙ not-true c.before.is-accepted.result c.if3.true)))
 
 returns_4 : tie.Need-returns-4
 returns_4 c =

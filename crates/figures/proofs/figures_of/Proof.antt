@@ -1,6 +1,6 @@
 -- `figures::figures_of` meets its contract. Assumes nothing.
 use mathlib.Core.Path.{sym, ◌∙◌}
-use borrow.Author.Tests.{not_true, not-false, eq-eqb, ne_eqb}
+use borrow.Author.Tests.{not-true, not-false, eq-eqb, ne_eqb}
 use borrow.Author.Rules.{rules}
 use Rattle.figures.specs.Working.{figures_of}
 use Rattle.tally.proofs.Told.{sound_told, above_none}
@@ -15,7 +15,7 @@ no_figures_requires c κs = search rules
 
 returns : tie.Need-returns
 unfolding figures_of
-returns c = rw (← c.before.before.is-sound.ensures, not_true c.before.before.is-sound.result c.before.if1.true, c.no-figures.ensures)
+returns c = rw (← c.before.before.is-sound.ensures, not-true c.before.before.is-sound.result c.before.if1.true, c.no-figures.ensures)
 
 no_figures_requires_2 : tie.Need-no-figures-requires-2
 no_figures_requires_2 c κs = search rules

@@ -1,6 +1,6 @@
 -- `has_third` meets its contract. Assumes nothing.
 use mathlib.Core.Path.{sym}
-use borrow.Author.Tests.{not_true, not-false}
+use borrow.Author.Tests.{not-true, not-false}
 use Rattle.judged.specs.Inner.Triples.{has_third}
 use Rattle.judged.proofs.has_third.Statement.{statement}
 use Rattle.judged.proofs.has_third.Tie as tie
@@ -10,7 +10,7 @@ is_beside_requires c κs = (c.before.before.requires.0, c.before.before.requires
 
 returns : tie.Need-returns
 unfolding has_third
-returns c = rw (sym c.before.is_beside_lem.ensures, not_true c.before.is_beside_lem.result c.if1.true)
+returns c = rw (sym c.before.is_beside_lem.ensures, not-true c.before.is_beside_lem.result c.if1.true)
 
 find_third_requires : tie.Need-find-third-requires
 find_third_requires c κs = c.before.before.before.before.requires

@@ -1,7 +1,7 @@
 -- `is_beside` meets its contract: its tests are those of `is_beside`, in their order. Assumes nothing.
 use mathlib.Core.Path.{sym}
 use native.Mathlib.Omega.{arith}
-use borrow.Author.Tests.{not_true, not-false, eq-eqb, ne_eqb}
+use borrow.Author.Tests.{not-true, not-false, eq-eqb, ne_eqb}
 use Rattle.judged.specs.Inner.Triples.{is_beside}
 use Rattle.judged.proofs.Triples.{near_is}
 use Rattle.judged.proofs.is_beside.Statement.{statement}
@@ -27,7 +27,7 @@ returns_2 c =
     rw (
       ne_eqb a.i a.k c.before.before.if1.false,
       sym (near_is start.pre.0 start.pre.1 c.before.is-near.ensures),
-      not_true
+      not-true
           c.before.is-near.result c.if2.true,
     )
 

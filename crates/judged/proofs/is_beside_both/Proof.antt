@@ -1,7 +1,7 @@
 -- `is_beside_both` meets its contract: its tests are those of `is_beside_both`, in their order. Assumes nothing.
 use mathlib.Core.Path.{sym}
 use native.Mathlib.Omega.{arith}
-use borrow.Author.Tests.{not_true, not-false, eq-eqb, ne_eqb}
+use borrow.Author.Tests.{not-true, not-false, eq-eqb, ne_eqb}
 use Rattle.judged.specs.Inner.Triples.{is_beside_both}
 use Rattle.judged.proofs.is_beside_both.Statement.{statement}
 use Rattle.judged.proofs.is_beside_both.Tie as tie
@@ -20,7 +20,7 @@ returns_2 : tie.Need-returns-2
 unfolding is_beside_both
 returns_2 c =
     let a = (start_of_then2 c).args in
-    rw (ne_eqb a.j a.k c.before.before.if1.false, sym c.before.is_beside_lem.ensures, not_true c.before.is_beside_lem.result c.if2.true)
+    rw (ne_eqb a.j a.k c.before.before.if1.false, sym c.before.is_beside_lem.ensures, not-true c.before.is_beside_lem.result c.if2.true)
 
 is_close_requires : tie.Need-is-close-requires
 is_close_requires c κs =

@@ -3,7 +3,7 @@ use mathlib.Core.Path.{sym, ap, ◌∙◌}
 use mathlib.Core.Bool.{not, ◌||◌}
 use lib.Ieee.{lt}
 use borrow.Author.Rules.{rules}
-use borrow.Author.Tests.{not_true, not-false}
+use borrow.Author.Tests.{not-true, not-false}
 use Rattle.vector.specs.declared.Point3f.{Point3f}
 use Rattle.vector.specs.Vector.{squared}
 use Rattle.grid.specs.declared.Cell.{Cell}
@@ -17,7 +17,7 @@ is_unused_requires c κs = search rules
 
 returns : tie.Need-returns
 unfolding passes_filter in_reach
-returns c = rw (sym c.before.is-unused.ensures ∙ not_true c.before.is-unused.result c.if1.true)
+returns c = rw (sym c.before.is-unused.ensures ∙ not-true c.before.is-unused.result c.if1.true)
 
 point_at_requires : tie.Need-point-at-requires
 point_at_requires c κs = search rules

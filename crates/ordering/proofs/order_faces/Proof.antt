@@ -1,6 +1,6 @@
 -- `ordering::order_faces` meets its contract: none is placed, then all are, or one does not fit. Assumes nothing.
 use Rattle.ordering.proofs.Slices.{start_bound, start_faces, start_kept, ordered_yes, ordered_no}
-use borrow.Author.Tests.{not_true, not-false}
+use borrow.Author.Tests.{not-true, not-false}
 use lib.ListN.{get_or}
 use native.Mathlib.Omega.{arith}
 use mathlib.Core.Logic.{inl}
@@ -73,7 +73,7 @@ returns c =
     let t = plant in
     let s = c.before.before.before.place-all in
     λ fs told. ordered_no a.n a.count fs told.many s.result.seeds s.new.1.1.0 a.order.now s.result.ok
-    (not_true s.result.ok c.if1.true)
+    (not-true s.result.ok c.if1.true)
     (s.ensures.finds (λ k. get_or w.last.0 k 0) fs told.many told.different
     (start_faces a.n a.count p.1 a.words.now w.last.0 v.last.1.1.0 t.last.1.1.0 w.ensures.0 w.ensures.1 v.ensures
     t.ensures fs told)

@@ -5,7 +5,7 @@ use Rattle.ordering.proofs.Running.{Runs, runs_start, runs_astray, runs_refused,
 use Rattle.ordering.specs.Inner.Ordering.{least_face}
 use Rattle.corners.specs.Corners.{Bound}
 use Rattle.lists.proofs.Counts.{bit_le}
-use borrow.Author.Tests.{not_true, not-false}
+use borrow.Author.Tests.{not-true, not-false}
 use lib.ListN.{length, set, get_or, length-set}
 use lib.Dec.{ltb}
 use mathlib.Core.Bool.{true, false, not}
@@ -86,7 +86,7 @@ returns_2 c =
     runs_refused a.n a.count p.1 a.words.now l.words l.k l.seeds l.inv.4 q.new.1.1.0 (omega arith)
     (places_as a.n a.count f.result (least_face a.count (get_or l.words (tree_at a.n + 1) 0))
     (ltb (get_or l.words (tree_at a.n + 1) 0) a.count) q.result false l.words q.new.1.1.0 f.ensures
-    (not_true q.result c.if2.true) q.ensures)
+    (not-true q.result c.if2.true) q.ensures)
 
 seed_of_requires : tie.Need-seed-of-requires invariant_loop decreases_loop
 seed_of_requires c κs = search rules

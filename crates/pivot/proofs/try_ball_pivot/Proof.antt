@@ -2,7 +2,7 @@
 -- nothing.
 use mathlib.Core.Path.{sym, ◌∙◌}
 use borrow.Author.Rules.{rules}
-use borrow.Author.Tests.{not_true, not-false}
+use borrow.Author.Tests.{not-true, not-false}
 use Rattle.patch.specs.Lay.{edge}
 use Rattle.decisions.specs.Decisions.{floats_of}
 use Rattle.nearby.specs.Inner.Ready.{used_in_scene}
@@ -22,7 +22,7 @@ returns c =
     let a = start_of_then1 c in
     let t = c.before.is-pivotable in (
       pivot_not (floats_of a.args.s a.args.points.now) a.args.radius (used_in_scene a.args.s a.args.w.now) a.args.s.n
-          (edge a.args.a a.args.b) (sym t.ensures ∙ not_true t.result c.if1.true),
+          (edge a.args.a a.args.b) (sym t.ensures ∙ not-true t.result c.if1.true),
       kept_self a.args.s a.args.w.now,
     )
 

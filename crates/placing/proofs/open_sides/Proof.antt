@@ -2,7 +2,7 @@
 use native.Mathlib.Omega.{arith}
 use mathlib.Core.Bool.{true, false}
 use Prim.Native.Nat.{◌*◌}
-use borrow.Author.Tests.{not_true, not-false}
+use borrow.Author.Tests.{not-true, not-false}
 use Rattle.placing.specs.Inner.Placing.{opens}
 use Rattle.corners.proofs.Chain.{bound_same}
 use Rattle.placing.proofs.Keeping.{front_same, around_first, around_second, around_third, opens_as}
@@ -26,7 +26,7 @@ returns c =
     around_first a.n a.count a.a a.b a.c (opens a.ua a.ub) (opens a.ub a.uc) (opens a.uc a.ua) start.pre.1 a.words.now
     o.new.1.1.0
     (opens_as a.n a.count a.a a.b a.words.now o.new.1.1.0 (opens a.ua a.ub) o.result false
-    (not_true o.result c.if1.true) o.ensures)
+    (not-true o.result c.if1.true) o.ensures)
 
 open_side_requires_2 : tie.Need-open-side-requires-2
 open_side_requires_2 c κs =
@@ -60,7 +60,7 @@ returns_2 c =
     (opens_as a.n a.count a.a a.b a.words.now o.last.1.1.0 (opens a.ua a.ub) o.result true (not-false o.result if1.left)
     o.ensures)
     (opens_as a.n a.count a.b a.c o.last.1.1.0 q.new.1.1.0 (opens a.ub a.uc) q.result false
-    (not_true q.result c.if2.true) q.ensures)
+    (not-true q.result c.if2.true) q.ensures)
 
 open_side_requires_3 : tie.Need-open-side-requires-3
 open_side_requires_3 c κs =

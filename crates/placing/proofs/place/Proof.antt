@@ -2,7 +2,7 @@
 use Prim.Native.Nat.{◌*◌}
 use mathlib.Core.Path.{sym, ◌∙◌}
 use native.Mathlib.Omega.{arith}
-use borrow.Author.Tests.{not_true, not-false}
+use borrow.Author.Tests.{not-true, not-false}
 use Rattle.placing.proofs.Keeping.{points_below, place_unfit, place_done, marked_bound}
 use borrow.Author.Rules.{rules}
 use Rattle.placing.proofs.place.Statement.{statement}
@@ -180,7 +180,7 @@ returns c =
     let start = start_of_then1 c in
     let a = start.args in
     place_unfit a.n a.count a.i start.pre.1 start.pre.2 a.words.now start.pre.4 a.shared
-    (sym c.before.may-place.ensures ∙ not_true c.before.may-place.result c.if1.true)
+    (sym c.before.may-place.ensures ∙ not-true c.before.may-place.result c.if1.true)
 
 mul_renew : tie.Need-overflow-mul-renew
 mul_renew c = search rules

@@ -1,6 +1,6 @@
 -- `plain::try_face` meets its contract. Assumes nothing.
 use native.Mathlib.Omega.{arith}
-use borrow.Author.Tests.{not_true, not-false}
+use borrow.Author.Tests.{not-true, not-false}
 use mathlib.Core.Path.{◌∙◌}
 use Rattle.plain.proofs.Laid.{lays_full, lays_none, lays_one}
 use Rattle.plain.proofs.Plain.{valid_is}
@@ -31,7 +31,7 @@ returns_2 c =
     let p = c.before.before in
     let a = p.before.before.before.before.before.before.args in
     rw (valid_is a.points.now a.radius a.i a.a a.b p.before.before.point_at.ensures p.before.point-at2.ensures
-    p.point-at3.ensures c.before.is-sound.ensures ∙ not_true _ c.if2.true) (lays_none _ _ (omega arith))
+    p.point-at3.ensures c.before.is-sound.ensures ∙ not-true _ c.if2.true) (lays_none _ _ (omega arith))
 
 cast_put_face : tie.Need-overflow-cast-put-face
 cast_put_face c = search rules

@@ -1,7 +1,7 @@
 -- `ranges::first_outside` meets its contract. The loop's invariant: no value passed is outside. Assumes nothing.
 use Rattle.ranges.proofs.Range.{leading_start, leading_found, leading_passed, leading_end}
 use Rattle.ranges.specs.Range.{leading, first_outside}
-use borrow.Author.Tests.{not_true, not-false}
+use borrow.Author.Tests.{not-true, not-false}
 use lib.Ieee.{neg}
 use lib.ListN.{length, drop}
 use mathlib.Core.Path.{◌≡◌, sym, ap}
@@ -33,7 +33,7 @@ unfolding first_outside
 returns c =
     let s = c.before.before.before.before.before.before in
     let l = c.before.before.before.before.loop in
-    let e = leading_found _ _ s.args.values.now l.at _ c.before.in_range_lem.ensures l.invariant.1 (not_true _ c.if1.true) in
+    let e = leading_found _ _ s.args.values.now l.at _ c.before.in_range_lem.ensures l.invariant.1 (not-true _ c.if1.true) in
     sym (ap (λ (k : ℕ). k / 3) e)
 
 add_at : tie.Need-overflow-add-at invariant_loop decreases_loop

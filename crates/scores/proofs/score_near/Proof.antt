@@ -1,7 +1,7 @@
 -- `score_near` meets its contract: its tests are those of `score_near`, in their order. Assumes nothing.
 use lib.Ieee.{le}
 use borrow.Author.Rules.{rules}
-use borrow.Author.Tests.{not_true, not-false}
+use borrow.Author.Tests.{not-true, not-false}
 use Rattle.numbers.specs.Rounded.{◌⊗◌}
 use Rattle.numbers.specs.Root.{root}
 use Rattle.quality.specs.Measures.{half}
@@ -17,7 +17,7 @@ returns c =
     let a = c.before.before.args in
     let d = c.before.sqrt in
     score_far a.s a.radius a.top a.a (root a.b) (root a.c) (root a.cross ⊗ half)
-    (rw (← d.ensures) (not_true (le d.result a.radius) c.if1.true))
+    (rw (← d.ensures) (not-true (le d.result a.radius) c.if1.true))
 
 sqrt_requires_2 : tie.Need-sqrt-requires-2
 sqrt_requires_2 c κs = search rules
@@ -27,7 +27,7 @@ returns_2 c =
     let a = c.before.before.before.before.args in
     let e = c.before.sqrt2 in
     score_far_too a.s a.radius a.top a.a (root a.b) (root a.c) (root a.cross ⊗ half)
-    (rw (← e.ensures) (not_true (le e.result a.radius) c.if2.true))
+    (rw (← e.ensures) (not-true (le e.result a.radius) c.if2.true))
 
 sqrt_requires_3 : tie.Need-sqrt-requires-3
 sqrt_requires_3 c κs = search rules

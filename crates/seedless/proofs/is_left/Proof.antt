@@ -1,6 +1,6 @@
 -- `is_left` meets its contract: each test that fails is one of the definition's. Assumes nothing.
 use mathlib.Core.Path.{sym, ◌∙◌}
-use borrow.Author.Tests.{not_true, not-false}
+use borrow.Author.Tests.{not-true, not-false}
 use borrow.Author.Rules.{rules}
 use Rattle.seedless.proofs.is_left.Statement.{statement}
 use Rattle.seedless.proofs.is_left.Tie as tie
@@ -9,7 +9,7 @@ is_other_requires : tie.Need-is-other-requires
 is_other_requires c κs = search rules
 
 returns : tie.Need-returns
-returns c = let o = c.before.is-other in rw (sym o.ensures ∙ not_true o.result c.if1.true)
+returns c = let o = c.before.is-other in rw (sym o.ensures ∙ not-true o.result c.if1.true)
 
 is_unused_requires : tie.Need-is-unused-requires
 is_unused_requires c κs = search rules

@@ -1,7 +1,7 @@
 -- `search_unused` meets its contract: of the unused points after i those that are not looked at are too far away.
 -- Assumes nothing.
 use mathlib.Core.Path.{sym, ◌∙◌, subst}
-use borrow.Author.Tests.{not_true}
+use borrow.Author.Tests.{not-true}
 use Rattle.vector.specs.declared.Point3f.{Point3f}
 use Rattle.vector.specs.Inner.Numbers.{Finite}
 use Rattle.spatial_hash.specs.Inner.Near.{NearPlace}
@@ -27,7 +27,7 @@ returns : tie.Need-returns
 returns c =
     let start = start_of_then1 c in
     let u = c.before.is-unused in
-    (λ _ free. absurd (true_not_false free (sym u.ensures ∙ not_true u.result c.if1.true)), kept_self start.args.p.scene start.args.w.now)
+    (λ _ free. absurd (true_not_false free (sym u.ensures ∙ not-true u.result c.if1.true)), kept_self start.args.p.scene start.args.w.now)
 
 point_at_requires : tie.Need-point-at-requires
 point_at_requires c κs = search rules

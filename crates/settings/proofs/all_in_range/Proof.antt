@@ -3,7 +3,7 @@ use borrow.Author.Tests.{lt-leb, le-leb}
 use Rattle.ranges.proofs.Range.{leading_start, leading_found, leading_passed}
 use Rattle.ranges.specs.Range.{leading}
 use Rattle.settings.specs.Settings.{list_inside}
-use borrow.Author.Tests.{not_true, not-false}
+use borrow.Author.Tests.{not-true, not-false}
 use lib.ListN.{drop}
 use mathlib.Core.Path.{◌≡◌}
 use Prim.Native.Nat.{◌+◌, ◌-◌, ◌≤◌}
@@ -39,7 +39,7 @@ unfolding list_inside
 returns_2 c =
     let l = c.before.before.before.loop in
     let s = c.before.before.before.before.before.args in
-    let e = leading_found _ _ _ l.k _ c.before.in_range_lem.ensures l.invariant.3 (not_true _ c.if2.true) in
+    let e = leading_found _ _ _ l.k _ c.before.in_range_lem.ensures l.invariant.3 (not-true _ c.if2.true) in
     rw (le-leb s.count 8 l.invariant.2, lt-leb s.count (leading s.lo s.hi s.t3) (omega arith))
 
 add_k : tie.Need-overflow-add-k invariant_loop decreases_loop

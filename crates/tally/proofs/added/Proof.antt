@@ -1,7 +1,7 @@
 -- `added` meets its contract: each way out is a case of the definition, in its order, and the last two differ in
 -- whether there is a best and a worst to compare with. Assumes nothing.
 use mathlib.Core.Path.{sym, ap, ◌∙◌}
-use borrow.Author.Tests.{not_true, not-false, lt-ltb, le-ltb, eq-eqb, ne_eqb}
+use borrow.Author.Tests.{not-true, not-false, lt-ltb, le-ltb, eq-eqb, ne_eqb}
 use borrow.Author.Rules.{rules}
 use Rattle.tally.specs.declared.Tally.{Tally}
 use Rattle.tally.specs.Tallies.{with_patch, added_to}
@@ -16,7 +16,7 @@ is_sound_requires c κs = search rules
 
 returns : tie.Need-returns
 unfolding added_to
-returns c = rw (← c.before.is-sound.ensures, not_true c.before.is-sound.result c.if1.true)
+returns c = rw (← c.before.is-sound.ensures, not-true c.before.is-sound.result c.if1.true)
 
 is_enterable_requires : tie.Need-is-enterable-requires
 is_enterable_requires c κs = search rules
@@ -29,7 +29,7 @@ returns_2 c =
       not-false c.before.before.before.is-sound.result
           c.before.before.if1.false,
       ← c.before.is-enterable.ensures,
-      not_true c.before.is-enterable.result c.if2.true,
+      not-true c.before.is-enterable.result c.if2.true,
     )
 
 returns_3 : tie.Need-returns-3

@@ -9,14 +9,14 @@ use lib.Ieee.Bits.{nan_bits_above}
 use borrow.Author.Tests.{le-ltb}
 use borrow.Author.Rules.{rules}
 use Rattle.numbers.specs.Acos.{high_part}
-use Rattle.numbers.proofs.Compare.{is_nan}
+use Rattle.numbers.proofs.Compare.{is_nan_lem}
 use Rattle.numbers.proofs.RootSpecial.{not_self, pattern_lt, pattern_le}
 use Rattle.arc_cosine.proofs.arc.clear_low.Statement.{statement}
 use Rattle.arc_cosine.proofs.arc.clear_low.Tie as tie
 
 returns : tie.Need-returns
 unfolding high_part
-returns c = rw (is_nan, c.if1.true)
+returns c = rw (is_nan_lem, c.if1.true)
 
 float_to_bits_b : tie.Need-float-to-bits-b
 float_to_bits_b c = not_self _ c.if1.false
@@ -35,7 +35,7 @@ float_from_bits_result c =
 
 returns_2 : tie.Need-returns-2
 unfolding high_part
-returns_2 c = rw (is_nan, c.if1.false)
+returns_2 c = rw (is_nan_lem, c.if1.false)
 
 pub clear-low-spec : {M : Type 1} → statement M
 clear-low-spec =

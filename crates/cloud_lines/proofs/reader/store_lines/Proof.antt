@@ -3,7 +3,7 @@
 -- (`Lending.antt`). The loop's state is `Upto`: so many lines are stored, the reader stands at a place, the slices hold
 -- these numbers. Assumes nothing.
 use mathlib.Core.Path.{◌≡◌, refl, sym, ap, subst, ◌∙◌}
-use Prim.Native.Nat.{ℕ, ◌+◌, ◌-◌, ◌≤◌, ◌<◌, ◌^◌, zero_le}
+use Prim.Native.Nat.{ℕ, ◌+◌, ◌-◌, ◌≤◌, ◌<◌, ◌^◌, zero-le}
 use native.Mathlib.Nat.{le_antisymm, lt_of_le_of_lt}
 use native.Mathlib.Numerals.{add-one-le, add-one-dec}
 use mathlib.Core.WellFounded.InvImage
@@ -519,7 +519,7 @@ module _ {M : Type 1} {𝓤 : Ura M} (𝓛 : Logic 𝓤) (mem : Memory → SProp
       b = n;
       xs = ps;
       ys = ns;
-      most = zero_le;
+      most = zero-le;
       small = ok;
       long_xs = refl;
       long_ys = refl;

@@ -8,12 +8,12 @@ use borrow.Author.Rules.{rules}
 use Rattle.numbers.proofs.root.guess.Statement.{statement}
 use Rattle.numbers.proofs.root.guess.Tie as tie
 
-in_float : (n : ℕ) → n < 2 ^ 48 → T (in_float binary64 (pos n))
+in_float_lem : (n : ℕ) → n < 2 ^ 48 → T (in_float binary64 (pos n))
 unfolding in_float
-in_float n h = le→leb n (2 ^ 53) (omega arith)
+in_float_lem n h = le→leb n (2 ^ 53) (omega arith)
 
 int_to_float_v : tie.Need-int-to-float-v
-int_to_float_v c = in_float c.before.args.n c.before.requires
+int_to_float_v c = in_float_lem c.before.args.n c.before.requires
 
 low_bits_requires : tie.Need-low-bits-requires
 low_bits_requires c κs = search rules

@@ -1,7 +1,7 @@
 -- `is_ahead` meets its contract. Assumes nothing.
 use mathlib.Core.Path.{sym, ◌∙◌}
 use borrow.Author.Rules.{rules}
-use borrow.Author.Tests.{not_true, not-false}
+use borrow.Author.Tests.{not-true, not-false}
 use Rattle.pivot.proofs.candidates.is_ahead.Statement.{statement}
 use Rattle.pivot.proofs.candidates.is_ahead.Tie as tie
 
@@ -9,7 +9,7 @@ is_near_requires : tie.Need-is-near-requires
 is_near_requires c κs = search rules
 
 returns : tie.Need-returns
-returns c = let n = c.before.is-near in rw (sym n.ensures ∙ not_true n.result c.if1.true)
+returns c = let n = c.before.is-near in rw (sym n.ensures ∙ not-true n.result c.if1.true)
 
 returns_2 : tie.Need-returns-2
 returns_2 c = let n = c.before.before.is-near in rw (sym n.ensures ∙ not-false n.result c.before.if1.false, c.if2.true)

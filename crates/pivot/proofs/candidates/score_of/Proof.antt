@@ -3,7 +3,7 @@ use mathlib.Core.Path.{sym, ap, ◌∙◌}
 use mathlib.Core.Option.{Option}
 use lib.Ieee.{Float}
 use borrow.Author.Rules.{rules}
-use borrow.Author.Tests.{not_true, not-false, eq-eqb, ne_eqb}
+use borrow.Author.Tests.{not-true, not-false, eq-eqb, ne_eqb}
 use Rattle.points.specs.Points.{point_at}
 use Rattle.patch.specs.Lay.{edge}
 use Rattle.decisions.specs.Decisions.{floats_of}
@@ -41,7 +41,7 @@ returns_3 c =
     unscored (floats_of a.s a.points.now) a.o.radius (used_in_scene a.s a.w.now) (edge a.o.a a.o.b) a.k a.top
     (not_met (floats_of a.s a.points.now) a.o.radius (used_in_scene a.s a.w.now) (edge a.o.a a.o.b) a.k
     (rw (ne_eqb a.k a.o.a if1.left, ne_eqb a.k a.o.b c.before.before.if2.false)
-    (sym c.before.is-unused.ensures ∙ not_true c.before.is-unused.result c.if3.true)))
+    (sym c.before.is-unused.ensures ∙ not-true c.before.is-unused.result c.if3.true)))
 
 point_at_requires : tie.Need-point-at-requires
 point_at_requires c κs = search rules

@@ -3,7 +3,7 @@
 use Prim.Native.Nat.{◌-◌, ◌≤◌}
 use mathlib.Core.Path.{refl, sym, ap, ◌∙◌}
 use native.Mathlib.Omega.{arith}
-use borrow.Author.Tests.{not_true, not-false}
+use borrow.Author.Tests.{not-true, not-false}
 use Rattle.lists.proofs.Bools.{true_not_false}
 use Rattle.nearby.specs.Inner.Ready.{used_in_scene}
 use Rattle.nearby.proofs.Keeping.{kept_on}
@@ -67,7 +67,7 @@ loop_again c =
     let u = c.before.is-unused in
     let l = loop in
     let a = start.args in
-    let used = sym u.ensures ∙ not_true u.result c.if2.true in (
+    let used = sym u.ensures ∙ not-true u.result c.if2.true in (
       seek_used l.inv.0 loop-test.taken c.before.before.before.if1.false used,
       omega (arith, l.inv.1),
       seedless_used (used_in_scene a.p.scene a.w.now) l.inv.2 (unused_back {s = a.p.scene} l.i l.inv.0.kept used),

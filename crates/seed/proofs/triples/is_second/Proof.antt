@@ -1,7 +1,7 @@
 -- `is_second` meets its contract: its tests are those of `is_second`, in their order. Assumes nothing.
 use mathlib.Core.Path.{sym}
 use borrow.Author.Rules.{rules}
-use borrow.Author.Tests.{not_true, not-false, eq-eqb, ne_eqb}
+use borrow.Author.Tests.{not-true, not-false, eq-eqb, ne_eqb}
 use Rattle.patch.specs.Search.{is_second}
 use Rattle.decisions.specs.Decisions.{floats_of}
 use Rattle.seed.proofs.triples.is_second.Statement.{statement}
@@ -20,7 +20,7 @@ returns_2 : tie.Need-returns-2
 unfolding is_second floats_of
 returns_2 c =
     let a = (start_of_then2 c).args in
-    rw (ne_eqb a.i a.j c.before.before.if1.false, sym c.before.is-unused.ensures, not_true c.before.is-unused.result c.if2.true)
+    rw (ne_eqb a.i a.j c.before.before.if1.false, sym c.before.is-unused.ensures, not-true c.before.is-unused.result c.if2.true)
 
 is_close_requires : tie.Need-is-close-requires
 is_close_requires c κs = search rules

@@ -2,7 +2,7 @@
 -- slivers first. Assumes nothing.
 use mathlib.Core.Path.{sym}
 use borrow.Author.Rules.{rules}
-use borrow.Author.Tests.{not_true, not-false, eq-eqb, ne_eqb}
+use borrow.Author.Tests.{not-true, not-false, eq-eqb, ne_eqb}
 use Rattle.patch.specs.Search.{is_third}
 use Rattle.decisions.specs.Decisions.{floats_of}
 use Rattle.decisions.specs.Inner.Completes.{completes}
@@ -37,7 +37,7 @@ returns_3 c =
       ne_eqb a.i a.k c.before.before.before.if1.false,
       ne_eqb a.j a.k c.before.before.if2.false,
       sym c.before.is-unused.ensures,
-      not_true c.before.is-unused.result c.if3.true,
+      not-true c.before.is-unused.result c.if3.true,
     )
 
 point_at_requires : tie.Need-point-at-requires

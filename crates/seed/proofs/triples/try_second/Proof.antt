@@ -1,6 +1,6 @@
 -- `try_second` meets its contract. Assumes nothing.
 use mathlib.Core.Path.{sym, ◌∙◌}
-use borrow.Author.Tests.{not_true, not-false}
+use borrow.Author.Tests.{not-true, not-false}
 use Rattle.decisions.specs.Decisions.{floats_of}
 use Rattle.nearby.specs.Inner.Ready.{used_in_scene, neighbors_listed}
 use Rattle.seedless.proofs.Nothing.{close_second}
@@ -19,7 +19,7 @@ returns c =
     second_not (floats_of start.args.p.scene start.args.points.now) start.args.p.radius
     (used_in_scene start.args.p.scene start.args.w.now)
     start.args.i start.args.j (neighbors_listed start.args.p.scene start.args.w.now start.args.count)
-    (sym c.before.is-second.ensures ∙ not_true c.before.is-second.result c.if1.true)
+    (sym c.before.is-second.ensures ∙ not-true c.before.is-second.result c.if1.true)
 
 find_third_requires : tie.Need-find-third-requires
 find_third_requires c κs =

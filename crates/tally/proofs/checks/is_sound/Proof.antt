@@ -2,7 +2,7 @@
 -- nothing.
 use mathlib.Core.Path.{sym, ◌∙◌}
 use borrow.Author.Rules.{rules}
-use borrow.Author.Tests.{not_true, not-false, le-leb, lt-leb, eq-eqb, ne_eqb}
+use borrow.Author.Tests.{not-true, not-false, le-leb, lt-leb, eq-eqb, ne_eqb}
 use native.Mathlib.Omega.{arith}
 use Rattle.tally.specs.Checks.{sound_tally}
 use Rattle.tally.proofs.Told.{within_told, squares_fit, faces_fit}
@@ -16,7 +16,7 @@ is_within_requires c κs = search rules
 
 returns : tie.Need-returns
 unfolding sound_tally
-returns c = rw (← c.before.is_within.ensures, not_true c.before.is_within.result c.if1.true)
+returns c = rw (← c.before.is_within.ensures, not-true c.before.is_within.result c.if1.true)
 
 mul_if2 : tie.Need-overflow-mul-if2
 mul_if2 c =
