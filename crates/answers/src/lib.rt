@@ -1,5 +1,6 @@
 // Every answer of the public calls by its name. What each says, and the order of the numbers, is the table of
 // specs/Answers.antt. Both are made from answers.toml.
+#![tactic(auto)]
 
 pub const NO_POINTS: u32 = 1;
 

@@ -1,4 +1,6 @@
 // The arc cosine, as musl's `acosf` has it.
+#![tactic(auto)]
+
 mod arc;
 
 ghost use Rattle.std.specs.Prelude.{◌≡◌};

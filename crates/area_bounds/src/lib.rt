@@ -1,4 +1,6 @@
 // Bounds of a triangle's area, by which triangles that are too small or too large are known without measuring them.
+#![tactic(auto)]
+
 ghost use Rattle.std.specs.Prelude.{◌≡◌, true};
 ghost use Rattle.area_bounds.specs.Inner.AreaBound.{cross_bound, area_bound, cross_squared, AreaLimit, TooLong};
 ghost use Rattle.area_bounds.specs.Inner.AreaBound.{LargeLimit};

@@ -1,5 +1,7 @@
 // The orders of a part of a cloud, one along each axis: its box stands at their ends, and each is parted at the middle
 // one of an order as it is, so none is sorted again.
+#![tactic(auto)]
+
 ghost use Rattle.std.specs.Prelude.{◌≡◌, ◌++◌, ◌+◌, ◌-◌, ◌≤◌, ◌<◌, length, take};
 ghost use Rattle.kd_tree.specs.Boxes.{plus_zero};
 ghost use Rattle.axis_sort.specs.Axis.{coordinate_of};

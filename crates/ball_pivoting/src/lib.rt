@@ -1,5 +1,7 @@
 // What comes back of what was found. The definition of the whole call and the one claim about it are in specs/; the
 // call itself is in `reconstruction`.
+#![tactic(auto)]
+
 ghost use Rattle.std.specs.Prelude.{◌≡◌, ◌≤◌};
 ghost use Rattle.ball_pivoting.specs.Reconstruct.{refused, reason_by};
 ghost use Rattle.ball_pivoting.specs.Inner.Parts.{accepted_by, Delivers};
@@ -9,7 +11,7 @@ use radii::Radii;
 // The answer's number and detail, 0 where the cloud is accepted; how many faces, seeds, looks and pivots there are; the
 // radii.
 #[repr(C)]
-#[derive(Drop)]
+#[derive(Clone, Copy)]
 pub struct Patch {
     pub answer: u32,
     pub detail: u32,
@@ -23,7 +25,7 @@ pub struct Patch {
 
 // What was found, before it is known whether it fits; what is answered if it is nothing; and how many faces there were
 // after each radius.
-#[derive(Drop)]
+#[derive(Clone, Copy)]
 pub struct Finding {
     pub faces: usize,
     pub seeds: u32,

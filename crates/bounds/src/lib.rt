@@ -1,5 +1,7 @@
 // Bounds that hold every place within a distance of another. How far they go is a guess, which is tested; where it is
 // not far enough they have no end.
+#![tactic(auto)]
+
 mod cover;
 
 ghost use Rattle.vector.specs.Inner.Numbers.{Finite};
@@ -8,14 +10,14 @@ ghost use Rattle.bounds.specs.Inner.Within.{Limit, Covers};
 use vector::Point3f;
 
 // The places between two corners, both included.
-#[derive(Drop)]
+#[derive(Clone, Copy)]
 pub struct Bounds {
     pub lo: Point3f,
     pub hi: Point3f,
 }
 
 // The coordinates between two, both included.
-#[derive(Drop)]
+#[derive(Clone, Copy)]
 pub struct Interval {
     pub lo: f32,
     pub hi: f32,

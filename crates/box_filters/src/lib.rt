@@ -1,5 +1,7 @@
 // Tests that refuse every triangle of a point and of points in two boxes at once: what refuses a triangle by squares is
 // asked at the ends of intervals that hold the squares.
+#![tactic(auto)]
+
 ghost use Rattle.std.specs.Prelude.{◌≡◌, true};
 ghost use Rattle.intervals.specs.Inner.Enclosed.{differences_of, CrossSquares};
 ghost use Rattle.box_filters.specs.Inner.LowBy.{AnglesWithin, LowBy};
@@ -11,7 +13,7 @@ use filters::Limits;
 use vector::Point3f;
 
 // The squares of the lengths of three edges: of those between points of p and q, of p and t, and of q and t.
-#[derive(Drop)]
+#[derive(Clone, Copy)]
 pub struct Edges {
     pub pq: Interval,
     pub pt: Interval,

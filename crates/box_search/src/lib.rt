@@ -1,5 +1,7 @@
 // The nearest of a list of points, by boxes that hold its halves: a part whose box is strictly farther than the best so
 // far is left out.
+#![tactic(auto)]
+
 ghost use Rattle.std.specs.Prelude.{◌≡◌, not, ◌≤◌, ◌<◌, T, length, get_or};
 ghost use Rattle.std.specs.Float.{binary32};
 ghost use Rattle.std.specs.Float.Ieee.{nan_bits};

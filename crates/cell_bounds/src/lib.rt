@@ -1,5 +1,7 @@
 // Bounds outside of which no point's cell lies within a range of another, and how far from a place those inside are.
 // How far they go is a guess, which is tested; an end that is not far enough is none.
+#![tactic(auto)]
+
 mod axis;
 
 ghost use Rattle.vector.specs.Inner.Numbers.{Finite};

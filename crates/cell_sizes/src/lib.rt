@@ -1,6 +1,8 @@
 // How wide the hash's cells are where points lie far apart: guesses, which decide nothing, and the hash built anew.
 // With cells as wide as the radius a look farther than that goes through hundreds of rows there, and the remainders
 // bring along points that are far away.
+#![tactic(auto)]
+
 ghost use Rattle.std.specs.Prelude.{◌<◌};
 ghost use Rattle.laying.specs.Inner.Laying.{AllSearchable};
 

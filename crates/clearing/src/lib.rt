@@ -1,4 +1,6 @@
 // Whole lent slices set to zeros.
+#![tactic(auto)]
+
 ghost use Rattle.std.specs.Prelude.{◌≡◌, length, replicate};
 ghost use Rattle.numbers.specs.Rounded.{f32};
 

@@ -2,6 +2,8 @@
 //
 // What the file means is the definition `file` of specs/Format.antt, and what the reader answers `outcome` of
 // specs/Answers.antt.
+#![tactic(auto)]
+
 mod point_lines;
 
 ghost use Rattle.std.specs.Prelude.{◌≡◌, length, drop};
@@ -15,7 +17,7 @@ use numerals::NumberRead;
 // The answer's number, 0 where the file was accepted; the detail, the first malformed line from 1 at refusal 10; and
 // what was read.
 #[repr(C)]
-#[derive(Drop)]
+#[derive(Clone, Copy)]
 pub struct CloudRead {
     pub answer: u32,
     pub detail: usize,

@@ -9,7 +9,7 @@ use cloud_lines::reader::store_lines;
 use cloud_lines::skipping::skip_point;
 
 // How many lines there are, or the number of the first malformed one, from 1.
-#[derive(Drop)]
+#[derive(Clone, Copy)]
 pub enum Counted {
     Lines { count: usize },
     Malformed { line: usize },

@@ -10,26 +10,26 @@ pub const COMMA: u8 = 44;
 
 pub const LINE_FEED: u8 = 10;
 
-#[derive(Drop)]
+#[derive(Clone, Copy)]
 pub struct Triple {
     pub x: f32,
     pub y: f32,
     pub z: f32,
 }
 
-#[derive(Drop)]
+#[derive(Clone, Copy)]
 pub struct Point {
     pub position: Triple,
     pub normal: Triple,
 }
 
-#[derive(Drop)]
+#[derive(Clone, Copy)]
 pub enum TripleRead {
     Numbers { triple: Triple, next: usize },
     Malformed,
 }
 
-#[derive(Drop)]
+#[derive(Clone, Copy)]
 pub enum PointRead {
     Line { point: Point, next: usize },
     Malformed,

@@ -8,27 +8,27 @@ ghost use Rattle.cloud_lines.specs.Inner.Storing.{position_of, normal_of, placed
 
 use crate::line::{Point, PointRead, Triple, point_at};
 
-#[derive(Drop)]
+#[derive(Clone, Copy)]
 pub struct Reader<'a> {
     pub src: &'a [u8],
     pub at: usize,
 }
 
-#[derive(Drop)]
+#[derive(Clone, Copy)]
 pub enum LineRead {
     Point { point: Point },
     Malformed,
 }
 
 // What was read, and the place then: behind the line, or where it was if the line is malformed.
-#[derive(Drop)]
+#[derive(Clone, Copy)]
 pub struct Step {
     pub read: LineRead,
     pub at: usize,
 }
 
 // The reader, moved on, and what it read.
-#[derive(Drop)]
+#[derive(Clone, Copy)]
 pub struct Moved<'a> {
     pub reader: Reader<'a>,
     pub read: LineRead,

@@ -1,6 +1,7 @@
 // Reads literal inputs and writes each answer: its number, detail and count, and the bits of the radius, of the points
 // and of the normals.
 // A slot that was not written keeps 41100000, the bits of 9.
+#![tactic(auto)]
 
 fn bits_of(x: f32) -> u32 {
     if x != x {

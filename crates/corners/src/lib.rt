@@ -1,5 +1,7 @@
 // The corners of faces, three words a face in front of a lent slice: links from each corner to the one before it at the
 // same point, and whether a face has a point.
+#![tactic(auto)]
+
 ghost use Rattle.std.specs.Prelude.{◌≡◌, ℕ, ◌+◌, ◌*◌, ◌≤◌, ◌<◌, length, get_or};
 ghost use Rattle.patch.specs.Shape.{touches};
 ghost use Rattle.regions.specs.Inner.Ordering.{heads_at, heads_end};

@@ -1,5 +1,7 @@
 // A test by squares that the cosine of a triangle's angle is at least a bound, before any root is taken: for all
 // triangles whose squares lie in intervals.
+#![tactic(auto)]
+
 ghost use Rattle.std.specs.Prelude.{◌≡◌, true};
 ghost use Rattle.cosines.specs.Inner.Cosine.{is_plain_pair, are_plain, is_comparable, limit_at, is_short, is_small};
 ghost use Rattle.cosines.specs.Inner.Cosine.{NarrowLimit, NarrowAngle, interval};

@@ -1,4 +1,6 @@
 // Which points of a cloud the faces of its patch reach, as marks in a lent slice, and how many.
+#![tactic(auto)]
+
 ghost use Rattle.std.specs.Prelude.{◌≡◌, ◌+◌, ◌≤◌, eqb, set};
 ghost use Rattle.coverage.specs.Coverage.{Marked};
 ghost use Rattle.lists.specs.Lists.{count};

@@ -1,4 +1,6 @@
 // From an f32 to a whole number, as Rust's `as u32` cuts it.
+#![tactic(auto)]
+
 mod by_fields;
 
 ghost use Rattle.std.specs.Prelude.{◌≡◌};

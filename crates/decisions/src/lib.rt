@@ -1,5 +1,7 @@
 // What the floats decide of points by their numbers: which are near enough to each other, which triangles are
 // acceptable, and how good they are.
+#![tactic(auto)]
+
 ghost use Rattle.std.specs.Prelude.{◌≡◌, true, ◌*◌, ◌<◌, ◌+◌, length};
 ghost use Rattle.quality.specs.Inner.Shape.{quality_of};
 ghost use Rattle.patch.specs.Lay.{edge};
@@ -13,7 +15,7 @@ use quality::{Shape, TriangleQuality};
 use vector::Point3f;
 
 // What the decisions go by: the number of points, the index and whether it is used, and the thresholds of the settings.
-#[derive(Drop)]
+#[derive(Clone, Copy)]
 pub struct Scene {
     pub n: usize,
     pub indexed: bool,
@@ -24,7 +26,7 @@ pub struct Scene {
 }
 
 // The score of a triangle that may be laid.
-#[derive(Drop)]
+#[derive(Clone, Copy)]
 pub enum Score {
     Of(f32),
     None,

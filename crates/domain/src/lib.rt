@@ -1,4 +1,6 @@
 // The domain: which clouds, settings and work slices are taken, and the refusal that each of the others gets.
+#![tactic(auto)]
+
 mod lengths;
 
 ghost use Rattle.std.specs.Prelude.{◌≡◌, ◌≤◌};
@@ -9,7 +11,7 @@ use settings::BallPivotingConfig;
 
 // The number of a refusal and its detail, both 0 where nothing is refused.
 #[repr(C)]
-#[derive(Drop)]
+#[derive(Clone, Copy)]
 pub struct Refusal {
     pub answer: u32,
     pub detail: u32,

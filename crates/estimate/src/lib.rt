@@ -1,4 +1,6 @@
 // The radius estimate.
+#![tactic(auto)]
+
 mod nearest;
 mod samples;
 
@@ -6,7 +8,7 @@ ghost use Rattle.estimate.specs.Estimate.{Estimated};
 
 // The answer's number, its detail, and the estimate, which is 0 at a refusal.
 #[repr(C)]
-#[derive(Drop)]
+#[derive(Clone, Copy)]
 pub struct Estimate {
     pub answer: u32,
     pub detail: u32,

@@ -1,5 +1,7 @@
 // That no triangle's score reaches a threshold of 1.00001: by Euler's inequality an inradius is at most half of the
 // circumradius, and rounding adds next to nothing.
+#![tactic(auto)]
+
 ghost use Rattle.std.specs.Prelude.{◌≡◌, true};
 ghost use Rattle.euler.specs.Inner.OutOfReach.{is_out_of_reach, OutOfReach};
 

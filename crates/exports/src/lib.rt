@@ -1,4 +1,6 @@
 // The functions that C and Rust call. Each promises what the function that it calls does.
+#![tactic(auto)]
+
 ghost use Rattle.std.specs.Prelude.{◌≡◌, length};
 ghost use Rattle.numbers.specs.Root.{root};
 ghost use Rattle.numbers.specs.Order.{minimum, maximum, clamp};

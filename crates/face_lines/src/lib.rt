@@ -3,6 +3,8 @@
 //
 // What the bytes mean is the definition `face_file` of specs/Format.antt, and what the first pass tells of them
 // `scan_of_lines` of specs/Inner/Answers.antt.
+#![tactic(auto)]
+
 mod line;
 
 ghost use Rattle.std.specs.Prelude.{◌≡◌, ◌||◌};
@@ -15,7 +17,7 @@ pub use line::{FaceLineRead, PointNumberRead};
 
 // What a pass over all lines found: the first malformed line, from 1, or 0; the count of faces; whether some number is
 // out of range, and whether some face has two equal numbers.
-#[derive(Drop)]
+#[derive(Clone, Copy)]
 pub struct FacesScanned {
     pub malformed: usize,
     pub count: usize,

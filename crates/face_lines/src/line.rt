@@ -10,14 +10,14 @@ const COMMA: u8 = 44;
 const LINE_FEED: u8 = 10;
 
 // What stands at a place of the bytes: a number, with the place behind the byte that ends it, or none.
-#[derive(Drop)]
+#[derive(Clone, Copy)]
 pub enum PointNumberRead {
     Number { value: u32, next: usize },
     Malformed,
 }
 
 // What stands there: a face's line, with the place behind it, or none.
-#[derive(Drop)]
+#[derive(Clone, Copy)]
 pub enum FaceLineRead {
     Face { a: u32, b: u32, c: u32, next: usize },
     Malformed,

@@ -1,13 +1,15 @@
 // Faces of another ball pivoter, as point numbers: could they be a patch of ours in shape, and in what order.
 //
 // The checks behind the first, and the order, are those of crate `patch_order`, which reads the faces from lines.
+#![tactic(auto)]
+
 ghost use Rattle.std.specs.Prelude.{◌≡◌, ℕ, ◌≤◌, ◌<◌, length, get_or};
 ghost use Rattle.face_order.specs.Faces.{faces_of, seen_of, Ready, Judged, OrdersFaces};
 
 use patch_order::Ordered;
 
 // Whether some number is out of range, and whether some face has two equal numbers.
-#[derive(Drop)]
+#[derive(Clone, Copy)]
 pub struct FacesSeen {
     pub outside: bool,
     pub twice: bool,

@@ -1,4 +1,6 @@
 // Exact figures over a season: what is worked out from its tally.
+#![tactic(auto)]
+
 ghost use Rattle.std.specs.Prelude.{◌≡◌, ◌<◌};
 ghost use Rattle.tally.specs.Checks.{TallySound};
 ghost use Rattle.figures.specs.Working.{coverage_of, no_figures, sound_figures, figures_of};
@@ -9,7 +11,7 @@ use tally::{SeasonPatch, Tally};
 
 // The figures of a season, fractions in lowest terms; all zeros but for the answer where they are refused.
 #[repr(C)]
-#[derive(Drop)]
+#[derive(Clone, Copy)]
 pub struct Figures {
     pub answer: u32,
     pub patches: u64,

@@ -1,5 +1,7 @@
 // What is refused without measuring it: triangles by squares that are too small or too large, and radii at which every
 // triangle is refused.
+#![tactic(auto)]
+
 ghost use Rattle.std.specs.Prelude.{◌≡◌, true, ◌&&◌};
 ghost use Rattle.std.specs.Float.Ieee.{le};
 ghost use Rattle.long_edges.specs.Inner.LongEdges.{Long};
@@ -15,7 +17,7 @@ use vector::Point3f;
 
 // Limits for squares, by which a triangle is refused: of twice the area a least and a largest, of a distance the
 // largest, one for the aspect ratio, and those for slivers.
-#[derive(Drop)]
+#[derive(Clone, Copy)]
 pub struct Limits {
     pub small: f32,
     pub large: f32,

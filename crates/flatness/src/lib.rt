@@ -1,4 +1,6 @@
 // Whether a cloud's points lie in a box so flat that no three of them make a triangle that is large enough.
+#![tactic(auto)]
+
 ghost use Rattle.std.specs.Prelude.{◌≡◌, true, ℕ, ◌*◌, ◌<◌, ◌≤◌, length};
 ghost use Rattle.points.specs.Points.{point_at_lem};
 ghost use Rattle.vector.specs.Inner.Numbers.{Finite};

@@ -1,4 +1,6 @@
 // The spatial index. What it keeps stands in the u32 work slice, in the region of the cells: specs/Inner/Index.antt.
+#![tactic(auto)]
+
 pub mod cells;
 pub mod order;
 pub mod search;
@@ -11,13 +13,13 @@ ghost use Rattle.grid.specs.Inner.Index.{CellsIndexed};
 use vector::Point3f;
 
 // Cells are cubes of side cell_size, counted from the cloud's least coordinates.
-#[derive(Drop)]
+#[derive(Clone, Copy)]
 pub struct SpatialGrid {
     pub cell_size: f32,
     pub bounds_min: Point3f,
 }
 
-#[derive(Drop)]
+#[derive(Clone, Copy)]
 pub struct Cell {
     pub x: u32,
     pub y: u32,

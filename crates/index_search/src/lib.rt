@@ -1,4 +1,6 @@
 // The nearest point of a cloud, by an index that is its own.
+#![tactic(auto)]
+
 ghost use Rattle.std.specs.Prelude.{◌≡◌, ◌/◌, ◌≤◌, ◌<◌, length};
 ghost use Rattle.vector.specs.Inner.Numbers.{Finite};
 ghost use Rattle.nearest.specs.Scan.{nearest};

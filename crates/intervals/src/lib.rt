@@ -1,5 +1,7 @@
 // What is worked out from coordinates in boxes lies between what is worked out at the boxes' ends, each operation
 // rounded alike: rounding keeps the order.
+#![tactic(auto)]
+
 mod axis;
 
 ghost use Rattle.std.specs.Prelude.{◌≡◌, T};

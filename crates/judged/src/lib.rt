@@ -1,5 +1,7 @@
 // Whether some triple of the search for a seed comes to the quality test at a radius, where no point is used: asked
 // after a search that found nothing, without its order and its filters.
+#![tactic(auto)]
+
 ghost use Rattle.std.specs.Prelude.{◌≡◌, ◌<◌};
 ghost use Rattle.lists.specs.Lists.{any};
 ghost use Rattle.decisions.specs.Decisions.{floats_of};

@@ -1,5 +1,7 @@
 // A box of the tree of a cloud: its coordinates, the axis where it is longest, and where it is written. The tree itself
 // is defined in specs/, and crate `tree_build` builds it.
+#![tactic(auto)]
+
 ghost use Rattle.std.specs.Prelude.{◌≡◌, ◌+◌, ◌≤◌, ◌<◌, length};
 ghost use Rattle.kd_tree.specs.Boxes.{plus_zero, box_corners, longest};
 ghost use Rattle.kd_tree.specs.Inner.Written.{ListWritten};

@@ -1,4 +1,6 @@
 // Radii that are known to have no seed: in a flat cloud, or since a larger one has none.
+#![tactic(auto)]
+
 ghost use Rattle.std.specs.Prelude.{◌≡◌, true, false, ◌<◌};
 ghost use Rattle.spatial_hash.specs.Inner.Near.{Hashed};
 ghost use Rattle.nearby.specs.Inner.Ready.{SceneHeld, used_in_scene, SceneKept};
@@ -111,7 +113,7 @@ pub fn is_worth_asking(radius: f32, largest: f32, note: f32) -> bool {
 }
 
 // Whether the largest radius is still to be asked, and whether it is known that no radius up to it has a seed.
-#[derive(Drop)]
+#[derive(Clone, Copy)]
 pub struct Asked {
     pub asks: bool,
     pub told: bool,

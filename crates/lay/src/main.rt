@@ -2,6 +2,8 @@
 //
 // What is printed is made by `patch_text::program_text`; here is only the reading and the writing. Whatever was read,
 // what is written is `printed` of it, whole: `write_text` asks for that, and nothing else writes.
+#![tactic(auto)]
+
 ghost use Rattle.std.specs.Prelude.{◌≡◌};
 ghost use Rattle.patch_text.specs.Text.{printed};
 

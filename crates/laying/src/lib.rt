@@ -1,4 +1,6 @@
 // Ball pivoting over the lent slices: a look at an entry, the looks of one radius, and the radii in turn.
+#![tactic(auto)]
+
 ghost use Rattle.std.specs.Prelude.{◌≡◌, true, ◌*◌, ◌≤◌, ◌<◌, take, [], ◌∷◌};
 ghost use Rattle.patch.specs.Lay.{edge, run, lay_one, patch, blank};
 ghost use Rattle.origins.specs.Inner.Following.{marks_from};
@@ -20,7 +22,7 @@ use seed::{Seed, Told};
 use spatial_hash::Hash;
 
 // What one radius is laid by: the scene, the hash of its unused points, the radius, and the rule of popping.
-#[derive(Drop)]
+#[derive(Clone, Copy)]
 pub struct Pass {
     pub scene: Scene,
     pub hash: Hash,
@@ -96,7 +98,7 @@ fn remove_three(points: &[f32], w: &mut [u32], n: usize, hash: Hash, i: usize, j
 }
 
 // The counts after a radius, and a radius up to which none has a seed any more.
-#[derive(Drop)]
+#[derive(Clone, Copy)]
 pub struct Laid {
     pub counts: Counts,
     pub upto: f32,
@@ -153,7 +155,7 @@ fn last_of(radii: [f32; 17], count: usize) -> f32
 }
 
 // The counts at the end, and how many faces there were after each radius.
-#[derive(Drop)]
+#[derive(Clone, Copy)]
 pub struct Course {
     pub counts: Counts,
     pub marks: [usize; 17],

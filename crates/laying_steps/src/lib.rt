@@ -1,4 +1,6 @@
 // The parts of a step of the laying: the counts of faces, seeds, entries, looks and pivots, and the lent slices.
+#![tactic(auto)]
+
 ghost use Rattle.std.proofs.Math.Option.{some};
 ghost use Rattle.std.specs.Prelude.{◌≤◌, ◌<◌};
 ghost use Rattle.regions.specs.Inner.Regions.{used_at, frontier_at, frontier_end};
@@ -13,7 +15,7 @@ ghost use Rattle.laying_steps.specs.Inner.Work.{FrontierReady, FaceRoom};
 const FLAG: u32 = 16777216;
 
 // How many faces, seeds, looks and pivots there were, how many entries wait, and where the first of them stands.
-#[derive(Drop)]
+#[derive(Clone, Copy)]
 pub struct Counts {
     pub faces: usize,
     pub seeds: u32,
@@ -24,7 +26,7 @@ pub struct Counts {
 }
 
 // Whether the edge of an entry is processed, and if it isn't, its points.
-#[derive(Drop)]
+#[derive(Clone, Copy)]
 pub struct Entry {
     pub processed: bool,
     pub a: u32,
@@ -32,7 +34,7 @@ pub struct Entry {
 }
 
 // An entry that was popped, and the counts then.
-#[derive(Drop)]
+#[derive(Clone, Copy)]
 pub struct Popped {
     pub entry: u32,
     pub counts: Counts,

@@ -1,4 +1,6 @@
 // Entries of the frontier, used points and faces as words of the lent slices.
+#![tactic(auto)]
+
 mod heap;
 
 ghost use Rattle.std.specs.Prelude.{◌≡◌, [], ◌∷◌, replicate, ◌+◌, ◌*◌, ◌≤◌, ◌<◌};

@@ -1,5 +1,7 @@
 // A list of points in an order in which those near each other stand near each other, and boxes of parts of it. The
 // order is a guess: nothing is told of it but that the list has the same points.
+#![tactic(auto)]
+
 ghost use Rattle.std.specs.Prelude.{◌≤◌, ◌<◌, length};
 ghost use Rattle.listed_boxes.specs.Inner.Boxes.{SameWords, RangeBoxed};
 

@@ -2,6 +2,8 @@
 //
 // The text is the definition `listing`, or `refusal`, of specs/Listing.antt. It is written whole or, where the buffer
 // is too short, not at all.
+#![tactic(auto)]
+
 mod put;
 mod rows;
 
@@ -13,7 +15,7 @@ use crate::put::{put_field, put_text};
 use crate::rows::{put_counts, put_faces};
 
 // How many points a cloud has and faces its patch, and what was counted in laying it.
-#[derive(Drop)]
+#[derive(Clone, Copy)]
 pub struct ListingCounts {
     pub points: u32,
     pub faces: u32,

@@ -1,1 +1,2 @@
 // Definitions and laws of lists only; see specs/ and proofs/.
+#![tactic(auto)]

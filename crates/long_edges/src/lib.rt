@@ -1,5 +1,7 @@
 // A test by squares that a triangle's edges are too long for a radius: the edge ratio times the root of the area,
 // before any root is taken.
+#![tactic(auto)]
+
 ghost use Rattle.std.specs.Prelude.{◌≡◌, true};
 ghost use Rattle.long_edges.specs.Inner.LongEdges.{edge_between, is_plain_triple, is_beyond, LongLimit, Long};
 

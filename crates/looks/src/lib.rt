@@ -1,5 +1,7 @@
 // Which way the faces of a patch look, and the patch turned to face one way. A face's parent stands in a slice of
 // origins, two numbers a face; a seed names itself.
+#![tactic(auto)]
+
 ghost use Rattle.std.specs.Prelude.{◌≡◌, cond, List, eqb, ℕ, ◌+◌, ◌*◌, ◌≤◌, ◌<◌, length, get_or, set};
 ghost use Rattle.std.proofs.lemmas.List.Edits.{sets};
 ghost use Rattle.patch.specs.View.{flat};

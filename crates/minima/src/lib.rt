@@ -1,4 +1,6 @@
 // A tree of minima in a part of a lent slice: the least value of all elements stands at its root.
+#![tactic(auto)]
+
 ghost use Rattle.std.specs.Prelude.{◌≡◌, ◌⊎◌, ℕ, ◌+◌, ◌*◌, ◌≤◌, ◌<◌, min, length, get_or};
 ghost use Rattle.minima.specs.Inner.Minima.{Nodes, leaf, Renewed, Planted};
 

@@ -1,5 +1,7 @@
 // The points that a search has to look at: of the neighbours of a place those that are unused and near a point, or near
 // two.
+#![tactic(auto)]
+
 ghost use Rattle.std.specs.Prelude.{◌≡◌, ◌<◌, ◌≤◌, length};
 ghost use Rattle.grid.specs.Inner.Index.{Cells};
 ghost use Rattle.vector.specs.Inner.Numbers.{Finite};
@@ -15,7 +17,7 @@ use spatial_hash::Hash;
 use vector::Point3f;
 
 // What is looked for: at most a squared distance from a center, in the cells within a range of a cell.
-#[derive(Drop)]
+#[derive(Clone, Copy)]
 pub struct Filter {
     pub center: Point3f,
     pub limit: f32,

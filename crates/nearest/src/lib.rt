@@ -1,4 +1,6 @@
 // The nearest of a list of points, by a scan of their squares: few points need a root.
+#![tactic(auto)]
+
 ghost use Rattle.std.specs.Prelude.{◌≡◌, T};
 ghost use Rattle.std.specs.Float.{binary32};
 ghost use Rattle.std.specs.Float.Ieee.{fits};
@@ -14,7 +16,7 @@ use vector::Point3f;
 
 // The nearest point so far, by its square. A square above the limit has a root above this one's, so that few points
 // need a root.
-#[derive(Drop)]
+#[derive(Clone, Copy)]
 pub struct Best {
     pub square: f32,
     pub number: u32,
@@ -22,7 +24,7 @@ pub struct Best {
 }
 
 // The two least squares so far, and the number of the least one's point.
-#[derive(Drop)]
+#[derive(Clone, Copy)]
 struct Least {
     first: f32,
     second: f32,

@@ -1,6 +1,8 @@
 // The points of a cloud that are nearest to many spots, and how far they are, by the cloud's index.
 //
 // The search is that of crate `nearest_points`. Each distance is worked out once more from the number that it found.
+#![tactic(auto)]
+
 ghost use Rattle.std.specs.Prelude.{◌≡◌, ℕ, ◌/◌, ◌≤◌, ◌<◌, length, get_or};
 ghost use Rattle.nearest_points.specs.Found.{number_at};
 ghost use Rattle.nearest_distances.specs.Measured.{shorter, distances_in, Measures};

@@ -1,4 +1,6 @@
 // The point of a cloud that is nearest to a spot, and those nearest to many spots, by the cloud's index.
+#![tactic(auto)]
+
 ghost use Rattle.std.specs.Prelude.{◌≡◌, [], ◌∷◌, ◌/◌, ◌≤◌, length};
 ghost use Rattle.ranges.specs.Range.{first_outside, farthest};
 ghost use Rattle.domain.specs.Inner.Accepted.{ValuesWithin};
@@ -8,7 +10,7 @@ ghost use Rattle.nearest_points.specs.Found.{answer_of, nearest_of, Answers, che
 
 // The answer's number, its detail, and the nearest point with its distance, both 0 at a refusal.
 #[repr(C)]
-#[derive(Drop)]
+#[derive(Clone, Copy)]
 pub struct Nearest {
     pub answer: u32,
     pub detail: u32,
@@ -18,7 +20,7 @@ pub struct Nearest {
 
 // The answer's number and its detail.
 #[repr(C)]
-#[derive(Drop)]
+#[derive(Clone, Copy)]
 pub struct Searched {
     pub answer: u32,
     pub detail: usize,

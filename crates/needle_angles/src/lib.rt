@@ -1,5 +1,7 @@
 // Needles: triangles with one edge much shorter than the other two. Their least angle is small, however the points are
 // ordered, and this bounds it by the lengths alone: no angle is measured.
+#![tactic(auto)]
+
 ghost use Rattle.std.specs.Prelude.{◌≡◌};
 ghost use Rattle.needle_angles.specs.Inner.NeedleAngles.{NeedleAngle, NeedleClass, angle_of};
 

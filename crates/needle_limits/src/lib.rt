@@ -1,9 +1,11 @@
 // Limits for needles, triangles with one edge much shorter than the other two: up to which aspect ratio the score of
 // each class of them stays below a threshold, so that they are refused by squares, with no angle measured.
+#![tactic(auto)]
+
 ghost use Rattle.needle_limits.specs.Inner.Needles.{NeedleLimit, ClassLimits, ClassLimit};
 
 // Limits for `is_thin`, of the classes with edges 10, 16, 32, 64 and 128 times as long.
-#[derive(Drop)]
+#[derive(Clone, Copy)]
 pub struct NeedleLimits {
     pub times_10: f32,
     pub times_16: f32,

@@ -2,6 +2,8 @@
 // spatial hash.
 // How near is a guess, which decides nothing: squares above the limit that is looked within go no further, and those
 // that are left count only if they are ten.
+#![tactic(auto)]
+
 ghost use Rattle.std.specs.Prelude.{◌≡◌, true, false, not, ◌&&◌, ℕ, ◌*◌, ◌≤◌, ◌<◌, eqb, length, take, drop};
 ghost use Rattle.lists.specs.Members.{Below};
 ghost use Rattle.grid.specs.Inner.Index.{CellsIndexed};
@@ -18,7 +20,7 @@ use grid::{Cell, SpatialGrid};
 use spatial_hash::Hash;
 
 // Which points are neighbours: all, or, if they are indexed, those whose cell lies within the range of a cell.
-#[derive(Drop)]
+#[derive(Clone, Copy)]
 pub struct Around {
     pub indexed: bool,
     pub range: u32,
@@ -29,7 +31,7 @@ pub struct Around {
 const FEW: usize = 200;
 
 // Guesses at how far from a sample its tenth neighbour is, and the last one.
-#[derive(Drop)]
+#[derive(Clone, Copy)]
 pub struct Guess {
     pub tenth: f32,
     pub last: f32,

@@ -1,5 +1,7 @@
 // f32 arithmetic that the language lacks: the root, and the order of two. (The cut is in `cutting`, the arc cosine in
 // `arc_cosine`; the definitions of all are here.)
+#![tactic(auto)]
+
 mod root;
 
 ghost use Rattle.std.specs.Prelude.{◌≡◌};

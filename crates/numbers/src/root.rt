@@ -7,7 +7,7 @@ ghost use Rattle.std.specs.Float.Ieee.Exact.{HasValue};
 ghost use Rattle.numbers.specs.Root.{nearest_root, root};
 
 // A number above zero: q * 2^(k + 23) units of 2^-298, q of 24 digits.
-#[derive(Drop)]
+#[derive(Clone, Copy)]
 struct Scaled {
     q: u32,
     k: u32,

@@ -1,4 +1,6 @@
 // One number of the file: an optional minus, 1 to 5 digits, and optionally a point and 1 to 6 digits.
+#![tactic(auto)]
+
 ghost use Rattle.std.specs.Prelude.{◌≡◌, cond, ◌+◌, ◌-◌, ◌^◌, ◌<◌, take, drop};
 ghost use Rattle.numerals.specs.Format.{starts_with, starts_digit, digits, few, digits_value, fraction};
 ghost use Rattle.numerals.specs.Format.{unsigned_number, number};
@@ -8,7 +10,7 @@ ghost use Rattle.numerals.specs.Inner.Ready.{Digits};
 use decimals::decimal_value;
 
 // What stands at a place of the bytes: a number, with the place after it, or none.
-#[derive(Drop)]
+#[derive(Clone, Copy)]
 pub enum NumberRead {
     Number { value: f32, next: usize },
     Malformed,

@@ -1,5 +1,7 @@
 // Faces that are offered because an edge of theirs was placed: each face at an edge gets its value in a tree of minima,
 // found by the links of the corners at one of the edge's points.
+#![tactic(auto)]
+
 ghost use Rattle.std.specs.Prelude.{true, ◌+◌, ◌*◌, ◌≤◌, ◌<◌, length};
 ghost use Rattle.corners.specs.Corners.{Bound};
 ghost use Rattle.regions.specs.Inner.Ordering.{tree_end};

@@ -1,4 +1,6 @@
 // Faces from another program: whether they could be a patch of ours in shape, and the greedy order.
+#![tactic(auto)]
+
 ghost use Rattle.std.specs.Prelude.{◌≡◌, List, ◌++◌, not, ◌⊎◌, ℕ, ◌+◌, ◌*◌, ◌≤◌, ◌<◌, length, get_or, take, drop};
 ghost use Rattle.lists.specs.Lists.{bit};
 ghost use Rattle.patch.specs.Lay.{Face};
@@ -7,7 +9,7 @@ ghost use Rattle.regions.specs.Inner.Ordering.{placed_at, placed_end};
 ghost use Rattle.ordering.specs.Inner.Ordering.{least_face, FacesInWords, FindsOrder, FacesOrdered};
 
 // Whether some order is valid, and how many faces of the greedy one share no edge with an earlier one.
-#[derive(Drop)]
+#[derive(Clone, Copy)]
 pub struct OrderCheck {
     pub ok: bool,
     pub seeds: u32,

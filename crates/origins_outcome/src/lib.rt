@@ -1,5 +1,7 @@
 // What comes back of the main call with the record of where each face came from: the patch, turned to face one way if
 // that is asked for, and the origins.
+#![tactic(auto)]
+
 ghost use Rattle.std.specs.Prelude.{◌≡◌, cond, ◌*◌, ◌≤◌, length, take};
 ghost use Rattle.std.proofs.lemmas.List.Edits.{sets};
 ghost use Rattle.patch.specs.View.{flat};

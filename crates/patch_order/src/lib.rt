@@ -1,6 +1,8 @@
 // Faces of another ball pivoter, as lines of a file: could they be a patch of ours in shape, and in what order.
 //
 // What the call answers and leaves is `OrdersPatch` of specs/Ordering.antt; the order is `greedy` of crate `orders`.
+#![tactic(auto)]
+
 ghost use Rattle.std.specs.Prelude.{◌≡◌, length};
 ghost use Rattle.domain.specs.Refusals.{first_refusal};
 ghost use Rattle.patch_order.specs.Ordering.{first_checks, refused_with, OrdersPatch};
@@ -9,7 +11,7 @@ ghost use Rattle.patch_order.specs.Inner.Ready.{too_many_lem, Checked, OrderJudg
 // The answer's number, 0 where an order was found; the detail, the first malformed line from 1 at refusal 10; how many
 // faces there are, and how many of them share no edge with an earlier one in the order.
 #[repr(C)]
-#[derive(Drop)]
+#[derive(Clone, Copy)]
 pub struct Ordered {
     pub answer: u32,
     pub detail: usize,

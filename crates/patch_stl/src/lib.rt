@@ -1,6 +1,8 @@
 // Makes what the program `stl` writes of a cloud file: the patch as binary STL, or a refusal's line, in a lent slice.
 //
 // It is the definition `file_output` of specs/Output.antt, for all bytes and all lengths of the slices.
+#![tactic(auto)]
+
 ghost use Rattle.std.specs.Prelude.{length, ◌≤◌};
 ghost use Rattle.patch_stl.specs.Output.{longest_line, output_refused, written_output, laid_output, file_output};
 ghost use Rattle.patch_stl.specs.Output.{Outputs};
@@ -8,7 +10,7 @@ ghost use Rattle.patch_stl.specs.Output.{Outputs};
 use settings::BallPivotingConfig;
 
 // Whether there is a refusal, and how many bytes in front of the output are its line, or the file.
-#[derive(Drop)]
+#[derive(Clone, Copy)]
 pub struct StlOutput {
     pub refused: bool,
     pub length: usize,

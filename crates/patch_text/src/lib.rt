@@ -3,6 +3,8 @@
 //
 // The text is the definition `file_text` of specs/Text.antt, for all bytes and all lengths of the slices; the program's
 // is `printed`.
+#![tactic(auto)]
+
 ghost use Rattle.std.specs.Prelude.{length, ◌/◌};
 ghost use Rattle.patch_text.specs.Text.{laid_text, file_text, Prints, PrintsFile};
 

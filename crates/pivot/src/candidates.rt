@@ -25,7 +25,7 @@ use scores::Side;
 use spatial_hash::Hash;
 
 // What points are held to over an edge a, b: the edge and its measures, the radius, and which are neighbours.
-#[derive(Drop)]
+#[derive(Clone, Copy)]
 pub struct Over {
     pub a: usize,
     pub b: usize,

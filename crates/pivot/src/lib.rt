@@ -1,4 +1,6 @@
 // The search for the point that the ball meets over an edge.
+#![tactic(auto)]
+
 mod candidates;
 
 ghost use Rattle.std.specs.Prelude.{◌≡◌, ◌<◌};
@@ -13,7 +15,7 @@ ghost use Rattle.pivot.specs.Inner.Found.{pivot_found};
 use decisions::Scene;
 use spatial_hash::Hash;
 
-#[derive(Drop)]
+#[derive(Clone, Copy)]
 pub enum Pivot {
     To(usize),
     Nowhere,

@@ -1,5 +1,7 @@
 // A face is placed: its points are reached, its value in the tree of minima goes, and every face at one of its new
 // edges is offered.
+#![tactic(auto)]
+
 ghost use Rattle.std.specs.Prelude.{◌≡◌, ◌+◌, ◌*◌, ◌≤◌, ◌<◌, length, set};
 ghost use Rattle.corners.specs.Corners.{Bound};
 ghost use Rattle.regions.specs.Inner.Ordering.{reached_words_at, tree_end};

@@ -1,4 +1,6 @@
 // The plain path: faces among near points, where there are no radii to pivot at.
+#![tactic(auto)]
+
 mod acceptance;
 mod near;
 
@@ -19,7 +21,7 @@ const MAX_TRIANGLES: usize = 10000;
 // `square` is that of one; the circumradius is at most the widest. The others are guesses: something beyond the widest,
 // and what a product of edges is multiplied by for a cross product whose circumradius is a little above or below the
 // widest.
-#[derive(Drop)]
+#[derive(Clone, Copy)]
 pub struct PlainLimits {
     pub reach: f32,
     pub square: f32,
@@ -31,7 +33,7 @@ pub struct PlainLimits {
 
 // The count of faces, and whether three points came to the cross product test; the latter is told only while fewer than
 // the limit are laid.
-#[derive(Drop)]
+#[derive(Clone, Copy)]
 pub struct Triangulated {
     pub faces: usize,
     pub judged: bool,

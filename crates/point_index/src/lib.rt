@@ -1,5 +1,7 @@
 // An index beside a cloud's points, by which the nearest point is found at once: the k-d tree of the cloud, as numbers
 // in a lent slice.
+#![tactic(auto)]
+
 ghost use Rattle.std.specs.Prelude.{◌≡◌, ◌++◌, ◌/◌, ◌≤◌, length, drop};
 ghost use Rattle.kd_tree.specs.Tree.{index_size, built, belongs};
 ghost use Rattle.point_index.specs.Index.{index_refusal, Fits, Builds, Tells};
@@ -8,7 +10,7 @@ use domain::Refusal;
 
 // The answer's number and its detail.
 #[repr(C)]
-#[derive(Drop)]
+#[derive(Clone, Copy)]
 pub struct Indexed {
     pub answer: u32,
     pub detail: u32,
@@ -16,7 +18,7 @@ pub struct Indexed {
 
 // The answer's number, its detail, and whether the index is the cloud's, which is no at a refusal.
 #[repr(C)]
-#[derive(Drop)]
+#[derive(Clone, Copy)]
 pub struct Belongs {
     pub answer: u32,
     pub detail: u32,

@@ -1,4 +1,6 @@
 // The numbers of all points as a k-d tree has them, and the boxes of its parts.
+#![tactic(auto)]
+
 ghost use Rattle.std.specs.Prelude.{◌≡◌, ◌≤◌, ◌<◌, length};
 ghost use Rattle.lists.specs.Lists.{up_from};
 ghost use Rattle.axis_sort.specs.Axis.{precedes};

@@ -1,4 +1,6 @@
 // A cloud's points in a slice of coordinates, three to a point.
+#![tactic(auto)]
+
 ghost use Rattle.std.specs.Prelude.{◌≡◌, ◌+◌, ◌*◌, ◌<◌, length};
 ghost use Rattle.points.specs.Points.{point_at_lem};
 

@@ -1,4 +1,6 @@
 // A triangle's quality, from the lengths of its edges and its area.
+#![tactic(auto)]
+
 pub mod measure;
 
 ghost use Rattle.std.specs.Prelude.{◌≡◌};
@@ -7,7 +9,7 @@ ghost use Rattle.quality.specs.Inner.Shape.{shape_of, quality_of};
 
 // Quality metrics for triangle evaluation.
 #[repr(C)]
-#[derive(Drop)]
+#[derive(Clone, Copy)]
 pub struct TriangleQuality {
     pub aspect_ratio: f32,
     pub min_angle: f32,
@@ -18,7 +20,7 @@ pub struct TriangleQuality {
 }
 
 // The measures of a triangle without its angles.
-#[derive(Drop)]
+#[derive(Clone, Copy)]
 pub struct Shape {
     pub area: f32,
     pub aspect_ratio: f32,

@@ -1,4 +1,6 @@
 // The ball radii, chosen from the cloud's density.
+#![tactic(auto)]
+
 mod choice;
 mod nearest;
 mod samples;
@@ -13,7 +15,7 @@ use settings::BallPivotingConfig;
 use spatial_hash::Hash;
 
 // The radii in rising order, in the first `count` slots; the others are 0.
-#[derive(Drop)]
+#[derive(Clone, Copy)]
 pub struct Radii {
     pub list: [f32; 17],
     pub count: u32,

@@ -1,4 +1,6 @@
 // The ranges of the domain: of one value, of a percentile, and of a cloud's coordinates and normals.
+#![tactic(auto)]
+
 ghost use Rattle.std.specs.Prelude.{◌≡◌};
 ghost use Rattle.ranges.specs.Range.{inside, first_outside, first_bad_point, percentile_inside};
 

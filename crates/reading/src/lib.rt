@@ -1,8 +1,10 @@
 // Reads standard input into a lent slice, as far as it goes. The programs `lay` and `stl` read their cloud files so.
+#![tactic(auto)]
+
 ghost use Rattle.std.specs.Prelude.{◌≤◌, length};
 
 // How many bytes of the input are there, whether that is all that will be read, and whether a read failed.
-#[derive(Drop)]
+#[derive(Clone, Copy)]
 pub struct Progress {
     pub length: usize,
     pub done: bool,

@@ -1,4 +1,6 @@
 // The main call: a cloud, its normals and the settings in; the patch's faces, counts and radii back.
+#![tactic(auto)]
+
 pub mod paths;
 
 ghost use Rattle.ball_pivoting.specs.Outcome.{Reconstructs};

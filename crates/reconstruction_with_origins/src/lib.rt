@@ -1,5 +1,7 @@
 // The main call with the record of where each face came from, and the patch turned to face one way where that is asked
 // for.
+#![tactic(auto)]
+
 ghost use Rattle.std.specs.Prelude.{◌≡◌, [], ◌/◌, ◌≤◌, length};
 ghost use Rattle.radii.specs.Inner.Steps.{RadiiListed};
 ghost use Rattle.plain.specs.Reached.{plain_reached};

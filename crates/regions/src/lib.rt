@@ -1,6 +1,7 @@
 // Where everything that a call keeps stands in the two lent work slices. The map is in specs/, the proof that the
 // regions fit and don't overlap in proofs/. Code takes the map's numbers for n points from here; a region that starts
 // at 0 or at n needs none.
+#![tactic(auto)]
 
 // Where a region of the u32 slice starts, in times n.
 pub const NEIGHBORS: usize = 4;

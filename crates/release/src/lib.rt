@@ -1,4 +1,6 @@
 // What the library says of itself, so that who was built for another one can tell.
+#![tactic(auto)]
+
 ghost use Rattle.std.specs.Prelude.{◌≡◌};
 ghost use Rattle.release.specs.Release.{version, layout};
 

@@ -1,4 +1,6 @@
 // Bounds of a triangle's score that its angles have no part in.
+#![tactic(auto)]
+
 ghost use Rattle.std.specs.Prelude.{◌≡◌};
 ghost use Rattle.score_bounds.specs.Inner.Bound.{score_bound, AspectLimit};
 

@@ -1,4 +1,6 @@
 // The score of a point over an edge. Most points are turned down by squares, before any root is taken.
+#![tactic(auto)]
+
 ghost use Rattle.std.specs.Prelude.{◌≡◌};
 ghost use Rattle.numbers.specs.Rounded.{◌⊗◌};
 ghost use Rattle.numbers.specs.Root.{root};
@@ -10,7 +12,7 @@ use decisions::{Scene, Score};
 use vector::Point3f;
 
 // An edge: its ends, its length, and the square of that.
-#[derive(Drop)]
+#[derive(Clone, Copy)]
 pub struct Side {
     pub p: Point3f,
     pub q: Point3f,

@@ -1,4 +1,6 @@
 // The search for a seed triangle.
+#![tactic(auto)]
+
 mod triples;
 
 ghost use Rattle.std.specs.Prelude.{◌≡◌, true};
@@ -15,14 +17,14 @@ use decisions::Scene;
 use seedless::Site;
 use spatial_hash::Hash;
 
-#[derive(Drop)]
+#[derive(Clone, Copy)]
 pub enum Seed {
     Triangle(usize, usize, usize),
     Nothing,
 }
 
 // What is found, and a radius up to which none has a seed; not a number, or a note below 0, where none is known.
-#[derive(Drop)]
+#[derive(Clone, Copy)]
 pub struct SeedSearch {
     pub seed: Seed,
     pub upto: f32,
@@ -30,7 +32,7 @@ pub struct SeedSearch {
 
 // What is known before a search: whether there is no seed at its radius, a radius up to which none has one or a note,
 // and the largest radius that will be searched.
-#[derive(Drop)]
+#[derive(Clone, Copy)]
 pub struct Told {
     pub known: bool,
     pub upto: f32,

@@ -177,7 +177,7 @@ fn try_seconds(
 
 // What a first point gives, whether it is told that no two unused points after it or before point lo make a seed with
 // it, and what is left of the budget.
-#[derive(Drop)]
+#[derive(Clone, Copy)]
 pub struct First {
     pub seed: Seed,
     pub seedless: bool,
@@ -273,7 +273,7 @@ fn known_from(lo: usize, i: usize, seedless: bool) -> usize
 }
 
 // What is found, what is left of the budget, and whether it is known that no radius up to the largest has a seed.
-#[derive(Drop)]
+#[derive(Clone, Copy)]
 pub struct Tried {
     pub seed: Seed,
     pub budget: usize,

@@ -2,6 +2,8 @@
 // take comes from a work budget, to which each first point adds what a search in the definition's order takes there; so
 // it never takes much more than that, whatever the cloud. A budget decides nothing but which of two searches with the
 // same answer is made.
+#![tactic(auto)]
+
 ghost use Rattle.std.specs.Prelude.{◌≡◌, true, ◌*◌, ◌≤◌, ◌<◌, length};
 ghost use Rattle.lists.specs.Lists.{unused};
 ghost use Rattle.regions.specs.Inner.Regions.{words_length};
@@ -17,7 +19,7 @@ use filters::Limits;
 use spatial_hash::Hash;
 
 // Where seeds are looked for: the scene, the hash of its unused points, a radius, and the limits at that radius.
-#[derive(Drop)]
+#[derive(Clone, Copy)]
 pub struct Site {
     pub scene: Scene,
     pub hash: Hash,
@@ -187,7 +189,7 @@ fn budget_after(budget: usize, work: usize, at_once: bool) -> usize {
 
 // What is told of a first point, what is left of the budget, and how many second points are to be searched before it is
 // checked at once.
-#[derive(Drop)]
+#[derive(Clone, Copy)]
 pub struct Checked {
     pub seedless: bool,
     pub budget: usize,
@@ -316,7 +318,7 @@ fn is_enough(before: usize, left: usize, more: usize) -> bool
 }
 
 // Where points begin that have not been searched yet, and the radius of that search, with its limit of squares.
-#[derive(Drop)]
+#[derive(Clone, Copy)]
 pub struct Search {
     pub from: usize,
     pub radius: f32,

@@ -1,6 +1,8 @@
 // Pairs of listed points that make no seed with a point, whichever of the three comes first. Where the boxes of two
 // ranges of the list are refused with the point, all pairs of their points are; else both are halved, and short
 // ones are gone through point by point. What that may take comes from a work budget.
+#![tactic(auto)]
+
 ghost use Rattle.std.specs.Prelude.{◌≡◌, true, ◌+◌, ◌≤◌, ◌<◌};
 ghost use Rattle.nearby.specs.Inner.Ready.{SceneHeld, NeighborsListed};
 ghost use Rattle.three_points.specs.Inner.Judged.{LimitsAtRadius};
@@ -20,7 +22,7 @@ pub const SHORT: usize = 64;
 const FEW: usize = 16;
 
 // A range of the listed points, and a box that has them.
-#[derive(Drop)]
+#[derive(Clone, Copy)]
 pub struct Range {
     pub from: usize,
     pub to: usize,

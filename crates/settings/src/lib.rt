@@ -1,11 +1,13 @@
 // The settings of a reconstruction: the defaults, and the first that is outside its range.
+#![tactic(auto)]
+
 ghost use Rattle.std.specs.Prelude.{◌≡◌};
 ghost use Rattle.settings.specs.Settings.{list_inside, first_failing, rule_known, last_tests, first_bad_setting};
 ghost use Rattle.settings.specs.Settings.{defaults};
 
 // What a reconstruction is told. Of each array only as many slots as its count says are read.
 #[repr(C)]
-#[derive(Drop)]
+#[derive(Clone, Copy)]
 pub struct BallPivotingConfig {
     pub radius: f32,
     pub additional_radii: [f32; 8],

@@ -1,5 +1,7 @@
 // Of the points that are listed those near a place. Each is written where it would stay before it is asked, so that no
 // branch has to be foretold.
+#![tactic(auto)]
+
 ghost use Rattle.std.specs.Prelude.{◌≡◌, ◌+◌, ◌*◌, ◌<◌, length};
 ghost use Rattle.sifting.specs.Inner.Sift.{is_within_lem, PointsListed, Sifted};
 

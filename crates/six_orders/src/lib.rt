@@ -1,5 +1,7 @@
 // A bound of a triangle's score that holds in all six orders of its points, for the price of one. An order decides how
 // sums and products are rounded, which two angles are measured and which one is left over.
+#![tactic(auto)]
+
 ghost use Rattle.std.specs.Prelude.{◌≡◌, true, not, T};
 ghost use Rattle.std.specs.Float.{binary32};
 ghost use Rattle.std.specs.Float.Ieee.{fits, is_nan};

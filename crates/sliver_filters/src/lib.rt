@@ -1,5 +1,7 @@
 // Tests by squares that triangles are slivers or needles, whose score is too low in each order: for all triangles whose
 // squares lie in intervals, before any root is taken or angle measured.
+#![tactic(auto)]
+
 ghost use Rattle.std.specs.Prelude.{◌≡◌, true};
 ghost use Rattle.sliver_filters.specs.Inner.SliversWithin.{Filtering, ThinWithin, SliversWithin};
 
@@ -7,7 +9,7 @@ use bounds::Interval;
 use needle_limits::NeedleLimits;
 
 // Limits for squares: for the angles and the aspect ratio of slivers, and for the aspect ratios of needles.
-#[derive(Drop)]
+#[derive(Clone, Copy)]
 pub struct SliverFilter {
     pub narrow: f32,
     pub thin: f32,

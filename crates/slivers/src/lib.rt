@@ -1,9 +1,11 @@
 // Bounds for slivers, threes of points that nearly lie on a line: two cosines and an aspect ratio with which no score
 // reaches a threshold, so that they are refused with no angle measured.
+#![tactic(auto)]
+
 ghost use Rattle.slivers.specs.Inner.Slivers.{AngleLimit, Slivers};
 
 // From which cosines on, and up to which aspect ratio, no score reaches a threshold.
-#[derive(Drop)]
+#[derive(Clone, Copy)]
 pub struct SliverLimits {
     pub cosine: f32,
     pub aspect: f32,

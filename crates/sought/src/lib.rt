@@ -1,1 +1,2 @@
 // What the two searches find, said without their loops. There is no code here.
+#![tactic(auto)]

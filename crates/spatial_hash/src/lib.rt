@@ -3,6 +3,8 @@
 // what is promised is that no point within the distance asked for is left out, but those that were removed.
 // The points of a row of buckets, those with the same remainders on the first two axes, lie one after another, so that
 // a walk goes from row to row and passes no empty bucket.
+#![tactic(auto)]
+
 mod cells;
 mod links;
 mod order;
@@ -16,7 +18,7 @@ use bounds::Bounds;
 use vector::Point3f;
 
 // How a coordinate becomes the number of a cell, and how many of these numbers have buckets of their own on an axis.
-#[derive(Drop)]
+#[derive(Clone, Copy)]
 pub struct Hash {
     pub least: Point3f,
     pub scale: f32,
@@ -24,7 +26,7 @@ pub struct Hash {
 }
 
 // Remainders that follow one another, the side's last by 0.
-#[derive(Drop)]
+#[derive(Clone, Copy)]
 pub struct Span {
     pub first: usize,
     pub count: usize,

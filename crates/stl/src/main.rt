@@ -4,6 +4,8 @@
 // What is written is made by `patch_stl::lay_stl`; here is only the reading and the writing. Whatever was read, a file
 // goes to standard output and a refusal's line to standard error, each of them `output` of it, whole: `write_file` and
 // `write_line` ask for that, and nothing else writes.
+#![tactic(auto)]
+
 ghost use Rattle.std.specs.Prelude.{◌≡◌, true, false};
 ghost use Rattle.patch_stl.specs.Output.{output};
 

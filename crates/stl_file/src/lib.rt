@@ -1,6 +1,8 @@
 // Patches as binary STL, written into a lent slice of bytes and read back into a lent slice of coordinates.
 //
 // The format is `stl` and `corners` of crate `facets`, and what the calls answer is in specs/Answers.antt.
+#![tactic(auto)]
+
 ghost use Rattle.std.specs.Prelude.{◌≡◌};
 ghost use Rattle.stl_file.specs.Answers.{Wrote, Got};
 
@@ -10,7 +12,7 @@ use facets::write::{names_points, put_file};
 // The answer's number, 0 where the file was written; the detail, the first bad point at refusal 4; and the file's
 // length.
 #[repr(C)]
-#[derive(Drop)]
+#[derive(Clone, Copy)]
 pub struct StlWritten {
     pub answer: u32,
     pub detail: usize,
@@ -19,7 +21,7 @@ pub struct StlWritten {
 
 // The answer's number, 0 where the file was read, and how many facets it has.
 #[repr(C)]
-#[derive(Drop)]
+#[derive(Clone, Copy)]
 pub struct StlRead {
     pub answer: u32,
     pub detail: usize,

@@ -1,4 +1,6 @@
 // What is known of a cloud before a face is laid: its points indexed and hashed, and the radii.
+#![tactic(auto)]
+
 ghost use Rattle.std.specs.Prelude.{◌≡◌};
 ghost use Rattle.laying.specs.Inner.Laying.{AllSearchable};
 ghost use Rattle.radii.specs.Inner.Steps.{RadiiListed};
@@ -11,14 +13,14 @@ use settings::BallPivotingConfig;
 use spatial_hash::Hash;
 
 // The cloud's points, indexed and hashed.
-#[derive(Drop)]
+#[derive(Clone, Copy)]
 pub struct HashedCloud {
     pub scene: Scene,
     pub hash: Hash,
 }
 
 // The cloud's points, indexed and hashed, and the radii.
-#[derive(Drop)]
+#[derive(Clone, Copy)]
 pub struct Surveyed {
     pub scene: Scene,
     pub hash: Hash,

@@ -1,4 +1,6 @@
 // Exact sums over a season: those of its patches, to which one more is added.
+#![tactic(auto)]
+
 pub mod checks;
 
 ghost use Rattle.std.specs.Prelude.{◌≡◌};
@@ -9,7 +11,7 @@ use checks::wide;
 
 // What is entered of a patch: the number that its caller gave, and its counts.
 #[repr(C)]
-#[derive(Drop)]
+#[derive(Clone, Copy)]
 pub struct SeasonPatch {
     pub number: u32,
     pub scanned: u32,
@@ -19,7 +21,7 @@ pub struct SeasonPatch {
 
 // The sums over all patches entered, and the best and the worst covered one.
 #[repr(C)]
-#[derive(Drop)]
+#[derive(Clone, Copy)]
 pub struct Tally {
     pub patches: u64,
     pub faces: u64,
@@ -31,7 +33,7 @@ pub struct Tally {
 }
 
 // An answer, 0 if the patch is accepted, and the tally from then on.
-#[derive(Drop)]
+#[derive(Clone, Copy)]
 pub struct Outcome {
     pub answer: u32,
     pub tally: Tally,

@@ -1,4 +1,6 @@
 // A test by squares that a triangle's aspect ratio is at most a bound, before any root is taken.
+#![tactic(auto)]
+
 ghost use Rattle.std.specs.Prelude.{◌≡◌, true};
 ghost use Rattle.thin.specs.Inner.Thin.{ThinLimit, ThinUpTo, square_between, is_plain_triangle, spread};
 

@@ -1,5 +1,7 @@
 // Whether three points make no seed, whichever of them comes first: lengths and areas are worked out once for all
 // orders.
+#![tactic(auto)]
+
 ghost use Rattle.std.specs.Prelude.{◌≡◌, true, ◌*◌, ◌<◌, length};
 ghost use Rattle.quality.specs.Inner.Shape.{quality_of};
 ghost use Rattle.decisions.specs.Decisions.{accepts};

@@ -1,4 +1,6 @@
 // Where each face of a patch came from: one pass over the laid faces writes its parent's number and its radius's place.
+#![tactic(auto)]
+
 ghost use Rattle.std.specs.Prelude.{◌≡◌, ◌*◌, ◌≤◌, ◌<◌, max, length, get_or, set, take};
 ghost use Rattle.std.proofs.lemmas.List.Edits.{sets};
 ghost use Rattle.origins.specs.Pass.{parent_at, brought_after, place_of, origins_from};

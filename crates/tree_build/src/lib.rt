@@ -1,5 +1,7 @@
 // The tree of a cloud from its points' three orders, one along each axis: each part is bounded, and split until it is a
 // leaf.
+#![tactic(auto)]
+
 ghost use Rattle.std.specs.Prelude.{length};
 ghost use Rattle.kd_tree.specs.Inner.Written.{Splits};
 ghost use Rattle.tree_build.specs.Inner.Ready.{SplitReady};

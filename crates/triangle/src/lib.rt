@@ -1,4 +1,6 @@
 // A triangle of three points in space: its circumradius, its quality, and whether that is acceptable.
+#![tactic(auto)]
+
 ghost use Rattle.std.specs.Prelude.{◌≡◌};
 ghost use Rattle.triangle.specs.Quality.{area, circumradius, quality, acceptable};
 

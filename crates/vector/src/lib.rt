@@ -1,10 +1,12 @@
 // Points and vectors of three f32, each operation rounded once.
+#![tactic(auto)]
+
 ghost use Rattle.std.specs.Prelude.{◌≡◌};
 ghost use Rattle.vector.specs.Vector.{point, difference, magnitude_squared, magnitude, cross, squared, distance};
 
 // A point, or the vector between two.
 #[repr(C)]
-#[derive(Drop)]
+#[derive(Clone, Copy)]
 pub struct Point3f {
     pub x: f32,
     pub y: f32,

@@ -2,6 +2,8 @@
 //
 // What is answered is the definition `judged` of specs/Judged.antt; that the verdict is good exactly where the
 // acceptance test accepts is the claim of specs/Claims.antt.
+#![tactic(auto)]
+
 pub mod numbered;
 mod refusing;
 
@@ -13,7 +15,7 @@ use quality::TriangleQuality;
 use settings::BallPivotingConfig;
 
 // Each kind with what was measured: the score, the area, or the edge ratio times the root of the area.
-#[derive(Drop)]
+#[derive(Clone, Copy)]
 pub enum MeasuredKind {
     Good(f32),
     NoArea(f32),
@@ -23,7 +25,7 @@ pub enum MeasuredKind {
 }
 
 // The whole answer: a refusal's number and detail, or a verdict.
-#[derive(Drop)]
+#[derive(Clone, Copy)]
 pub enum Judgement {
     Refused { answer: u32, detail: u32 },
     Told { verdict: MeasuredKind },

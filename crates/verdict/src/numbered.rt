@@ -8,7 +8,7 @@ use crate::Judgement;
 // The answer's number and detail, both 0 where there is a verdict; then its kind, 1 to 5, and what was measured, both 0
 // at a refusal.
 #[repr(C)]
-#[derive(Drop)]
+#[derive(Clone, Copy)]
 pub struct Verdict {
     pub answer: u32,
     pub detail: u32,
