@@ -1,0 +1,19 @@
+-- `is_too_long` meets its contract: the root of the least area is the least that an edge ratio of 1 or more makes of
+-- it.
+use mathlib.Core.Path.{sym, subst}
+use lib.Dec.{T}
+use lib.Ieee.{le}
+use borrow.Author.Rules.{rules}
+use borrow.Author.Tests.{not-false}
+use Rattle.quality.specs.Measures.{tiny}
+use Rattle.area_bounds.proofs.Refused.{too_long_is}
+use Rattle.area_bounds.proofs.is_too_long.Goals as goal
+
+pub returns-then-not-least : goal.returns-then-not-least
+returns-then-not-least c = λ h. absurd (subst T (sym h) tt)
+
+pub returns : goal.returns
+returns c =
+    let s = c.before.before in
+    λ h. too_long_is _ _ _ (subst T (sym s.well_formed.1.0.1) tt) (rw (not-false (le tiny s.args.least) c.if-not-least.false) tt)
+    (rw (← c.sqrt.ensures, h) tt)

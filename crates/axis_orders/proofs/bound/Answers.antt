@@ -1,0 +1,8 @@
+use Rattle.axis_orders.proofs.Ends.{bounding}
+use borrow.Author.Rules.{rules}
+use Rattle.axis_orders.proofs.bound.Goals as goal
+
+pub returns : goal.returns
+returns c =
+    bounding c.box_of-b.ensures c.put_box.ensures c.longest.ensures.0
+    c.longest.ensures.1

@@ -1,0 +1,5 @@
+use borrow.Author.Rules.{rules}
+use Rattle.axis_orders.proofs.corner.Goals as goal
+
+pub returns : goal.returns
+returns c = cc

@@ -1,0 +1,13 @@
+-- `edges_of` meets its contract. Assumes nothing.
+use borrow.Author.Rules.{rules}
+use Rattle.box_filters.proofs.edges_of.Goals as goal
+
+pub returns : goal.returns
+returns c =
+    let b = c.before.before in
+    let a = b.before.before in
+    record {
+      pq_held = rw (← a.differences.ensures) a.magnitudes-pq.ensures;
+      pt_held = rw (← b.differences-2.ensures) b.magnitudes-pt.ensures;
+      qt_held = rw (← c.differences-3.ensures) c.magnitudes-qt.ensures;
+    }

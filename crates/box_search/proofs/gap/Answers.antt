@@ -1,0 +1,10 @@
+use Rattle.box_search.proofs.Bounds.{gap_of}
+use borrow.Author.Rules.{rules}
+use Rattle.box_search.proofs.gap.Reads as reads
+use Rattle.box_search.proofs.gap.Lts as lts
+use Rattle.nearest.proofs.greater.Reads as greater-reads
+use Rattle.nearest.proofs.lesser.Reads as lesser-reads
+use Rattle.box_search.proofs.gap.Goals as goal
+
+pub returns : goal.returns
+returns c = gap_of c.args.v c.args.lo c.args.hi c.greater.ensures c.lesser.ensures

@@ -1,0 +1,33 @@
+-- `cell_bounds::axis::is_usable` meets its contract. Assumes nothing.
+use mathlib.Core.Path.{◌≡◌, sym, ◌∙◌}
+use mathlib.Core.Bool.{true, false}
+use Rattle.cell_bounds.specs.Inner.Axis.{ordinary, usable}
+use borrow.Author.Rules.{rules}
+use Rattle.cell_bounds.proofs.axis.is_usable.Goals as goal
+
+pub returns-then-is_ordinary-2 : goal.returns-then-is_ordinary-2
+unfolding usable
+returns-then-is_ordinary-2 c =
+    let s = c.before.before.before.before.before.before in
+    let size : ordinary s.args.size ≡ true = sym c.is_ordinary.ensures ∙ c.if-is_ordinary.true in
+    let least : ordinary s.args.least ≡ true = sym c.is_ordinary-then-is_ordinary.ensures ∙ c.if3.true in
+    rw (c.if-size.true, size, least) c.is-ordinary3.ensures
+
+pub returns-else-is_ordinary-2 : goal.returns-else-is_ordinary-2
+unfolding usable
+returns-else-is_ordinary-2 c =
+    let s = c.before.before.before.before.before in
+    let size : ordinary s.args.size ≡ true = sym c.is_ordinary.ensures ∙ c.if-is_ordinary.true in
+    let least : ordinary s.args.least ≡ false = sym c.is_ordinary-then-is_ordinary.ensures ∙ c.if3.false in
+    rw (c.if-size.true, size, least) c.if3.false
+
+pub returns-else-is_ordinary : goal.returns-else-is_ordinary
+unfolding usable
+returns-else-is_ordinary c =
+    let s = c.before.before.before in
+    let size : ordinary s.args.size ≡ false = sym c.is_ordinary.ensures ∙ c.if-is_ordinary.false in
+    rw (c.if-size.true, size) c.if-is_ordinary.false
+
+pub returns-else-size : goal.returns-else-size
+unfolding usable
+returns-else-size c = rw c.if-size.false

@@ -1,0 +1,14 @@
+-- `cell_bounds::axis::lower_end` meets its contract. Assumes nothing.
+use mathlib.Core.Path.{sym, ◌∙◌}
+use borrow.Author.Rules.{rules}
+use Rattle.cell_bounds.proofs.Ends.{lower_tested, lower_none}
+use Rattle.cell_bounds.proofs.axis.lower_end.Goals as goal
+
+pub returns-then-own-range : goal.returns-then-own-range
+returns-then-own-range c =
+    let s = c.before.before.before.before in
+    lower_tested s.args.size s.args.least s.args.v (sym c.is_usable.ensures ∙ c.if-is_usable.true)
+    s.args.range s.args.cell _ c.cell_on-own.ensures c.if-own-range.true
+
+pub returns : goal.returns
+returns c = let s = c.before.before in lower_none s.args.size s.args.least s.args.range s.args.cell

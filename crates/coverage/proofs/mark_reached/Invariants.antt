@@ -1,0 +1,20 @@
+-- `coverage::mark_reached` meets its contract. The loop's invariant: the marks are those of the numbers that were
+-- passed. Assumes nothing.
+use mathlib.Core.Path.{◌≡◌, refl, ap, ◌∙◌}
+use Prim.Native.Nat.{◌-◌, ◌≤◌}
+use native.Mathlib.Omega.{arith}
+use lib.Dec.{eqb}
+use lib.ListN.{length, take, get_or}
+use borrow.Author.Rules.{rules}
+use Rattle.coverage.specs.Coverage.{reached_marks as marks_of}
+use Rattle.coverage.proofs.Marks.{reached_start, reached_step, reached_end, set_length}
+use Rattle.lists.specs.Lists.{count}
+use Rattle.coverage.proofs.mark_reached.Given as goal
+
+abbrev pub invariant-loop-i : goal.invariant-loop-i
+invariant-loop-i l =
+    (l.i ≤ length l.faces) × (length l.reached ≡ length l.initial.reached) × (l.total ≤ l.i) × (l.reached ≡ marks_of (take l.i l.faces) (length l.initial.reached))
+    × (l.total ≡ count (eqb 1) l.reached)
+
+abbrev pub decreases-loop-i : goal.decreases-loop-i
+decreases-loop-i l = length l.faces - l.i

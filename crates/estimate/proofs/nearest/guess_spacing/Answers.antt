@@ -1,0 +1,8 @@
+use Prim.Native.Nat.{◌-◌, ◌≤◌}
+use native.Mathlib.Omega.{arith}
+use borrow.Author.Rules.{rules}
+use Rattle.sorting.proofs.Percentile.{small}
+use Rattle.estimate.proofs.nearest.guess_spacing.Goals as goal
+
+pub int_to_float-n : goal.int_to_float-n
+int_to_float-n c = small _ (omega arith)

@@ -1,0 +1,28 @@
+-- A look that finds a square not above its limit decides, and the last one always does. Assumes nothing.
+use mathlib.Core.Path.{◌≡◌, refl, sym, ◌∙◌, subst}
+use Prim.Native.Nat.{◌-◌, ◌≤◌}
+use lib.Dec.{T}
+use lib.ListN.{length}
+use lib.Ieee.{Float, le}
+use borrow.Author.Rules.{rules}
+use Rattle.spatial_hash.specs.Inner.Near.{HashedAll}
+use Rattle.estimate.proofs.nearest.least_distance.Goals as goal
+
+pub loop-tries-init : goal.loop-tries-init
+loop-tries-init c = let s = c.before.before.before in (s.requires.1, refl, search rules)
+
+pub returns-then-s-limit : goal.returns-then-s-limit
+returns-then-s-limit c =
+    let r = (look_within_of_sqrt c).look-within.ensures in
+    (c.sqrt.ensures ∙ r.decides (subst T (sym c.if-s-limit.true) tt), r.hashed)
+
+pub loop-tries-preserved : goal.loop-tries-preserved
+loop-tries-preserved c =
+    let l = (look_within_of_wider c).look-within in
+    (l.ensures.hashed, search rules, search rules)
+
+pub returns : goal.returns
+returns c =
+    let l = c.look_within-least in
+    let top = (infinity_of_sqrt2 c).infinity in
+    (c.sqrt-2.ensures ∙ l.ensures.decides (subst (λ (x : Float). T (le l.result x)) (sym top.ensures) l.ensures.number), l.ensures.hashed)

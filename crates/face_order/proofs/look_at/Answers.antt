@@ -1,0 +1,31 @@
+-- `look_at` meets its contract: what was seen of the first faces is carried on. Assumes nothing.
+use mathlib.Core.Path.{refl}
+use Prim.Native.Nat.{◌-◌}
+use native.Mathlib.Omega.{arith}
+use borrow.Author.Rules.{rules}
+use Rattle.face_order.proofs.Seen.{Looked, looked_start, looked_step, looked_end}
+use Rattle.face_order.proofs.look_at.Reads as reads
+use Rattle.face_order.proofs.look_at.Lts as lts
+use Rattle.face_lines.proofs.is_outside.Reads as is-outside-reads
+use Rattle.face_lines.proofs.is_twice.Reads as is-twice-reads
+use Rattle.face_order.proofs.look_at.Goals as goal
+
+pub loop-i-init : goal.loop-i-init
+loop-i-init c = looked_start c.args.n c.args.faces.now
+
+pub bounds-faces-i : goal.bounds-faces-i
+bounds-faces-i c = omega (arith, c.loop-i-test.true)
+
+pub bounds-faces-i-in-loop-i : goal.bounds-faces-i-in-loop-i
+bounds-faces-i-in-loop-i c = omega (arith, c.loop-i-test.true)
+
+pub bounds-faces-i-in-loop-i-2 : goal.bounds-faces-i-in-loop-i-2
+bounds-faces-i-in-loop-i-2 c = omega (arith, c.loop-i-test.true)
+
+pub loop-i-preserved : goal.loop-i-preserved
+loop-i-preserved c =
+    looked_step c.loop-i.invariant c.loop-i-test.true
+    c.is_outside-outside.ensures c.is_twice-twice.ensures
+
+pub returns : goal.returns
+returns c = looked_end c.loop-i.invariant c.loop-i-test.false refl

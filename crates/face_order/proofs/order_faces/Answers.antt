@@ -1,0 +1,55 @@
+-- `order_faces` meets its contract: the count, the pass over the faces and the first checks decide, and then the last
+-- ones. Assumes nothing.
+use Prim.Native.Nat.{ℕ}
+use mathlib.Core.Path.{◌≡◌, ap, ◌∙◌}
+use native.Mathlib.Omega.{arith}
+use lib.ListN.{length, replicate}
+use Rattle.face_order.proofs.Whole.{whole_threes, whole_first, whole_last, ready, first_is}
+use borrow.Author.Rules.{rules}
+use Rattle.face_order.proofs.order_faces.Reads as reads
+use Rattle.face_order.proofs.order_faces.Lts as lts
+use Rattle.clearing.proofs.clear_f32.Reads as clear-f32-reads
+use Rattle.clearing.proofs.clear_u32.Reads as clear-u32-reads
+use Rattle.face_order.proofs.look_at.Reads as look-at-reads
+use Rattle.face_order.proofs.order_checked.Reads as order-checked-reads
+use Rattle.patch_order.proofs.first_answer.Reads as first-answer-reads
+use Rattle.patch_order.proofs.refused.Reads as refused-reads
+use Rattle.face_order.proofs.order_faces.Goals as goal
+
+pub returns-then-faces-ne0 : goal.returns-then-faces-ne0
+returns-then-faces-ne0 c =
+    whole_threes c.args.faces.now c.args.point-count
+    c.args.order.now c.args.words.now
+    c.args.floats.now c.if-faces-ne0.true _ c.refused.ensures
+
+pub returns-then-first-ne0 : goal.returns-then-first-ne0
+returns-then-first-ne0 c =
+    whole_first c.args.faces.now
+    c.args.point-count
+    c.args.order.now
+    c.args.words.now
+    c.args.floats.now
+    c.if-faces-ne0.false _
+    (first_is c.args.faces.now
+    c.args.point-count _ _ _
+    c.look_at-seen.ensures c.first_answer-first.ensures) c.if-first-ne0.true _
+    c.refused-then-first-ne0.ensures
+
+pub order_checked-ordered-requires : goal.order_checked-ordered-requires
+order_checked-ordered-requires c =
+    ready c.args.faces.now
+    c.args.point-count
+    c.args.order.now
+    c.args.words.now
+    c.args.floats.now
+    c.if-faces-ne0.false _
+    (first_is c.args.faces.now
+    c.args.point-count _ _ _
+    c.look_at-seen.ensures c.first_answer-first.ensures)
+    c.if-first-ne0.false
+
+pub returns : goal.returns
+returns c = let o = c.order_checked-ordered in
+    let same : length o.new.words
+    ≡ length c.args.words.now = omega (arith, o.auto.words) in
+    whole_last c.args.faces.now c.args.point-count c.args.order.now c.args.words.now c.args.floats.now c.if-faces-ne0.false _ (first_is c.args.faces.now c.args.point-count _ _ _ c.look_at-seen.ensures c.first_answer-first.ensures) c.if-first-ne0.false _ _ _ _ o.ensures (c.clear_u32.ensures ∙ ap (λ (n : ℕ). replicate n 0) same) c.clear_f32.ensures

@@ -1,0 +1,23 @@
+-- `is_sliver_throughout` meets its contract. Assumes nothing.
+use mathlib.Core.Path.{sym, subst}
+use lib.Dec.{T}
+use borrow.Author.Tests.{not-false}
+use borrow.Author.Rules.{rules}
+use Rattle.filters.proofs.is_sliver_throughout.Goals as goal
+
+pub returns-then-l : goal.returns-then-l
+returns-then-l c = λ h. absurd (subst T (sym h) tt)
+
+pub returns-then-not-are_numbers : goal.returns-then-not-are_numbers
+returns-then-not-are_numbers c = λ h. absurd (subst T (sym h) tt)
+
+pub returns : goal.returns
+returns c =
+    let x = c.before in
+    let d = x.before.before.before in
+    let n = d.are_numbers in
+    let a = d.args in
+    λ h.
+    (c.is_sliver_of.ensures h).is a.p a.q a.t (n.ensures (not-false n.result d.if-not-are_numbers.false))
+    d.distance_squared-pq.ensures d.distance_squared-pt.ensures d.distance_squared-qt.ensures
+    x.cross_squared-x.ensures x.cross_squared-y.ensures x.cross_squared-z.ensures

@@ -1,0 +1,20 @@
+-- `refuses_all` meets its contract. Assumes nothing.
+use mathlib.Core.Path.{sym, subst}
+use lib.Dec.{T}
+use lib.Ieee.{lt}
+use borrow.Author.Rules.{rules}
+use borrow.Author.Tests.{not-false}
+use Rattle.numbers.specs.Rounded.{f32, ◌⊗◌, ◌⊘◌}
+use Rattle.numbers.proofs.Compare.{infinite}
+use Rattle.filters.proofs.refuses_all.Goals as goal
+
+pub returns-then-not-radius : goal.returns-then-not-radius
+returns-then-not-radius c = λ h. absurd (subst T (sym h) tt)
+
+pub returns : goal.returns
+returns c =
+    let a = c.args in
+    λ h. record {
+      bounded = rw (← infinite, not-false (lt (a.radius ⊗ f32 0x40000000) (f32 0x3f800000 ⊘ f32 0)) c.if-not-radius.false) tt;
+      long = c.is_too_long.ensures h;
+    }

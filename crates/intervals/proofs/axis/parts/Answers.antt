@@ -1,0 +1,8 @@
+-- `axis::parts` meets its contract. Assumes nothing.
+use Rattle.intervals.proofs.Ends.{parts_held}
+use borrow.Author.Rules.{rules}
+use Rattle.intervals.proofs.axis.parts.Goals as goal
+
+pub returns : goal.returns
+returns c =
+    let o = c.before.before.before.before in parts_held _ _ _ _ _ _ _ _ o.products-first.ensures o.products-second.ensures

@@ -1,0 +1,11 @@
+-- `axis::products` meets its contract. Assumes nothing.
+use Rattle.intervals.proofs.Ends.{products_held}
+use borrow.Author.Rules.{rules}
+use Rattle.intervals.proofs.axis.products.Goals as goal
+
+pub returns : goal.returns
+returns c =
+    let o = c.before.before.before in
+    let s = o.before.before.before in
+    products_held s.args.a s.args.b s.args.c s.args.d o.lesser.ensures o.lesser-2.ensures o.lesser-least.ensures
+    c.greater.ensures c.greater-2.ensures c.greater-most.ensures

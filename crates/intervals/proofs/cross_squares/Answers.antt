@@ -1,0 +1,8 @@
+-- `cross_squares` meets its contract. Assumes nothing.
+use Rattle.intervals.proofs.Boxes.{cross_squares_held}
+use borrow.Author.Rules.{rules}
+use Rattle.intervals.proofs.cross_squares.Goals as goal
+
+pub returns : goal.returns
+returns c =
+    let s = c.before.before in cross_squares_held s.args.v s.args.w c.crosses.ensures c.magnitudes.ensures

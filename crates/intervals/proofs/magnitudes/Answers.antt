@@ -1,0 +1,9 @@
+-- `magnitudes` meets its contract. Assumes nothing.
+use Rattle.intervals.proofs.Boxes.{magnitudes_held}
+use borrow.Author.Rules.{rules}
+use Rattle.intervals.proofs.magnitudes.Goals as goal
+
+pub returns : goal.returns
+returns c =
+    let o = c.before.before.before.before.before.before in
+    magnitudes_held o.args.v o.squares-x.ensures o.squares-y.ensures o.squares-z.ensures

@@ -1,0 +1,47 @@
+-- `is_any_judged` meets its contract. The loop's invariant: no triple is judged in which a point below i comes first.
+-- Assumes nothing.
+use Prim.Native.Nat.{◌-◌}
+use mathlib.Core.Path.{◌∙◌}
+use native.Mathlib.Omega.{arith}
+use Rattle.judged.proofs.Triples.{Asked, ask_start, ask_next, ask_none, ask_some}
+use Rattle.judged.proofs.is_any_judged.Goals as goal
+
+pub loop-i-init : goal.loop-i-init
+loop-i-init c = ask_start c.requires
+
+pub shape_of-w-then-i-ge-TRIED : goal.shape_of-w-then-i-ge-TRIED
+shape_of-w-then-i-ge-TRIED c = c.loop-i.invariant.words
+
+pub returns-then-i-ge-TRIED : goal.returns-then-i-ge-TRIED
+returns-then-i-ge-TRIED c = ask_none c.loop-i.invariant (λ t. omega (arith, t.tried, c.if-i-ge-TRIED.true))
+
+pub is_first-requires : goal.is_first-requires
+is_first-requires c =
+    (c.loop-i.invariant.fresh, c.loop-i-test.true, omega (arith, c.if-i-ge-TRIED.false))
+
+pub shape_of-w-then-is_first : goal.shape_of-w-then-is_first
+shape_of-w-then-is_first c =
+    c.is_first.auto.w ∙ (at_loop_of_then2 c).loop.invariant.words
+
+pub returns-then-is_first : goal.returns-then-is_first
+returns-then-is_first c = ask_some c.is_first.ensures.0 c.if-is_first.true
+
+pub overflow_add-i : goal.overflow_add-i
+overflow_add-i c =
+    let loop-test = (in_loop_of_else2 c).loop-test in
+    let loop = (at_loop_of_else2 c).loop in
+    omega (arith, loop-test.taken, loop.inv.fresh.held.few)
+
+pub loop-i-smaller : goal.loop-i-smaller
+loop-i-smaller c = omega (arith, (in_loop_of_else2 c).loop-test.true)
+
+pub loop-i-preserved : goal.loop-i-preserved
+loop-i-preserved c =
+    ask_next (at_loop_of_else2 c).loop.invariant c.is_first.new.w c.is_first.ensures.0
+    c.if-is_first.false c.is_first.ensures.1 c.is_first.auto.w
+
+pub shape_of-w : goal.shape_of-w
+shape_of-w c = c.loop-i.invariant.words
+
+pub returns : goal.returns
+returns c = ask_none c.loop-i.invariant (λ t. omega (arith, t.point, c.loop-i-test.false))

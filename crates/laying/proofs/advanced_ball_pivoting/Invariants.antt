@@ -1,0 +1,19 @@
+-- `laying::advanced_ball_pivoting` meets its contract. The loop's invariant: the first i radii have been laid, no
+-- radius up to `upto` has a seed, and the first i marks are set. Assumes nothing.
+use Prim.Native.Nat.{◌-◌}
+use mathlib.Core.Path.{◌∙◌}
+use native.Mathlib.Omega.{arith}
+use Rattle.nearby.specs.Inner.Ready.{used_in_scene}
+use Rattle.known_radii.specs.Inner.Known.{NothingTo}
+use Rattle.known_radii.proofs.Larger.{nothing_yet, known_nothing}
+use Rattle.laying.proofs.Radii.{Covering, cover_start, between_radii, cover_step, cover_end}
+use Rattle.laying.proofs.Marks.{Marking, marks_start, marks_step, marks_end}
+use borrow.Author.Rules.{rules}
+use Rattle.laying.proofs.advanced_ball_pivoting.Given as goal
+
+abbrev pub invariant-loop-i : goal.invariant-loop-i
+invariant-loop-i l =
+    Covering l.rule l.s l.hash l.points l.radii l.count l.initial.faces l.initial.w l.i l.c l.w l.faces × NothingTo l.s l.points (used_in_scene l.s l.w) l.upto × Marking l.rule l.s l.points l.radii l.i l.marks
+
+abbrev pub decreases-loop-i : goal.decreases-loop-i
+decreases-loop-i l = l.count - l.i

@@ -1,0 +1,9 @@
+use Rattle.laying_steps.proofs.Work.{begin_holds}
+use borrow.Author.Rules.{rules}
+use Rattle.laying_steps.proofs.begin.Reads as reads
+use Rattle.laying_steps.proofs.begin.Lts as lts
+use Rattle.laying_words.proofs.clear_used.Reads as clear-used-reads
+use Rattle.laying_steps.proofs.begin.Goals as goal
+
+pub returns : goal.returns
+returns c = let p = c.clear_used in (begin_holds _ p.new.w p.ensures.0, p.ensures.1)

@@ -1,0 +1,18 @@
+-- `laying_steps::lay_seed` meets its contract. Assumes nothing.
+use Rattle.laying_steps.proofs.Work.{seed_takes, face_only}
+use borrow.Author.Rules.{rules}
+use Rattle.laying_steps.proofs.lay_seed.Goals as goal
+
+pub returns : goal.returns
+returns c =
+    let p = c.before.before.before in
+    let m = p.before.before.before.before.before in
+    let f = m.before.before.before.before in
+    let s = f.before.before.before.before in
+    let pushed = p.add_triangle_edges_to_frontier in
+    let marked = m.mark_seed in
+    let wrote = f.put_face in (
+      seed_takes s.args.n s.args.c s.args.w.now marked.new.w pushed.new.w s.args.faces.now wrote.new.faces s.args.i
+          s.args.j s.args.k wrote.ensures marked.ensures pushed.ensures,
+      face_only s.args.n _ _ _ s.args.w.now marked.new.w pushed.new.w marked.ensures pushed.ensures,
+    )

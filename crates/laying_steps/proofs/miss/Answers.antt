@@ -1,0 +1,7 @@
+-- `laying_steps::miss` meets its contract. Assumes nothing.
+use Rattle.laying_steps.proofs.Work.{miss_takes}
+use borrow.Author.Rules.{rules}
+use Rattle.laying_steps.proofs.miss.Goals as goal
+
+pub returns : goal.returns
+returns c = let s = c.before in miss_takes s.args.c

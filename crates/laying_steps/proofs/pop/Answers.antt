@@ -1,0 +1,21 @@
+-- `laying_steps::pop` meets its contract. Assumes nothing.
+use Prim.Native.Nat.{◌*◌}
+use Rattle.laying_words.proofs.Slices.{only_none}
+use Rattle.laying_steps.proofs.Work.{by_queue, by_heap}
+use borrow.Author.Rules.{rules}
+use Rattle.laying_steps.proofs.pop.Reads as reads
+use Rattle.laying_steps.proofs.pop.Lts as lts
+use Rattle.laying_steps.proofs.pop_heap.Reads as pop-heap-reads
+use Rattle.laying_steps.proofs.pop_queue.Reads as pop-queue-reads
+use Rattle.laying_steps.proofs.pop.Goals as goal
+
+pub returns-then-rule-eq2 : goal.returns-then-rule-eq2
+returns-then-rule-eq2 c =
+    let s = c.before.before.before.before in
+    (by_queue s.args.rule c.if-rule-eq2.true c.pop_queue.ensures, only_none (5 * s.args.n) (9 * s.args.n) s.args.w.now)
+
+pub returns : goal.returns
+returns c =
+    let s = c.before.before.before.before.before.before in
+    let p = c.pop_heap in
+    (by_heap s.args.rule c.if-rule-eq2.false p.ensures.0, p.ensures.1)

@@ -1,0 +1,19 @@
+-- `laying_steps::pop_heap` meets its contract. Assumes nothing.
+use Prim.Native.Nat.{◌*◌}
+use native.Mathlib.Omega.{arith}
+use Rattle.laying_words.proofs.Slices.{only_wider}
+use Rattle.laying_steps.proofs.Work.{pop_takes}
+use borrow.Author.Rules.{rules}
+use Rattle.laying_steps.proofs.pop_heap.Reads as reads
+use Rattle.laying_steps.proofs.pop_heap.Lts as lts
+use Rattle.laying_words.proofs.pop_frontier.Reads as pop-frontier-reads
+use Rattle.laying_steps.proofs.pop_heap.Goals as goal
+
+pub returns : goal.returns
+returns c =
+    let s = c.before.before.before.before.before.before in
+    let p = c.pop_frontier-entry in (
+      pop_takes s.args.n s.args.c s.args.w.now p.new.w p.result p.ensures,
+      only_wider (5 * s.args.n) (9 * s.args.n) (omega arith)
+          (omega arith) p.ensures.only,
+    )

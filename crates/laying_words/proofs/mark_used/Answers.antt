@@ -1,0 +1,8 @@
+use Rattle.laying_words.proofs.Parts.{marked_one}
+use borrow.Author.Rules.{rules}
+use Rattle.laying_words.proofs.mark_used.Reads as reads
+use Rattle.laying_words.proofs.mark_used.Lts as lts
+use Rattle.laying_words.proofs.mark_used.Goals as goal
+
+pub returns : goal.returns
+returns c = marked_one c.args.n c.args.k c.args.w.now c.requires.1

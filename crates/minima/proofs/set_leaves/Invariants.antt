@@ -1,0 +1,15 @@
+-- `minima::set_leaves` meets its contract. The loop's invariant: the leaves below g are set, and nothing else changed.
+-- Assumes nothing.
+use Prim.Native.Nat.{◌+◌, ◌-◌, ◌*◌, ◌≤◌, ◌<◌}
+use mathlib.Core.Path.{◌≡◌, refl}
+use lib.ListN.{length, length-set}
+use Rattle.minima.proofs.Trees.{Leaves, LeavesOnly, leaves_stored, leaves_only}
+use native.Mathlib.Omega.{arith}
+use borrow.Author.Rules.{rules}
+use Rattle.minima.proofs.set_leaves.Given as goal
+
+abbrev pub invariant-loop-g : goal.invariant-loop-g
+invariant-loop-g l = (l.g ≤ l.count) × (length l.words ≡ length l.initial.words) × Leaves l.base l.count l.g l.words × LeavesOnly l.base l.count l.initial.words l.words
+
+abbrev pub decreases-loop-g : goal.decreases-loop-g
+decreases-loop-g l = l.count - l.g

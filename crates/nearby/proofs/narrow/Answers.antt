@@ -1,0 +1,56 @@
+-- `narrow` meets its contract. The loop's invariant: what is left of the list leads to the whole. Assumes nothing.
+use Prim.Native.Nat.{◌-◌}
+use native.Mathlib.Omega.{arith}
+use borrow.Author.Rules.{rules}
+use Rattle.nearby.proofs.Keeping.{held_kept, cells_kept}
+use Rattle.nearby.proofs.Narrowing.{Narrowing, narrow_start, narrow_below, narrow_skip, narrow_take, narrow_end}
+use Rattle.nearby.proofs.narrow.Goals as goal
+
+pub loop-m-init : goal.loop-m-init
+loop-m-init c = narrow_start
+
+pub overflow_cast-k : goal.overflow_cast-k
+overflow_cast-k c =
+    let a = c.before.before.before.before.before.before in
+    let h = narrow_below a.requires.0 a.requires.2 c.loop-m.invariant c.loop-m-test.true in
+    record { fits = omega (arith, h, a.requires.0.few) }
+
+pub passes-requires : goal.passes-requires
+passes-requires c =
+    let l = c.loop-m in
+    let a = c.before.before.before.before.before.before.before in (
+      held_kept l.w a.requires.0 l.invariant.same,
+      cells_kept a.args.s.grid a.args.points.now a.args.s.n a.args.w.now l.w a.requires.1 l.invariant.kept.before,
+      narrow_below a.requires.0 a.requires.2 l.invariant c.loop-m-test.true,
+    )
+
+pub insert_point-requires : goal.insert_point-requires
+insert_point-requires c =
+    let l = c.loop-m in
+    let a = c.before.before.before.before.before.before.before.before.before.before in (
+      narrow_below a.requires.0 a.requires.2 l.invariant c.loop-m-test.true,
+      a.requires.0.few,
+      omega (arith, a.requires.0.work_long, l.invariant.same),
+      omega (arith, a.requires.0.work_long, l.invariant.same, l.invariant.most, a.requires.2.most, c.loop-m-test.true),
+      l.invariant.below,
+    )
+
+pub loop-m-preserved-then-passes : goal.loop-m-preserved-then-passes
+loop-m-preserved-then-passes c =
+    let i = c.insert_point in
+    let a = c.before.before.before.before.before.before.before.before.before.before.before.before.before in
+    narrow_take a.requires.0 a.requires.2 c.loop-m.invariant i.new.w
+    c.loop-m-test.true a.requires.1
+    c.passes.ensures c.if-passes.true i.auto.w i.ensures
+
+pub loop-m-preserved : goal.loop-m-preserved
+loop-m-preserved c =
+    let a = c.before.before.before.before.before.before.before.before.before in
+    narrow_skip a.requires.0 a.requires.2 c.loop-m.invariant c.loop-m-test.true
+    c.passes.ensures c.if-passes.false
+
+pub shape_of-w : goal.shape_of-w
+shape_of-w c = c.loop-m.invariant.same
+
+pub returns : goal.returns
+returns c = let a = c.before.before.before.before.before in narrow_end a.requires.0 a.requires.2 c.loop-m.invariant c.loop-m-test.false

@@ -1,0 +1,10 @@
+use Rattle.nearest.specs.Least.{greater}
+use Rattle.nearest.proofs.greater.Goals as goal
+
+pub returns-then-a-b : goal.returns-then-a-b
+unfolding greater
+returns-then-a-b c = rw c.if-a-b.true
+
+pub returns : goal.returns
+unfolding greater
+returns c = rw c.if-a-b.false

@@ -1,0 +1,10 @@
+use Rattle.nearest.specs.Least.{lesser}
+use Rattle.nearest.proofs.lesser.Goals as goal
+
+pub returns-then-a-b : goal.returns-then-a-b
+unfolding lesser
+returns-then-a-b c = rw c.if-a-b.true
+
+pub returns : goal.returns
+unfolding lesser
+returns c = rw c.if-a-b.false

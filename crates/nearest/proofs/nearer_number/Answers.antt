@@ -1,0 +1,10 @@
+use Rattle.nearest.specs.Least.{nearer_number}
+use Rattle.nearest.proofs.nearer_number.Goals as goal
+
+pub returns-then-square-least : goal.returns-then-square-least
+unfolding nearer_number
+returns-then-square-least c = rw c.if-square-least.true
+
+pub returns : goal.returns
+unfolding nearer_number
+returns c = rw c.if-square-least.false

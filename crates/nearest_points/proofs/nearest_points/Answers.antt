@@ -1,0 +1,123 @@
+-- `nearest_points` meets its contract: a refusal of the checks, too little room, an index that is another cloud's, or
+-- the search for each spot. The work slices are cleared before the three last. Assumes nothing.
+use mathlib.Core.Path.{ap, ◌∙◌}
+use Prim.Native.Nat.{ℕ}
+use native.Mathlib.Omega.{arith}
+use lib.ListN.{length, replicate}
+use Rattle.numbers.specs.Rounded.{f32}
+use Rattle.ranges.proofs.Tests.{passed, failed}
+use Rattle.nearest_points.proofs.Refused.{accepted}
+use Rattle.nearest_points.proofs.Outcome.{early_is, zero_answer, late_short, late_foreign, late_none, many_refused, many_left, many_found}
+use borrow.Author.Rules.{rules}
+use Rattle.nearest_points.proofs.nearest_points.Reads as reads
+use Rattle.nearest_points.proofs.nearest_points.Lts as lts
+use Rattle.clearing.proofs.clear_f32.Reads as clear-f32-reads
+use Rattle.clearing.proofs.clear_u32.Reads as clear-u32-reads
+use Rattle.index_search.proofs.width_of.Reads as width-of-reads
+use Rattle.nearest_points.proofs.answer_of.Reads as answer-of-reads
+use Rattle.nearest_points.proofs.fill.Reads as fill-reads
+use Rattle.nearest_points.proofs.refusal_of_search.Reads as refusal-of-search-reads
+use Rattle.point_index.proofs.matches.Reads as matches-reads
+use Rattle.ranges.proofs.first_outside.Reads as first-outside-reads
+use Rattle.nearest_points.proofs.nearest_points.Goals as goal
+
+pub returns-then-refusal-ne0 : goal.returns-then-refusal-ne0
+returns-then-refusal-ne0 c = let a = c.args in
+    let e = early_is a.points.now a.spots.now a.index.now a.words.now a.floats.now c.first_outside-bad.ensures
+    c.refusal_of_search-refusal.ensures in
+    many_refused a.points.now a.spots.now a.index.now a.words.now a.floats.now e a.found.now c.if-refusal-ne0.taken
+
+pub matches-own-requires : goal.matches-own-requires
+matches-own-requires c =
+    let refusal-of-search = c.refusal_of_search-refusal in
+    let first-outside = c.first_outside-bad in
+    let start = c in
+    let a = start.args in
+    let e = early_is a.points.now a.spots.now a.index.now a.words.now a.floats.now first-outside.ensures refusal-of-search.ensures in
+    let k = accepted a.points.now a.spots.now (length a.index.now) (length a.words.now) (length a.floats.now)
+    (zero_answer a.points.now a.spots.now a.index.now a.words.now a.floats.now e c.if-refusal-ne0.left) in
+    (record { cloud = k.cloud; index_enough = k.index_enough; floats_enough = k.room.floats_enough }, omega (arith, k.room.words_enough))
+
+pub returns-then-found-spots : goal.returns-then-found-spots
+returns-then-found-spots c =
+    let clear-f32 = c.clear_f32 in
+    let clear-u32 = c.clear_u32 in
+    let matches = c.matches-own in
+    let if1 = c.if-refusal-ne0 in
+    let refusal-of-search = c.refusal_of_search-refusal in
+    let first-outside = c.first_outside-bad in
+    let start = c in
+    let a = start.args in
+    let e = early_is a.points.now a.spots.now a.index.now a.words.now a.floats.now first-outside.ensures refusal-of-search.ensures in
+    many_left a.points.now a.spots.now a.index.now a.words.now a.floats.now e a.found.now if1.left
+    (clear-u32.ensures ∙ ap (λ (n : ℕ). replicate n 0) matches.kept.1.1.0)
+    (clear-f32.ensures ∙ ap (λ (n : ℕ). replicate n (f32 0)) matches.kept.1.1.1.0) 13 (λ z. omega (arith, z)) c.answer_of.ensures
+    (late_short a.points.now a.spots.now a.index.now a.words.now a.floats.now e (length a.found.now) if1.left
+    c.if-found-spots.taken)
+
+pub returns-then-not-own : goal.returns-then-not-own
+returns-then-not-own c =
+    let clear-f32 = c.clear_f32 in
+    let clear-u32 = c.clear_u32 in
+    let matches = c.matches-own in
+    let if1 = c.if-refusal-ne0 in
+    let refusal-of-search = c.refusal_of_search-refusal in
+    let first-outside = c.first_outside-bad in
+    let start = c in
+    let a = start.args in
+    let e = early_is a.points.now a.spots.now a.index.now a.words.now a.floats.now first-outside.ensures refusal-of-search.ensures in
+    many_left a.points.now a.spots.now a.index.now a.words.now a.floats.now e a.found.now if1.left
+    (clear-u32.ensures ∙ ap (λ (n : ℕ). replicate n 0) matches.kept.1.1.0)
+    (clear-f32.ensures ∙ ap (λ (n : ℕ). replicate n (f32 0)) matches.kept.1.1.1.0) 22 (λ z. omega (arith, z)) c.answer_of-then-not-own.ensures
+    (late_foreign a.points.now a.spots.now a.index.now a.words.now a.floats.now e (length a.found.now) if1.left
+    c.if-found-spots.left (failed matches.ensures c.if-not-own.taken))
+
+pub width_of-width-requires : goal.width_of-width-requires
+width_of-width-requires c =
+    let if1 = c.if-refusal-ne0 in
+    let refusal-of-search = c.refusal_of_search-refusal in
+    let first-outside = c.first_outside-bad in
+    let start = c in
+    let a = start.args in
+    let e = early_is a.points.now a.spots.now a.index.now a.words.now a.floats.now first-outside.ensures refusal-of-search.ensures in
+    let k = accepted a.points.now a.spots.now (length a.index.now) (length a.words.now) (length a.floats.now)
+    (zero_answer a.points.now a.spots.now a.index.now a.words.now a.floats.now e if1.left) in
+    (k.cloud.some, k.cloud.few)
+
+pub fill-requires : goal.fill-requires
+fill-requires c =
+    let matches = c.matches-own in
+    let if1 = c.if-refusal-ne0 in
+    let refusal-of-search = c.refusal_of_search-refusal in
+    let first-outside = c.first_outside-bad in
+    let start = c in
+    let a = start.args in
+    let e = early_is a.points.now a.spots.now a.index.now a.words.now a.floats.now first-outside.ensures refusal-of-search.ensures in
+    let k = accepted a.points.now a.spots.now (length a.index.now) (length a.words.now) (length a.floats.now)
+    (zero_answer a.points.now a.spots.now a.index.now a.words.now a.floats.now e if1.left) in (
+      (
+        record { cloud = k.cloud; own = passed matches.ensures c.if-not-own.left },
+        c.width_of_lem.ensures.0,
+        c.width_of_lem.ensures.1,
+      ),
+      (k.near, c.if-found-spots.left),
+    )
+
+pub returns : goal.returns
+returns c =
+    let if3 = c.if-not-own in
+    let if2 = c.if-found-spots in
+    let clear-f32 = c.clear_f32 in
+    let clear-u32 = c.clear_u32 in
+    let matches = c.matches-own in
+    let if1 = c.if-refusal-ne0 in
+    let refusal-of-search = c.refusal_of_search-refusal in
+    let first-outside = c.first_outside-bad in
+    let start = c in
+    let a = start.args in
+    let e = early_is a.points.now a.spots.now a.index.now a.words.now a.floats.now first-outside.ensures refusal-of-search.ensures in
+    many_found a.points.now a.spots.now a.index.now a.words.now a.floats.now e a.found.now if1.left
+    (clear-u32.ensures ∙ ap (λ (n : ℕ). replicate n 0) matches.kept.1.1.0)
+    (clear-f32.ensures ∙ ap (λ (n : ℕ). replicate n (f32 0)) matches.kept.1.1.1.0) c.answer-of3.ensures
+    (late_none a.points.now a.spots.now a.index.now a.words.now a.floats.now e (length a.found.now) if1.left if2.left
+    (passed matches.ensures if3.left)) c.fill.ensures

@@ -1,0 +1,6 @@
+-- `needle_angle` meets its contract.
+use borrow.Author.Rules.{rules}
+use Rattle.needle_angles.proofs.needle_angle.Goals as goal
+
+pub returns : goal.returns
+returns c = rw c.class_angle.ensures c.needle_class-class.ensures.angle

@@ -1,0 +1,68 @@
+-- `needle_class` meets its contract.
+use mathlib.Core.Path.{◌≡◌}
+use mathlib.Core.Bool.{false, not}
+use lib.Ieee.{Float, le}
+use borrow.Author.Tests.{not-false}
+use Rattle.numbers.specs.Rounded.{f32, ◌⊗◌}
+use Rattle.needle_angles.proofs.Squares.{Plain, needle_10, needle_16, needle_32, needle_64, needle_128, no_needle}
+use Rattle.needle_angles.proofs.needle_class.Goals as goal
+
+plain : (least most long : Float) → not (le (f32 0x2b800000) least) ≡ false → not (le most (f32 0x4c800000)) ≡ false → not (le long (f32 0x4c800000)) ≡ false
+    → not (le long (least ⊗ f32 0x4c800000)) ≡ false → Plain least most long
+plain least most long h i j k = record {
+  from = rw (not-false (le (f32 0x2b800000) least) h) tt;
+  most_under = rw (not-false (le most (f32 0x4c800000)) i) tt;
+  long_under = rw (not-false (le long (f32 0x4c800000)) j) tt;
+  far = rw (not-false (le long (least ⊗ f32 0x4c800000)) k) tt;
+
+}
+
+pub returns-then-not-least : goal.returns-then-not-least
+returns-then-not-least c = no_needle _ _ _ _
+
+pub returns-then-not-most : goal.returns-then-not-most
+returns-then-not-most c = no_needle _ _ _ _
+
+pub returns-then-not-long : goal.returns-then-not-long
+returns-then-not-long c = no_needle _ _ _ _
+
+pub returns-then-not-long-least : goal.returns-then-not-long-least
+returns-then-not-long-least c = no_needle _ _ _ _
+
+pub returns-then-most-short : goal.returns-then-most-short
+returns-then-most-short c =
+    let x = c.before in
+    let a = x.args in
+    needle_128 (plain a.least a.most a.long x.if-not-least.false x.if-not-most.false x.if-not-long.false
+    x.if-not-long-least.false) (rw c.if-most-short.true tt)
+
+pub returns-then-most-short-2 : goal.returns-then-most-short-2
+returns-then-most-short-2 c =
+    let x = c.before.before in
+    let a = x.args in
+    needle_64 (plain a.least a.most a.long x.if-not-least.false x.if-not-most.false x.if-not-long.false x.if-not-long-least.false)
+    (rw c.if6.true tt)
+
+pub returns-then-most-short-3 : goal.returns-then-most-short-3
+returns-then-most-short-3 c =
+    let x = c.before.before.before in
+    let a = x.args in
+    needle_32 (plain a.least a.most a.long x.if-not-least.false x.if-not-most.false x.if-not-long.false x.if-not-long-least.false)
+    (rw c.if7.true tt)
+
+pub returns-then-most-short-4 : goal.returns-then-most-short-4
+returns-then-most-short-4 c =
+    let x = c.before.before.before.before in
+    let a = x.args in
+    needle_16 (plain a.least a.most a.long x.if-not-least.false x.if-not-most.false x.if-not-long.false x.if-not-long-least.false)
+    (rw c.if8.true tt)
+
+pub returns-then-most-short-5 : goal.returns-then-most-short-5
+returns-then-most-short-5 c =
+    let x = c.before.before.before.before.before in
+    let a = x.args in
+    needle_10 (plain a.least a.most a.long x.if-not-least.false x.if-not-most.false x.if-not-long.false x.if-not-long-least.false)
+    (rw c.if9.true tt)
+
+pub returns : goal.returns
+returns c = no_needle _ _ _ _

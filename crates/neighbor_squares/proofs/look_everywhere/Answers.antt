@@ -1,0 +1,74 @@
+-- What is in hand, with the points to come, always gives the ten least squares. Assumes nothing.
+use mathlib.Core.Path.{◌≡◌, refl, sym, ap, ◌∙◌}
+use Prim.Native.Nat.{◌-◌, ◌≤◌}
+use native.Mathlib.Omega.{arith}
+use lib.ListN.{length, take, drop}
+use lib.Ieee.{Float}
+use borrow.Author.Rules.{rules}
+use Rattle.lists.specs.Lists.{up_from}
+use Rattle.sorting.specs.Sorted.{insert_all}
+use Rattle.neighbor_squares.specs.Inner.Squares.{is_neighbor_cell, within_limit, squares_to, least_squares, with_square}
+use Rattle.neighbor_squares.proofs.Looking.{with_tenth, with_ordered, all_start, all_step, all_end}
+use Rattle.neighbor_squares.proofs.Rising.{Ordered}
+use Rattle.neighbor_squares.proofs.look_everywhere.Goals as goal
+
+pub loop-j-init : goal.loop-j-init
+loop-j-init c =
+    let s = c.before.before.before in (
+      refl,
+      search rules,
+      search rules,
+      all_start (is_neighbor_cell s.args.around s.args.w.now s.args.n) s.args.points.now s.args.i
+          s.args.n (drop s.args.n s.args.f.now),
+      refl,
+      (tt, tt),
+    )
+
+pub tenth-requires : goal.tenth-requires
+tenth-requires c =
+    let l = c.loop-j in
+    let s = start_of_tenth_arg c in
+    (s.pre.1, omega (arith, l.invariant.0, s.pre.4))
+
+pub look_at-kept-requires : goal.look_at-kept-requires
+look_at-kept-requires c =
+    let loop = (at_loop_of_look_at_arg c).loop in
+    let start = start_of_look_at_arg c in
+    let l = loop in
+    let s = start in
+    (s.pre.0, c.loop-j-test.true, s.pre.1, s.pre.2, s.pre.3, omega (arith, l.inv.0, s.pre.4), l.inv.2, l.inv.5.0)
+
+pub loop-j-preserved : goal.loop-j-preserved
+loop-j-preserved c =
+    let t = tenth_of_slice_known2 c in
+    let l = t.loop in
+    let s = t.before.before.before.before.before.before.before in
+    let inside = t.loop-test.taken in
+    let e = c.look_at-kept in
+    let near = is_neighbor_cell s.args.around s.args.w.now s.args.n in
+    let kept = take l.kept (drop s.args.n l.f) in
+    let next : take e.result (drop s.args.n e.new.f) ≡ with_square near s.args.points.now s.args.i l.j kept =
+    e.ensures.0
+    ∙ ap (λ (limit : Float). with_square (within_limit limit near s.args.points.now s.args.i) s.args.points.now s.args.i l.j kept)
+    t.tenth.ensures
+    ∙ with_tenth near s.args.points.now s.args.i l.j s.args.n l.f l.kept s.pre.0 inside s.pre.5
+    (omega (arith, l.inv.0, s.pre.4)) l.inv.2 l.inv.5 in (
+      e.auto.f ∙ l.inv.0,
+      search rules,
+      e.ensures.1,
+      l.inv.3 ∙ all_step near s.args.points.now s.args.i s.args.n l.j kept
+          (take e.result (drop s.args.n e.new.f)) inside next,
+      e.ensures.2 ∙ l.inv.4,
+      with_ordered near s.args.points.now s.args.i l.j s.args.n kept (take e.result (drop s.args.n e.new.f))
+          s.pre.0 inside s.pre.5 next l.inv.5,
+    )
+
+pub returns : goal.returns
+returns c =
+    let l = c.loop-j in
+    let s = start_of_after_loop c in (
+      sym (l.invariant.3 ∙ all_end (is_neighbor_cell s.args.around s.args.w.now s.args.n) s.args.points.now s.args.i s.args.n l.j
+          (drop s.args.n l.f) l.auto c.loop-j-test.false l.invariant.2),
+      l.invariant.2,
+      l.invariant.4,
+    )

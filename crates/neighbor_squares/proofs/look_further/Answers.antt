@@ -1,0 +1,24 @@
+-- Both looks decide. Assumes nothing.
+use mathlib.Core.Path.{refl}
+use native.Mathlib.Omega.{arith}
+use borrow.Author.Rules.{rules}
+use Rattle.neighbor_squares.proofs.look_further.Goals as goal
+
+pub look_everywhere-requires : goal.look_everywhere-requires
+look_everywhere-requires c =
+    let s = c.before.before.before.before.before.before.before in
+    let r = s.requires.0.hashed.linked.ready in
+    (s.requires.0.inside, r.few, r.points_long, omega (arith, r.work_long), s.requires.0.room, r.numbers)
+
+pub returns-then-is_wide : goal.returns-then-is_wide
+returns-then-is_wide c =
+    let q = c.look_everywhere in
+    record { few = q.ensures.1; decided = q.ensures.0; kept = record { front = q.ensures.2; before = refl; after = refl } }
+
+pub look_in_range-requires : goal.look_in_range-requires
+look_in_range-requires c =
+    let s = c.before.before.before.before.before.before.before in
+    (s.requires.0, s.requires.1, c.is_IsWide.ensures c.if-is_wide.false)
+
+pub returns : goal.returns
+returns c = c.look_in_range.ensures

@@ -1,0 +1,52 @@
+-- The points within bounds that hold every neighbour decide. Assumes nothing.
+use mathlib.Core.Path.{sym, subst}
+use native.Mathlib.Omega.{arith}
+use borrow.Author.Rules.{rules}
+use Rattle.vector.specs.declared.Point3f.{Point3f}
+use Rattle.vector.specs.Inner.Numbers.{Finite}
+use Rattle.neighbor_squares.proofs.Deciding.{found_in_range}
+use Rattle.neighbor_squares.proofs.look_in_range.Goals as goal
+
+pub point_at-place-requires : goal.point_at-place-requires
+point_at-place-requires c = let s = c.before.before.before in omega (arith, s.requires.0.inside, s.requires.0.hashed.linked.ready.points_long)
+
+pub limit_of-limit-requires : goal.limit_of-limit-requires
+limit_of-limit-requires c =
+    let s = c in
+    subst (λ (p : Point3f). Finite p) (sym c.point_at-place.ensures) (s.requires.0.hashed.linked.ready.numbers s.args.i s.requires.0.inside)
+
+pub gather-found-requires : goal.gather-found-requires
+gather-found-requires c = c.requires.0.hashed.linked
+
+pub least_squares-requires : goal.least_squares-requires
+least_squares-requires c =
+    let gather = c.gather-found in
+    let start = c in
+    let s = start in
+    let g = gather in
+    let r = s.requires.0.hashed.linked.ready in (
+      s.requires.0.inside,
+      r.few,
+      g.ensures.most,
+      r.points_long,
+      omega (arith, r.work_long, g.kept.1.0),
+      s.requires.0.room,
+      g.ensures.gathers.below,
+      r.numbers,
+    )
+
+pub returns : goal.returns
+returns c =
+    let gather = c.gather-found in
+    let limit_of = c.limit_of-limit in
+    let bounds_of = c.bounds_of-bounds in
+    let point_at_lem = c.point_at-place in
+    let start = c in
+    let s = start in
+    let p = point_at_lem in
+    let g = gather in
+    let q = c.least_squares in
+    found_in_range s.args.around s.args.grid s.args.points.now s.args.n s.args.i bounds_of.result limit_of.result s.args.w.now
+    g.last.1.0 s.args.f.now q.new.f s.args.hash p.result g.result q.result
+    s.requires.0 s.requires.1 s.requires.2 g.kept.1.0 p.ensures bounds_of.ensures limit_of.ensures g.ensures q.ensures.0 q.ensures.1
+    q.ensures.2

@@ -1,0 +1,20 @@
+-- `clamp` meets its contract.
+use mathlib.Core.Path.{◌≡◌, sym}
+use mathlib.Core.Bool.{cond}
+use mathlib.Core.Logic.{⊎_elim}
+use lib.Ieee.{lt}
+use Rattle.numbers.specs.Order.{clamp}
+use Rattle.numbers.proofs.clamp.Goals.{Joined-w-lo}
+use Rattle.numbers.proofs.clamp.Goals as goal
+
+-- what the first branch leaves
+raised : (c : Joined-w-lo) → cond (lt c.args.v c.args.lo) c.args.lo c.args.v ≡ c.if-w-lo.w
+raised c = ⊎_elim (λ w. rw w.0.taken (sym w.1)) (λ w. rw w.0.left (sym w.1)) c.if-w-lo.branch
+
+pub returns-then-w-hi : goal.returns-then-w-hi
+unfolding clamp
+returns-then-w-hi c = rw (raised c.before, c.if-w-hi.true)
+
+pub returns-else-w-hi : goal.returns-else-w-hi
+unfolding clamp
+returns-else-w-hi c = rw (raised c.before, c.if-w-hi.false)

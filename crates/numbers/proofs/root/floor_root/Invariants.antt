@@ -1,0 +1,12 @@
+-- `floor_root` meets its contract: the root lies from lo on and below hi, and each turn halves what is between.
+use mathlib.Core.Path.{◌≡◌, subst}
+use Prim.Native.Nat.{ℕ, ◌+◌, ◌-◌, ◌*◌, ◌/◌, ◌≤◌, ◌<◌}
+use native.Mathlib.Nat.{mul-le-mul_left, mul-le-mul_right, le_trans}
+use native.Mathlib.Omega.{arith}
+use Rattle.numbers.proofs.root.floor_root.Given as goal
+
+abbrev pub invariant-loop-lo : goal.invariant-loop-lo
+invariant-loop-lo l = (l.lo * l.lo ≤ l.n) × (l.n < l.hi * l.hi) × (l.lo < l.hi) × (l.hi ≤ 16777216)
+
+abbrev pub decreases-loop-lo : goal.decreases-loop-lo
+decreases-loop-lo l = l.hi - l.lo

@@ -1,0 +1,19 @@
+-- `numerals::whole_of` meets its contract: what the digits before i write, carried on over the rest, is what all write;
+-- and k digits write less than 10 ^ k. Assumes nothing.
+use Prim.Native.Nat.{◌-◌, ◌^◌, ◌≤◌, ◌<◌}
+use mathlib.Core.Path.{◌≡◌, refl, sym, ◌∙◌}
+use native.Mathlib.Nat.{sub_self}
+use native.Mathlib.Omega.{arith}
+use borrow.Author.Rules.{rules}
+use lib.ListN.{take, drop}
+use Rattle.numerals.specs.Format.{digits, digits_value}
+use Rattle.numerals.proofs.Bytes.{Digit, next_digit, grow, small}
+use Rattle.numerals.proofs.whole_of.Given as goal
+
+abbrev pub invariant-loop-i : goal.invariant-loop-i
+invariant-loop-i l =
+    (l.at ≤ l.i) × (l.i ≤ l.end) × (l.end - l.i ≤ digits (drop l.i l.s)) × (digits_value l.v (take (l.end - l.i) (drop l.i l.s)) ≡ digits_value 0 (take (l.end - l.at) (drop l.at l.s)))
+    × (l.v < 10 ^ (l.i - l.at))
+
+abbrev pub decreases-loop-i : goal.decreases-loop-i
+decreases-loop-i l = l.end - l.i

@@ -1,0 +1,6 @@
+-- `plain::acceptance::normal_length` meets its contract. Assumes nothing.
+use borrow.Author.Rules.{rules}
+use Rattle.plain.proofs.acceptance.normal_length.Goals as goal
+
+pub returns : goal.returns
+returns c = cc

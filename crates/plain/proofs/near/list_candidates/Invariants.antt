@@ -1,0 +1,22 @@
+-- `plain::near::list_candidates` meets its contract. The loop's invariant: what is listed, and what is to come, is all.
+-- Assumes nothing.
+use Prim.Native.Nat.{◌-◌, ◌≤◌}
+use mathlib.Core.Path.{◌≡◌, refl, sym, ap, ◌∙◌}
+use mathlib.Core.List.{List, ◌++◌, append-nil}
+use native.Mathlib.Omega.{arith}
+use lib.ListN.{length, take}
+use Rattle.lists.specs.Lists.{up_from}
+use Rattle.plain.specs.Plain.{candidates}
+use Rattle.plain.specs.Inner.Listed.{DistancesListed}
+use Rattle.plain.proofs.Plain.{up_start, from, from_none}
+use Rattle.plain.proofs.Listing.{count_step, lists_step, all_step}
+use borrow.Author.Rules.{rules}
+use Rattle.plain.proofs.near.list_candidates.Given as goal
+
+abbrev pub invariant-loop-j : goal.invariant-loop-j
+invariant-loop-j l =
+    (l.j ≤ l.i) × (l.count ≤ l.j) × (length l.w ≡ length l.initial.w) × (length l.lengths ≡ length l.initial.lengths) × DistancesListed l.points l.i l.w l.lengths l.count
+    × (take l.count l.w ++ from l.points l.radius l.i l.j ≡ candidates l.points l.radius l.i (up_from 0 l.i))
+
+abbrev pub decreases-loop-j : goal.decreases-loop-j
+decreases-loop-j l = l.i - l.j

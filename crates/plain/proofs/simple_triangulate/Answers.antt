@@ -1,0 +1,54 @@
+-- `plain::simple_triangulate` meets its contract. The loop's invariant: what is left of the faces leads to all of them.
+-- Assumes nothing.
+use Rattle.lists.specs.Lists.{up_from}
+use lib.ListN.{length}
+use mathlib.Core.Path.{◌≡◌, refl, ap}
+use Prim.Native.Nat.{◌-◌, ◌/◌, ◌≤◌}
+use Rattle.plain.proofs.Plain.{up_start, of_more, of_none}
+use Rattle.plain.specs.Plain.{plain_faces_from, plain_faces}
+use Rattle.plain.specs.Inner.Listed.{RadiusLimited}
+use Rattle.plain.specs.Reached.{plain_reached}
+use Rattle.plain.proofs.Laid.{Leads, leads_start, leads_step, leads_end, lays_whole}
+use Rattle.plain.proofs.Reached.{Tracking, track_start, track_step, track_end}
+use borrow.Author.Rules.{rules}
+use Rattle.plain.proofs.simple_triangulate.Goals as goal
+
+pub loop-i-init : goal.loop-i-init
+loop-i-init c =
+    let a = (start_of_limits_of c).args in (
+      search rules,
+      refl,
+      search rules,
+      refl,
+      refl,
+      refl,
+      c.limits_of-limits.ensures,
+      leads_start _ _
+          (ap (plain_faces_from a.points.now a.radius) (up_start (length a.points.now / 3))),
+      track_start a.points.now a.radius,
+    )
+
+pub loop-i-preserved : goal.loop-i-preserved
+loop-i-preserved c =
+    let f = (faces_at_of_is_either c).faces-at in
+    let l = (at_loop_of_is_either c).loop in
+    let a = (start_of_is_either c).args in (
+      search rules,
+      search rules,
+      f.ensures.0.most,
+      search rules,
+      search rules,
+      search rules,
+      l.inv.6,
+      leads_step l.inv.7 (of_more a.points.now a.radius l.i _ (in_loop_of_is_either c).loop-test.true) f.ensures.0,
+      track_step a.points.now a.radius l.inv.8 (in_loop_of_is_either c).loop-test.true l.inv.2 f.ensures.0 f.ensures.1
+          c.is_either-judged.ensures,
+    )
+
+pub returns : goal.returns
+unfolding plain_faces plain_reached
+returns c =
+    let l = c.loop-i in
+    let a = (start_of_after_loop c).args in
+    let e = lays_whole (leads_end l.invariant.7 (of_none a.points.now a.radius l.i _ c.loop-i-test.false) l.invariant.2) in
+    (e.0, e.1, track_end a.points.now a.radius l.invariant.8 c.loop-i-test.false)

@@ -1,0 +1,24 @@
+-- `plain::simple_triangulate` meets its contract. The loop's invariant: what is left of the faces leads to all of them.
+-- Assumes nothing.
+use Rattle.lists.specs.Lists.{up_from}
+use lib.ListN.{length}
+use mathlib.Core.Path.{◌≡◌, refl, ap}
+use Prim.Native.Nat.{◌-◌, ◌/◌, ◌≤◌}
+use Rattle.plain.proofs.Plain.{up_start, of_more, of_none}
+use Rattle.plain.specs.Plain.{plain_faces_from, plain_faces}
+use Rattle.plain.specs.Inner.Listed.{RadiusLimited}
+use Rattle.plain.specs.Reached.{plain_reached}
+use Rattle.plain.proofs.Laid.{Leads, leads_start, leads_step, leads_end, lays_whole}
+use Rattle.plain.proofs.Reached.{Tracking, track_start, track_step, track_end}
+use borrow.Author.Rules.{rules}
+use Rattle.plain.proofs.simple_triangulate.Given as goal
+
+abbrev pub invariant-loop-i : goal.invariant-loop-i
+invariant-loop-i l =
+    (l.i ≤ l.n) × (l.n ≡ length l.points / 3) × (l.laid ≤ 10000) × (length l.w ≡ length l.initial.w) × (length l.lengths ≡ length l.initial.lengths) × (length l.faces ≡ length l.initial.faces)
+    × RadiusLimited l.radius l.limits
+    × Leads (plain_faces_from l.points l.radius (up_from 0 (length l.points / 3))) l.initial.faces 0 (plain_faces_from l.points l.radius (up_from l.i (l.n - l.i))) l.faces l.laid
+    × Tracking l.points l.radius l.initial.faces l.n l.i l.faces l.laid l.judged
+
+abbrev pub decreases-loop-i : goal.decreases-loop-i
+decreases-loop-i l = l.n - l.i

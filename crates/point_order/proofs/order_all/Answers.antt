@@ -1,0 +1,135 @@
+-- `order_all` meets its contract: each call of `order_along` leaves the order along its axis, and with the three orders
+-- and the numbers in rising order the splits are those of the tree. Assumes nothing.
+use Rattle.point_order.proofs.Orders.{start_ready, ordered_all, as_long}
+use Rattle.axis_sort.specs.Sorted.{sorted_by}
+use Rattle.axis_sort.specs.Axis.{precedes}
+use Rattle.lists.specs.Lists.{up_from}
+use Prim.Native.Nat.{ℕ}
+use mathlib.Core.Path.{refl, ap, ◌∙◌}
+use lib.Dec.{lit≤}
+use native.Mathlib.Omega.{arith}
+use Rattle.point_order.proofs.order_all.Goals as goal
+
+pub order_along-requires : goal.order_along-requires
+order_along-requires c =
+    let start = c in
+    (lit≤ tt, as_long start.requires.0 start.requires.1 (refl) (refl) (refl), omega (arith, start.requires.1))
+
+pub order_along-requires-2 : goal.order_along-requires-2
+order_along-requires-2 c =
+    let order-along = c.order_along in
+    let start = c in (
+      lit≤ tt,
+      as_long start.requires.0 start.requires.2 order-along.kept.1.1.1.0 order-along.kept.1.1.1.1.1.0
+          order-along.kept.1.1.1.1.1.1.0,
+      omega (arith, start.requires.2, order-along.kept.1.1.1.1.0),
+    )
+
+pub order_along-requires-3 : goal.order_along-requires-3
+order_along-requires-3 c =
+    let order-along2 = c.order_along-2 in
+    let order-along = c.order_along in
+    let start = c in (
+      lit≤ tt,
+      as_long start.requires.0 start.requires.3 (order-along2.kept.1.1.1.0 ∙ order-along.kept.1.1.1.0)
+          (order-along2.kept.1.1.1.1.1.0 ∙ order-along.kept.1.1.1.1.1.0)
+          (order-along2.kept.1.1.1.1.1.1.0 ∙ order-along.kept.1.1.1.1.1.1.0),
+      omega
+          (arith, start.requires.3, order-along.kept.1.1.1.1.0, order-along2.kept.1.1.1.1.0),
+    )
+
+pub number_order-requires : goal.number_order-requires
+number_order-requires c =
+    let order-along3 = c.order_along-3 in
+    let order-along2 = c.order_along-2 in
+    let order-along = c.order_along in
+    let start = c in
+    omega (
+      arith,
+      start.requires.0.count,
+      start.requires.0.cloud.few,
+      order-along.kept.1.1.1.1.0,
+      order-along2.kept.1.1.1.1.0,
+      order-along3.kept.1.1.1.1.0,
+    )
+
+pub split-requires : goal.split-requires
+split-requires c =
+    let number-order = c.number_order in
+    let order-along3 = c.order_along-3 in
+    let order-along2 = c.order_along-2 in
+    let order-along = c.order_along in
+    let shared-slice-known = c.type_inv.points in
+    let start = c in
+    let p = start.args.points.now in
+    start_ready number-order.last.0 start.requires.0 shared-slice-known.given order-along.last.1.1.0 order-along2.last.1.1.0
+    order-along3.last.1.1.0
+    (number-order.ensures ∙ ap (up_from 0) (order-along3.kept.1.1.1.1.0 ∙ order-along2.kept.1.1.1.1.0 ∙ order-along.kept.1.1.1.1.0))
+    (order-along.ensures ∙ ap (λ (n : ℕ). sorted_by (precedes p 0) (up_from 0 n)) start.requires.1)
+    (order-along2.ensures ∙ ap (λ (n : ℕ). sorted_by (precedes p 1) (up_from 0 n)) start.requires.2)
+    (order-along3.ensures ∙ ap (λ (n : ℕ). sorted_by (precedes p 2) (up_from 0 n)) start.requires.3)
+    (order-along3.kept.1.1.1.0 ∙ order-along2.kept.1.1.1.0 ∙ order-along.kept.1.1.1.0)
+    (order-along3.kept.1.1.1.1.1.1.0 ∙ order-along2.kept.1.1.1.1.1.1.0 ∙ order-along.kept.1.1.1.1.1.1.0)
+
+pub shape_of-order : goal.shape_of-order
+shape_of-order c =
+    let split = c.split in
+    let number-order = c.number_order in
+    let order-along3 = c.order_along-3 in
+    let order-along2 = c.order_along-2 in
+    let order-along = c.order_along in
+    split.kept.1.0 ∙ number-order.kept.0 ∙ order-along3.kept.1.1.1.1.0 ∙ order-along2.kept.1.1.1.1.0 ∙ order-along.kept.1.1.1.1.0
+
+pub shape_of-x : goal.shape_of-x
+shape_of-x c =
+    let split = c.split in
+    let order-along = c.order_along in
+    split.kept.1.1.0 ∙ order-along.kept.1.1.0
+
+pub shape_of-y : goal.shape_of-y
+shape_of-y c =
+    let split = c.split in
+    let order-along2 = c.order_along-2 in
+    split.kept.1.1.1.0 ∙ order-along2.kept.1.1.0
+
+pub shape_of-z : goal.shape_of-z
+shape_of-z c =
+    let split = c.split in
+    let order-along3 = c.order_along-3 in
+    split.kept.1.1.1.1.0 ∙ order-along3.kept.1.1.0
+
+pub shape_of-work : goal.shape_of-work
+shape_of-work c =
+    let split = c.split in
+    let order-along3 = c.order_along-3 in
+    let order-along2 = c.order_along-2 in
+    let order-along = c.order_along in
+    split.kept.1.1.1.1.1.0 ∙ order-along3.kept.1.1.1.0 ∙ order-along2.kept.1.1.1.0 ∙ order-along.kept.1.1.1.0
+
+pub shape_of-counts : goal.shape_of-counts
+shape_of-counts c =
+    let order-along3 = c.order_along-3 in
+    let order-along2 = c.order_along-2 in
+    let order-along = c.order_along in
+    order-along3.kept.1.1.1.1.1.0 ∙ order-along2.kept.1.1.1.1.1.0 ∙ order-along.kept.1.1.1.1.1.0
+
+pub shape_of-floats : goal.shape_of-floats
+shape_of-floats c =
+    let split = c.split in
+    let order-along3 = c.order_along-3 in
+    let order-along2 = c.order_along-2 in
+    let order-along = c.order_along in
+    split.kept.1.1.1.1.1.1.0 ∙ order-along3.kept.1.1.1.1.1.1.0 ∙ order-along2.kept.1.1.1.1.1.1.0
+    ∙ order-along.kept.1.1.1.1.1.1.0
+
+pub returns : goal.returns
+returns c =
+    let split = c.split in
+    let number-order = c.number_order in
+    let order-along3 = c.order_along-3 in
+    let order-along2 = c.order_along-2 in
+    let order-along = c.order_along in
+    let start = c in
+    ordered_all number-order.last.0 split.last.1.0 _ split.last.1.1.1.1.1.1.0 _ start.requires.0
+    (number-order.ensures ∙ ap (up_from 0) (order-along3.kept.1.1.1.1.0 ∙ order-along2.kept.1.1.1.1.0 ∙ order-along.kept.1.1.1.1.0))
+    split.ensures

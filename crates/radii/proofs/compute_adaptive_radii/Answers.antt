@@ -1,0 +1,58 @@
+-- `radii::compute_adaptive_radii` meets its contract. Assumes nothing.
+use mathlib.Core.List.{List}
+use mathlib.Core.Path.{refl, sym, ap, ◌∙◌, subst}
+use Prim.Native.Nat.{ℕ}
+use native.Mathlib.Omega.{arith}
+use lib.Ieee.{Float}
+use lib.ListN.{replicate, take}
+use borrow.Author.Rules.{rules}
+use Rattle.numbers.specs.Rounded.{f32}
+use Rattle.radii.specs.Radii.{densities_from, step_of, sample_count}
+use Rattle.radii.specs.Inner.Steps.{RadiiListed}
+use Rattle.radii.proofs.Chosen.{radii_off, radii_on, radii_none, radii_some}
+use Rattle.radii.proofs.Spaced.{listed_none}
+use Rattle.radii.proofs.compute_adaptive_radii.Goals as goal
+
+pub returns-then-not-config : goal.returns-then-not-config
+returns-then-not-config c =
+    let s = c in (
+      subst (λ (xs : List Float). RadiiListed xs (record { list = replicate 17 (f32 0); count = 0 }))
+          (radii_off s.args.config s.args.grid s.args.points.now s.args.n c.if-not-config.true) listed_none,
+      refl,
+      refl,
+    )
+
+pub returns-then-count-eq0 : goal.returns-then-count-eq0
+returns-then-count-eq0 c =
+    let measure = c.measure-count in
+    let if1 = c.if-not-config in
+    let start = c in
+    let s = start in
+    let m = measure in
+    let u : List Float = m.last.1.1.1.1.1.1.0 in (
+      subst (λ (xs : List Float). RadiiListed xs (record { list = replicate 17 (f32 0); count = 0 }))
+          (radii_none s.args.config u
+          (densities_from s.args.config s.args.grid s.args.points.now s.args.n (step_of s.args.n) 0 (sample_count s.args.n))
+          (ap (λ (k : ℕ). take k u) (sym c.if-count-eq0.true) ∙ m.ensures.0) ∙ radii_on s.args.config s.args.grid s.args.points.now s.args.n
+          if1.left) listed_none,
+      m.ensures.2,
+      m.ensures.3,
+    )
+
+pub returns : goal.returns
+returns c =
+    let if2 = c.if-count-eq0 in
+    let measure = c.measure-count in
+    let if1 = c.if-not-config in
+    let start = c in
+    let s = start in
+    let m = measure in
+    let u : List Float = m.last.1.1.1.1.1.1.0 in (
+      subst (λ (xs : List Float). RadiiListed xs c.choose.result)
+          (radii_some s.args.config u
+          (densities_from s.args.config s.args.grid s.args.points.now s.args.n (step_of s.args.n) 0 (sample_count s.args.n)) m.result
+          (omega (arith, if2.left)) (omega (arith, m.ensures.1, m.kept.1.1.1.1.1.1.0, s.requires.room)) m.ensures.0 ∙ radii_on s.args.config
+          s.args.grid s.args.points.now s.args.n if1.left) c.choose.ensures,
+      m.ensures.2,
+      m.ensures.3,
+    )

@@ -1,0 +1,16 @@
+-- `ranges::first_outside` meets its contract. The loop's invariant: no value passed is outside. Assumes nothing.
+use Rattle.ranges.proofs.Range.{leading_start, leading_found, leading_passed, leading_end}
+use Rattle.ranges.specs.Range.{leading, first_outside}
+use borrow.Author.Tests.{not-true, not-false}
+use lib.Ieee.{neg}
+use lib.ListN.{length, drop}
+use mathlib.Core.Path.{◌≡◌, sym, ap}
+use Prim.Native.Nat.{ℕ, ◌+◌, ◌-◌, ◌/◌, ◌≤◌}
+use borrow.Author.Rules.{rules}
+use Rattle.ranges.proofs.first_outside.Given as goal
+
+abbrev pub invariant-loop-at : goal.invariant-loop-at
+invariant-loop-at l = (l.at ≤ length l.values) × (leading (neg l.bound) l.bound l.values ≡ l.at + leading (neg l.bound) l.bound (drop l.at l.values))
+
+abbrev pub decreases-loop-at : goal.decreases-loop-at
+decreases-loop-at l = length l.values - l.at

@@ -1,0 +1,10 @@
+-- A slice without room is left as it was. Assumes nothing.
+use Rattle.reconstruction_with_origins.proofs.Finding.{without_room}
+use borrow.Author.Rules.{rules}
+use Rattle.reconstruction_with_origins.proofs.count_plain.Goals as goal
+
+pub returns : goal.returns
+returns c =
+    let find-plain = c.find_plain in
+    let start = c in
+    without_room _ _ _ _ _ find-plain.last.1.1.1.0 start.args.faces.now find-plain.ensures

@@ -1,0 +1,176 @@
+-- `find_from` meets its contract. The loop's invariant: the points below i have been tried, `left` more unused ones may
+-- be, and no three of which one is from lo on and below i make a seed. Assumes nothing.
+use Prim.Native.Nat.{◌-◌, ◌≤◌}
+use mathlib.Core.Path.{refl, sym, ap, ◌∙◌}
+use native.Mathlib.Omega.{arith}
+use borrow.Author.Tests.{not-true, not-false}
+use Rattle.lists.proofs.Bools.{true_not_false}
+use Rattle.nearby.specs.Inner.Ready.{used_in_scene}
+use Rattle.nearby.proofs.Keeping.{kept_on}
+use Rattle.seed.specs.Inner.Found.{seed_found}
+use Rattle.seed.proofs.State.{Seeking, seek_start, seek_end, seek_spent, seek_used, seek_kept, seek_hit, seek_miss}
+use Rattle.seedless.specs.Inner.Seedless.{SeedlessBetween}
+use Rattle.seedless.proofs.Threes.{seedless_used, unused_kept}
+use Rattle.seed.proofs.Known.{seedless_on, unused_back, nothing_back, told_nothing}
+use Rattle.seed.proofs.First.{before_kept}
+use borrow.Author.Rules.{rules}
+use Rattle.seed.proofs.triples.find_from.Goals as goal
+
+pub loop-i-init : goal.loop-i-init
+loop-i-init c = (
+  seek_start c.requires.0 c.requires.1 c.requires.2,
+  omega arith,
+  λ x h. absurd
+      (omega arith),
+)
+
+pub shape_of-w-then-left-eq0 : goal.shape_of-w-then-left-eq0
+shape_of-w-then-left-eq0 c = c.loop-i.invariant.0.same
+
+pub returns-then-left-eq0 : goal.returns-then-left-eq0
+returns-then-left-eq0 c =
+    let l = c.loop-i in
+    let m = c.nothing_more.ensures in (
+      m.0 ∙ sym (ap seed_found (seek_spent l.invariant.0 c.loop-i-test.true c.if-left-eq0.true)),
+      λ h. absurd
+          (true_not_false h m.1),
+      l.invariant.0.kept,
+    )
+
+pub is_unused-requires : goal.is_unused-requires
+is_unused-requires c = let l = c.loop-i in (l.invariant.0.held.work_long, l.invariant.0.held.few, c.loop-i-test.true)
+
+pub loop-i-preserved-then-not-is_unused : goal.loop-i-preserved-then-not-is_unused
+loop-i-preserved-then-not-is_unused c =
+    let loop-test = (in_loop_of_then2 c).loop-test in
+    let loop = (at_loop_of_then2 c).loop in
+    let start = start_of_then2 c in
+    let u = c.is_unused in
+    let l = loop in
+    let a = start.args in
+    let used = sym u.ensures ∙ not-true u.result c.if-not-is_unused.true in (
+      seek_used l.inv.0 loop-test.taken c.if-left-eq0.false used,
+      omega (arith, l.inv.1),
+      seedless_used (used_in_scene a.p.scene a.w.now) l.inv.2 (unused_back {s = a.p.scene} l.i l.inv.0.kept used),
+    )
+
+pub ask_early-asked-requires : goal.ask_early-asked-requires
+ask_early-asked-requires c =
+    let loop-test = (in_loop_of_ask_early_arg c).loop-test in
+    let loop = (at_loop_of_ask_early_arg c).loop in
+    let l = loop in
+    (l.inv.0.held, l.inv.0.hashed, loop-test.taken)
+
+pub shape_of-w-then-is_known_by : goal.shape_of-w-then-is_known_by
+shape_of-w-then-is_known_by c =
+    let ask-early = (ask_early_of_nothing_more2 c).ask-early in
+    let loop = (at_loop_of_nothing_more2 c).loop in
+    ask-early.kept.1.1.0 ∙ loop.inv.0.same
+
+pub returns-then-is_known_by : goal.returns-then-is_known_by
+returns-then-is_known_by c =
+    let ask-early = (ask_early_of_nothing_more2 c).ask-early in
+    let loop = (at_loop_of_nothing_more2 c).loop in
+    let start = start_of_nothing_more2 c in
+    let a = start.args in
+    let l = loop in
+    let e = ask-early in
+    let k = c.is_known_by.ensures c.if-is_known_by.true in
+    let upto = nothing_back {s = a.p.scene} a.points.now a.largest l.inv.0.kept (e.ensures.0 k.0) in (
+      c.nothing_more-then-is_known_by.ensures.0 ∙ sym (ap seed_found (told_nothing a.p.scene a.points.now (used_in_scene a.p.scene a.w.now) k.1 upto)),
+      λ _. upto,
+      kept_on l.inv.0.kept e.ensures.1,
+    )
+
+pub try_first-first-requires : goal.try_first-first-requires
+try_first-first-requires c =
+    let ask-early = (ask_early_of_try_first_arg c).ask-early in
+    let if2 = (else2_of_try_first_arg c).if2 in
+    let is-unused = (is_unused_of_try_first_arg c).is-unused in
+    let loop-test = (in_loop_of_try_first_arg c).loop-test in
+    let loop = (at_loop_of_try_first_arg c).loop in
+    let start = start_of_try_first_arg c in
+    let a = start.args in
+    let u = is-unused in
+    let l = loop in
+    let e = ask-early in
+    let q = seek_kept l.inv.0 e.last.1.1.0 e.ensures.1 e.kept.1.1.0 in
+    let free = unused_back {s = a.p.scene} l.i l.inv.0.kept (sym u.ensures ∙ not-false u.result if2.left) in (
+      record { held = q.held; indexed = q.indexed; hashed = q.hashed; limiting = start.pre.3; inside = loop-test.taken },
+      before_kept {p = a.p} {w = a.w.now} (record { between = l.inv.2; order = l.inv.1; free = free }) q.kept,
+    )
+
+pub shape_of-w-in-Triangle : goal.shape_of-w-in-Triangle
+shape_of-w-in-Triangle c =
+    let try-first = (try_first_of_known_told c).try-first in
+    let ask-early = (ask_early_of_known_told c).ask-early in
+    let loop = (at_loop_of_known_told c).loop in
+    try-first.kept.1.1.0 ∙ ask-early.kept.1.1.0 ∙ loop.inv.0.same
+
+pub returns-in-Triangle : goal.returns-in-Triangle
+returns-in-Triangle c =
+    let try-first = (try_first_of_known_told c).try-first in
+    let ask-early = (ask_early_of_known_told c).ask-early in
+    let if2 = (else2_of_known_told c).if2 in
+    let is-unused = (is_unused_of_known_told c).is-unused in
+    let if1 = (else1_of_known_told c).if1 in
+    let loop-test = (in_loop_of_known_told c).loop-test in
+    let loop = (at_loop_of_known_told c).loop in
+    let start = start_of_known_told c in
+    let a = start.args in
+    let u = is-unused in
+    let l = loop in
+    let e = ask-early in
+    let q = seek_kept l.inv.0 e.last.1.1.0 e.ensures.1 e.kept.1.1.0 in
+    let f = try-first in
+    let free = unused_kept {s = a.p.scene} l.i e.ensures.1 (sym u.ensures ∙ not-false u.result if2.left) in (
+      seek_hit q loop-test.taken if1.left free f.ensures.0.same c.found.given.1,
+      λ h. absurd (true_not_false h refl),
+      kept_on q.kept f.ensures.1,
+    )
+
+pub known_from-lo-requires : goal.known_from-lo-requires
+known_from-lo-requires c =
+    let loop-test = (in_loop_of_enum_told c).loop-test in
+    let loop = (at_loop_of_enum_told c).loop in
+    let l = loop in
+    (l.inv.1, omega (arith, l.inv.0.held.few, loop-test.taken))
+
+pub overflow_add-i-in-loop-i : goal.overflow_add-i-in-loop-i
+overflow_add-i-in-loop-i c =
+    let loop-test = (in_loop_of_known_from c).loop-test in
+    let loop = (at_loop_of_known_from c).loop in
+    omega (arith, loop-test.taken, loop.inv.0.held.few)
+
+pub loop-i-preserved : goal.loop-i-preserved
+loop-i-preserved c =
+    let try-first = (try_first_of_known_from c).try-first in
+    let ask-early = (ask_early_of_known_from c).ask-early in
+    let if2 = (else2_of_known_from c).if2 in
+    let is-unused = (is_unused_of_known_from c).is-unused in
+    let if1 = (else1_of_known_from c).if1 in
+    let loop-test = (in_loop_of_known_from c).loop-test in
+    let loop = (at_loop_of_known_from c).loop in
+    let start = start_of_known_from c in
+    let a = start.args in
+    let u = is-unused in
+    let l = loop in
+    let e = ask-early in
+    let q = seek_kept l.inv.0 e.last.1.1.0 e.ensures.1 e.kept.1.1.0 in
+    let f = try-first in
+    let m = c.known_from-lo in
+    let free = unused_kept {s = a.p.scene} l.i e.ensures.1 (sym u.ensures ∙ not-false u.result if2.left) in (
+      seek_miss q f.last.1.1.0 loop-test.taken if1.left free f.ensures.0.same c.enum_told.given.1 f.ensures.1
+          f.kept.1.1.0,
+      m.ensures.inside,
+      seedless_on {w₀ = a.w.now} l.inv.2 q.kept f.ensures.0.told m.ensures,
+    )
+
+pub shape_of-w : goal.shape_of-w
+shape_of-w c = c.loop-i.invariant.0.same
+
+pub returns : goal.returns
+returns c =
+    let l = c.loop-i in
+    let m = c.nothing-more3.ensures in
+    (m.0 ∙ sym (ap seed_found (seek_end l.invariant.0 c.loop-i-test.false)), λ h. absurd (true_not_false h m.1), l.invariant.0.kept)

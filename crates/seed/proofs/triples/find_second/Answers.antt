@@ -1,0 +1,37 @@
+-- `find_second` meets its contract. The loop's invariant: what is found among the neighbours asked for is found among
+-- those from m on. Assumes nothing.
+use Prim.Native.Nat.{◌-◌}
+use native.Mathlib.Omega.{arith}
+use borrow.Author.Rules.{rules}
+use Rattle.seed.proofs.Steps.{Second, second_start, second_found, second_on, second_none}
+use Rattle.seed.proofs.triples.find_second.Goals as goal
+
+pub loop-m-init : goal.loop-m-init
+loop-m-init c = second_start c.requires.0 c.requires.1 c.requires.4
+
+pub listed_point-j-requires : goal.listed_point-j-requires
+listed_point-j-requires c =
+    let start = start_of_in_loop c in
+    (start.pre.0.few, start.pre.0.work_long, start.pre.1, omega (arith, c.loop-m-test.true, start.pre.4))
+
+pub try_second-found-requires : goal.try_second-found-requires
+try_second-found-requires c =
+    let start = start_of_listed_point c in
+    (start.pre.0, start.pre.1, start.pre.2, c.listed_point-j.ensures.1, start.pre.3)
+
+pub returns-in-Triangle : goal.returns-in-Triangle
+returns-in-Triangle c =
+    let listed-point = (listed_point_of_known_told c).listed-point in
+    let loop-test = (in_loop_of_known_told c).loop-test in
+    let loop = (at_loop_of_known_told c).loop in
+    second_found loop.inv loop-test.taken listed-point.ensures.0 c.try_second-found.ensures c.found.given.1
+
+pub loop-m-preserved : goal.loop-m-preserved
+loop-m-preserved c =
+    let loop-test = (in_loop_of_enum_told c).loop-test in
+    let loop = (at_loop_of_enum_told c).loop in
+    second_on loop.inv loop-test.taken c.listed_point-j.ensures.0 c.try_second-found.ensures
+    c.enum_told.given.1
+
+pub returns : goal.returns
+returns c = second_none c.loop-m.invariant c.loop-m-test.false

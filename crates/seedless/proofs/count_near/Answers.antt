@@ -1,0 +1,38 @@
+-- `count_near` meets its contract: at most one is counted in each turn. Assumes nothing.
+use Prim.Native.Nat.{◌-◌, ◌≤◌}
+use native.Mathlib.Omega.{arith}
+use borrow.Author.Rules.{rules}
+use Rattle.seedless.proofs.count_near.Goals as goal
+
+pub loop-m-init : goal.loop-m-init
+loop-m-init c = (omega arith, omega arith)
+
+pub listed_point-requires : goal.listed_point-requires
+listed_point-requires c =
+    let a = c.before.before.before.before in
+    (a.requires.0.few, a.requires.0.work_long, a.requires.1, omega (arith, c.loop-m-test.true))
+
+pub point_at-p-requires : goal.point_at-p-requires
+point_at-p-requires c =
+    let a = c.before.before.before.before.before in
+    omega (arith, c.listed_point.ensures.1, a.requires.0.points_long)
+
+pub listed_point-requires-in-loop-m : goal.listed_point-requires-in-loop-m
+listed_point-requires-in-loop-m c =
+    let l = c.before.before in
+    let a = l.before.before.before.before in
+    (a.requires.0.few, a.requires.0.work_long, a.requires.1, omega (arith, l.loop-m-test.true))
+
+pub point_at-q-requires : goal.point_at-q-requires
+point_at-q-requires c =
+    let a = c.before.before.before.before.before.before.before in
+    omega (arith, c.listed_point-in-loop-m.ensures.1, a.requires.0.points_long)
+
+pub loop-m-preserved-then-distance_squared-far : goal.loop-m-preserved-then-distance_squared-far
+loop-m-preserved-then-distance_squared-far c = (omega arith, omega arith)
+
+pub loop-m-preserved : goal.loop-m-preserved
+loop-m-preserved c = (omega arith, omega arith)
+
+pub returns : goal.returns
+returns c = omega arith

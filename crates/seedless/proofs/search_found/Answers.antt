@@ -1,0 +1,30 @@
+-- `search_found` meets its contract. Assumes nothing.
+use Rattle.nearby.proofs.Keeping.{held_kept, kept_on}
+use Rattle.seedless.proofs.Threes.{left_seedless}
+use borrow.Author.Rules.{rules}
+use Rattle.seedless.proofs.search_found.Goals as goal
+
+pub search_pairs-requires : goal.search_pairs-requires
+search_pairs-requires c =
+    let order-listed = c.order_listed in
+    let keep_left = c.keep_left-count in
+    let start = c in
+    let l = keep_left in
+    let o = order-listed in
+    let g = start.requires in
+    let q = c.range_of-all.ensures.in_range_lem in
+    record {
+      held = held_kept o.last.1.1.0 (held_kept l.last.1.0 g.0 l.kept.1.0) o.kept.1.1.0;
+      inside = g.2;
+      judged = g.3;
+      first_in = q;
+      second_in = q;
+    }
+
+pub returns : goal.returns
+returns c =
+    let order-listed = c.order_listed in
+    let keep_left = c.keep_left-count in
+    let l = keep_left.ensures in
+    let o = order-listed.ensures in
+    (λ h. left_seedless l o c.range_of-all.ensures (c.search_pairs.ensures h), kept_on l.kept o.kept)

@@ -1,0 +1,41 @@
+-- `search_beside` meets its contract. The loop's invariant: no point before the m-th makes a seed with points i and j,
+-- whichever comes first. Assumes nothing.
+use Prim.Native.Nat.{ℕ, ◌-◌, ◌≤◌, ◌<◌}
+use mathlib.Core.Path.{subst}
+use native.Mathlib.Omega.{arith}
+use Rattle.nearby.specs.Inner.Ready.{nth}
+use Rattle.three_points.specs.Inner.Judged.{Seedless}
+use Rattle.flatness.proofs.Below.{below_next}
+use borrow.Author.Rules.{rules}
+use Rattle.seedless_pairs.proofs.search_beside.Goals as goal
+
+pub loop-m-init : goal.loop-m-init
+loop-m-init c = λ x h k. absurd (omega arith)
+
+pub listed_point-k-requires : goal.listed_point-k-requires
+listed_point-k-requires c =
+    let a = c.before.before.before.before in
+    (a.requires.0.few, a.requires.0.work_long, a.requires.1, c.loop-m-test.true)
+
+pub price_of-price-requires : goal.price_of-price-requires
+price_of-price-requires c =
+    let a = c.before.before.before.before.before in
+    (a.requires.0.points_long, a.requires.2, a.requires.3, c.listed_point-k.ensures.1, a.requires.4)
+
+pub returns-then-price-eq0 : goal.returns-then-price-eq0
+returns-then-price-eq0 c = λ h. absurd (omega arith)
+
+pub returns-then-left-price : goal.returns-then-left-price
+returns-then-left-price c = λ h. absurd (omega arith)
+
+pub loop-m-preserved : goal.loop-m-preserved
+loop-m-preserved c =
+    let t = c.price_of-price in
+    let p = c.before.before.before in
+    let a = p.args in
+    let ne = c.if-price-eq0.false in
+    below_next p.loop-m.invariant
+    (λ h. subst (Seedless a.s a.points.now a.radius a.i a.j) p.listed_point-k.ensures.0 (t.ensures (omega arith)))
+
+pub returns : goal.returns
+returns c = λ h m a b. c.loop-m.invariant m (omega (arith, c.loop-m-test.false)) a

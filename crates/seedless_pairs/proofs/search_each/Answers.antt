@@ -1,0 +1,38 @@
+-- `search_each` meets its contract. The loop's invariant: no point before the m-th makes a seed with point i and a
+-- later one of the other range. Assumes nothing.
+use Prim.Native.Nat.{ℕ, ◌-◌, ◌≤◌, ◌<◌}
+use native.Mathlib.Omega.{arith}
+use mathlib.Core.Path.{subst}
+use borrow.Author.Rules.{rules}
+use Rattle.nearby.specs.Inner.Ready.{nth}
+use Rattle.three_points.specs.Inner.Judged.{Seedless}
+use Rattle.flatness.proofs.Below.{below_next}
+use Rattle.seedless_pairs.proofs.search_each.Goals as goal
+
+pub loop-m-init : goal.loop-m-init
+loop-m-init c = λ x h k. absurd (omega arith)
+
+pub listed_point-j-requires : goal.listed_point-j-requires
+listed_point-j-requires c =
+    let g = c.requires in
+    (g.held.few, g.held.work_long, g.first_in.listed, c.loop-m-test.true)
+
+pub search_beside-left-requires : goal.search_beside-left-requires
+search_beside-left-requires c =
+    let g = c.requires in
+    (g.held, g.second_in.listed, g.inside, c.listed_point-j.ensures.1, g.judged)
+
+pub returns-then-left-eq0 : goal.returns-then-left-eq0
+returns-then-left-eq0 c = λ h. absurd (omega arith)
+
+pub loop-m-preserved : goal.loop-m-preserved
+loop-m-preserved c =
+    let p = c.before.before.before in
+    let l = p.loop-m in
+    let a = p.args in
+    let ne = c.if-left-eq0.false in
+    below_next l.invariant (λ _ k b e h. subst (λ (j : ℕ). Seedless a.s a.points.now a.radius a.i j (nth a.s a.w.now k))
+    p.listed_point-j.ensures.0 (c.search_beside-left.ensures (omega arith) k (c.later.ensures k b (omega arith)) e))
+
+pub returns : goal.returns
+returns c = λ h j k a b d e l. c.loop-m.invariant j (omega (arith, c.loop-m-test.false)) a k d e l

@@ -1,0 +1,41 @@
+-- `settings::first_bad_setting` meets its contract. Assumes nothing.
+use Rattle.ranges.proofs.Tests.{passed, failed}
+use Rattle.settings.specs.Settings.{first_bad_setting, setting_tests, first_failing}
+use borrow.Author.Rules.{rules}
+use Rattle.settings.proofs.first_bad_setting.Goals as goal
+
+pub returns-then-not-in_range : goal.returns-then-not-in_range
+unfolding first_bad_setting setting_tests first_failing
+returns-then-not-in_range c = rw (failed c.in_range_lem.ensures c.if-not-in_range.taken)
+
+pub returns-then-not-all_in_range : goal.returns-then-not-all_in_range
+unfolding first_bad_setting setting_tests first_failing
+returns-then-not-all_in_range c =
+    rw (
+      passed c.in_range_lem.ensures c.if-not-in_range.left,
+      failed c.all_in_range.ensures
+          c.if-not-all_in_range.taken,
+    )
+
+pub returns-then-not-all_in_range-2 : goal.returns-then-not-all_in_range-2
+unfolding first_bad_setting setting_tests first_failing
+returns-then-not-all_in_range-2 c =
+    rw (
+      passed c.in_range_lem.ensures
+          c.if-not-in_range.left,
+      passed c.all_in_range.ensures
+          c.if-not-all_in_range.left,
+      failed c.all_in_range-2.ensures c.if3.taken,
+    )
+
+pub returns : goal.returns
+unfolding first_bad_setting setting_tests first_failing
+returns c =
+    rw (
+      passed c.in_range_lem.ensures
+          c.if-not-in_range.left,
+      passed c.all_in_range.ensures
+          c.if-not-all_in_range.left,
+      passed c.all_in_range-2.ensures c.if3.left,
+    )
+    c.first_bad_threshold.ensures

@@ -1,0 +1,68 @@
+-- `settings::first_bad_threshold` meets its contract. Assumes nothing.
+use Rattle.settings.specs.Settings.{first_failing}
+use Rattle.ranges.proofs.Tests.{passed, failed}
+use borrow.Author.Rules.{rules}
+use Rattle.settings.proofs.first_bad_threshold.Goals as goal
+
+pub returns-then-not-in_range : goal.returns-then-not-in_range
+unfolding first_failing
+returns-then-not-in_range c = rw (failed c.in_range_lem.ensures c.if-not-in_range.taken)
+
+pub returns-then-not-in_range-2 : goal.returns-then-not-in_range-2
+unfolding first_failing
+returns-then-not-in_range-2 c = rw (passed c.in_range_lem.ensures c.if-not-in_range.left, failed c.in_range-2.ensures c.if2.taken)
+
+pub returns-then-not-in_range-3 : goal.returns-then-not-in_range-3
+unfolding first_failing
+returns-then-not-in_range-3 c =
+    rw (
+      passed c.in_range_lem.ensures c.if-not-in_range.left,
+      passed
+          c.in_range-2.ensures c.if2.left,
+      failed c.in_range-3.ensures c.if3.taken,
+    )
+
+pub returns-then-not-in_range-4 : goal.returns-then-not-in_range-4
+unfolding first_failing
+returns-then-not-in_range-4 c =
+    rw (
+      passed c.in_range_lem.ensures
+          c.if-not-in_range.left,
+      passed c.in_range-2.ensures
+          c.if2.left,
+      passed c.in_range-3.ensures c.if3.left,
+      failed
+          c.in_range-4.ensures c.if4.taken,
+    )
+
+pub returns-then-not-is_rule : goal.returns-then-not-is_rule
+unfolding first_failing
+returns-then-not-is_rule c =
+    rw (
+      passed c.in_range_lem.ensures
+          c.if-not-in_range.left,
+      passed
+          c.in_range-2.ensures
+          c.if2.left,
+      passed c.in_range-3.ensures
+          c.if3.left,
+      passed c.in_range-4.ensures
+          c.if4.left,
+      failed c.is_rule.ensures c.if-not-is_rule.taken,
+    )
+
+pub returns : goal.returns
+unfolding first_failing
+returns c =
+    rw (
+      passed c.in_range_lem.ensures
+          c.if-not-in_range.left,
+      passed
+          c.in_range-2.ensures
+          c.if2.left,
+      passed c.in_range-3.ensures
+          c.if3.left,
+      passed c.in_range-4.ensures
+          c.if4.left,
+      passed c.is_rule.ensures c.if-not-is_rule.left,
+    )

@@ -1,0 +1,12 @@
+-- `keep_within` meets its contract. The loop's invariant: what is left of the list leads to the whole. Assumes nothing.
+use Prim.Native.Nat.{◌-◌}
+use native.Mathlib.Omega.{arith}
+use borrow.Author.Rules.{rules}
+use Rattle.sifting.proofs.Sifting.{Sifting, sift_start, sift_below, sift_skip, sift_take, sift_end}
+use Rattle.sifting.proofs.keep_within.Given as goal
+
+abbrev pub invariant-loop-m : goal.invariant-loop-m
+invariant-loop-m l = Sifting l.points l.n l.place l.limit l.initial.w l.w l.found l.kept l.m
+
+abbrev pub decreases-loop-m : goal.decreases-loop-m
+decreases-loop-m l = l.found - l.m

@@ -1,0 +1,23 @@
+-- `aspect_bound` meets its contract: every number that is divided by is above zero.
+use borrow.Author.Tests.{not-false}
+use Rattle.numbers.proofs.RootSpecial.{no_number}
+use Rattle.six_orders.proofs.Aspects.{no_aspect_bound, aspects_bounded}
+use borrow.Author.Rules.{rules}
+use Rattle.six_orders.proofs.aspect_bound.Goals as goal
+
+pub returns-then-not-are_positive : goal.returns-then-not-are_positive
+returns-then-not-are_positive c = rw no_number (no_aspect_bound _ _ _ _)
+
+pub returns-then-not-are_positive-2 : goal.returns-then-not-are_positive-2
+returns-then-not-are_positive-2 c = rw no_number (no_aspect_bound _ _ _ _)
+
+pub returns : goal.returns
+returns c =
+    let s = c.before.before.before.before.before.before in
+    let a = s.args in
+    let p = s.requires in
+    let x = c.are_positive in
+    let y = c.are_positive-2 in
+    aspects_bounded a.a a.b a.c a.area p.0 p.1 p.2 c.least-half.ensures
+    c.least-product.ensures (x.ensures (not-false x.result c.if-not-are_positive.false))
+    (y.ensures (not-false y.result c.if2.false))

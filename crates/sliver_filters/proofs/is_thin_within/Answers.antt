@@ -1,0 +1,29 @@
+-- `is_thin_within` meets its contract.
+use mathlib.Core.Path.{sym, subst}
+use lib.Dec.{T}
+use lib.Ieee.{le}
+use borrow.Author.Tests.{not-false}
+use Rattle.numbers.specs.Rounded.{f32}
+use Rattle.sliver_filters.proofs.Triangles.{thin_within}
+use borrow.Author.Rules.{rules}
+use Rattle.sliver_filters.proofs.is_thin_within.Goals as goal
+
+pub returns-then-not-a : goal.returns-then-not-a
+returns-then-not-a c = λ h. absurd (subst T (sym h) tt)
+
+pub returns-then-not-b : goal.returns-then-not-b
+returns-then-not-b c = λ h. absurd (subst T (sym h) tt)
+
+pub returns-then-not-c : goal.returns-then-not-c
+returns-then-not-c c = λ h. absurd (subst T (sym h) tt)
+
+pub returns : goal.returns
+returns c =
+    let x = c.before.before in
+    let s = x.before.before.before.before.before.before in
+    λ h.
+    thin_within s.args.a s.args.b s.args.c s.args.cross s.args.limit (f32 0x21800000) c.max-most.ensures
+    (rw (not-false (le s.args.a.hi (f32 0x4c800000)) x.if-not-a.false) tt)
+    (rw (not-false (le s.args.b.hi (f32 0x4c800000)) x.if-not-b.false) tt)
+    (rw (not-false (le s.args.c.hi (f32 0x4c800000)) x.if-not-c.false) tt)
+    (c.is_thin.ensures h)

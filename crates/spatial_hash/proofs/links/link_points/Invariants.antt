@@ -1,0 +1,14 @@
+-- `spatial_hash::links::link_points` meets its contract. Assumes nothing.
+use native.Mathlib.Omega.{arith}
+use borrow.Author.Rules.{rules}
+use mathlib.Core.Path.{ap, ◌∙◌}
+use Prim.Native.Nat.{◌-◌}
+use Rattle.spatial_hash.specs.Inner.Buckets.{bucket_of}
+use Rattle.spatial_hash.proofs.Heads.{Linking, linking_start, linking_step, linking_end, bucket_below}
+use Rattle.spatial_hash.proofs.links.link_points.Given as goal
+
+abbrev pub invariant-loop-j : goal.invariant-loop-j
+invariant-loop-j l = Linking l.hash l.points l.n l.initial.w l.w l.j
+
+abbrev pub decreases-loop-j : goal.decreases-loop-j
+decreases-loop-j l = l.n - l.j

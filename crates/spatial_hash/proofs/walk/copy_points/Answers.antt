@@ -1,0 +1,19 @@
+-- `spatial_hash::walk::copy_points` meets its contract. Assumes nothing.
+use Prim.Native.Nat.{◌-◌}
+use Rattle.spatial_hash.proofs.Runs.{Copying, copying_start, copying_step, copying_end}
+use borrow.Author.Rules.{rules}
+use Rattle.spatial_hash.proofs.walk.copy_points.Goals as goal
+
+pub loop-i-init : goal.loop-i-init
+loop-i-init c = copying_start _ _ _ _ _ c.requires.2
+
+pub loop-i-preserved : goal.loop-i-preserved
+loop-i-preserved c =
+    let s = c.before.before.before in let l = c.loop-i in copying_step _ _ _ _ _ l.w _ _ c.loop-i-test.true s.requires.3
+    s.requires.4 s.requires.1 l.invariant
+
+pub shape_of-w : goal.shape_of-w
+shape_of-w c = c.loop-i.invariant.appended.length_same
+
+pub returns : goal.returns
+returns c = copying_end _ _ _ _ _ _ _ _ c.loop-i-test.false c.loop-i.invariant

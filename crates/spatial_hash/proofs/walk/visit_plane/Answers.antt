@@ -1,0 +1,61 @@
+-- `spatial_hash::walk::visit_plane` meets its contract. Assumes nothing.
+use borrow.Author.Rules.{rules}
+use native.Mathlib.Omega.{arith}
+use Rattle.spatial_hash.proofs.Visiting.{Visiting, plane_left, plane_splits, visiting_start, visiting_room, visiting_step, visiting_end}
+use Rattle.spatial_hash.specs.Inner.Buckets.{spanned}
+use Rattle.spatial_hash.proofs.Sizes.{square_few, joined_below}
+use Rattle.spatial_hash.proofs.walk.visit_plane.Goals as goal
+
+pub loop-left-init : goal.loop-left-init
+loop-left-init c = let s = c.before.before in visiting_start s.requires.1 s.requires.4
+
+pub overflow_mul-x : goal.overflow_mul-x
+overflow_mul-x c = let s = start_of_struct_known c in
+    let m = s.args.hash.side in
+    let l = c.loop-left in
+    let j = joined_below m m s.args.x l.y s.pre.0 l.invariant.below in
+    let q = square_few m s.pre.4.linked.sound.few in
+    omega arith
+
+pub overflow_add-x : goal.overflow_add-x
+overflow_add-x c = let s = start_of_struct_known c in
+    let m = s.args.hash.side in
+    let l = c.loop-left in
+    let j = joined_below m m s.args.x l.y s.pre.0 l.invariant.below in
+    let q = square_few m s.pre.4.linked.sound.few in
+    omega arith
+
+pub visit_row-total-requires : goal.visit_row-total-requires
+visit_row-total-requires c = let s = start_of_struct_known c in
+    let m = s.args.hash.side in
+    let l = c.loop-left in
+    let j = joined_below m m s.args.x l.y s.pre.0 l.invariant.below in
+    let q = square_few m s.pre.4.linked.sound.few in (
+      j,
+      s.pre.2,
+      s.pre.3,
+      visiting_room
+          (plane_splits s.args.hash s.args.points.now s.args.n s.args.x (spanned s.args.hash.side s.args.zs))
+          c.loop-left-test.true l.invariant,
+    )
+
+pub next-y-requires : goal.next-y-requires
+next-y-requires c = (at_loop_of_slice_known2 c).loop.invariant.below
+
+pub loop-left-preserved : goal.loop-left-preserved
+loop-left-preserved c =
+    let loop-test = (in_loop_of_next c).loop-test in
+    let loop = (at_loop_of_next c).loop in
+    let start = start_of_next c in
+    let s = start in
+    let l = loop in
+    visiting_step (plane_splits s.args.hash s.args.points.now s.args.n s.args.x (spanned s.args.hash.side s.args.zs))
+    loop-test.taken l.inv c.visit_row-total.ensures c.next-y.ensures
+
+pub shape_of-w : goal.shape_of-w
+shape_of-w c = c.loop-left.invariant.walking.length_same
+
+pub returns : goal.returns
+returns c = let s = start_of_after_loop c in
+    visiting_end (plane_splits s.args.hash s.args.points.now s.args.n s.args.x (spanned s.args.hash.side s.args.zs))
+    c.loop-left-test.false c.loop-left.invariant

@@ -1,0 +1,14 @@
+-- `spatial_hash::walk::visit_plane` meets its contract. Assumes nothing.
+use borrow.Author.Rules.{rules}
+use native.Mathlib.Omega.{arith}
+use Rattle.spatial_hash.proofs.Visiting.{Visiting, plane_left, plane_splits, visiting_start, visiting_room, visiting_step, visiting_end}
+use Rattle.spatial_hash.specs.Inner.Buckets.{spanned}
+use Rattle.spatial_hash.proofs.Sizes.{square_few, joined_below}
+use Rattle.spatial_hash.proofs.walk.visit_plane.Given as goal
+
+abbrev pub invariant-loop-left : goal.invariant-loop-left
+invariant-loop-left l =
+    Visiting l.hash l.points l.n (plane_left l.hash.side l.x (spanned l.hash.side l.zs)) l.initial.w l.count l.initial.y l.initial.left l.w l.total l.y l.left
+
+abbrev pub decreases-loop-left : goal.decreases-loop-left
+decreases-loop-left l = l.left

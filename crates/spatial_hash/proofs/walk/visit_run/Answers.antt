@@ -1,0 +1,76 @@
+-- `visit_run` meets its contract: the starts of the first bucket and of the end, read from the row, are where its
+-- points begin and end in the order, so that they are copied in one piece. Assumes nothing.
+use Prim.Native.Nat.{◌+◌, ◌*◌, ◌<◌}
+use mathlib.Core.Path.{subst}
+use Rattle.spatial_hash.specs.Inner.Buckets.{Appended}
+use Rattle.spatial_hash.proofs.Sizes.{joined_below}
+use Rattle.spatial_hash.proofs.Runs.{start_most, run_goes, run_is, run_room}
+use native.Mathlib.Omega.{arith}
+use borrow.Author.Rules.{rules}
+use Rattle.spatial_hash.proofs.walk.visit_run.Goals.{Start}
+use Rattle.spatial_hash.proofs.walk.visit_run.Goals as goal
+
+-- the run's last word is one of the hash's
+last_word : (s : Start) → s.args.at * (s.args.hash.side + 1) + s.args.end < 6 * s.args.n + 64
+last_word s =
+    let m = s.args.hash.side in
+    let e = s.requires.2 in
+    omega (arith, joined_below (m * m) (m + 1) s.args.at s.args.end s.requires.0 (omega arith), s.requires.3.linked.sound.fitting)
+
+pub overflow_mul-starts-2 : goal.overflow_mul-starts-2
+overflow_mul-starts-2 c = let s = c.before.before in let l = last_word s in let r = s.requires.3.linked.ready in omega arith
+
+pub overflow_add-starts-2 : goal.overflow_add-starts-2
+overflow_add-starts-2 c = let s = c.before.before in let l = last_word s in let r = s.requires.3.linked.ready in omega arith
+
+pub overflow_add-from : goal.overflow_add-from
+overflow_add-from c = let s = c.before.before in let l = last_word s in let r = s.requires.3.linked.ready in omega arith
+
+pub offset_bounds-w-starts : goal.offset_bounds-w-starts
+offset_bounds-w-starts c = let s = c.before.before in let l = last_word s in let r = s.requires.3.linked.ready in omega arith
+
+pub bounds-w-starts : goal.bounds-w-starts
+bounds-w-starts c = let s = c.before.before.before in let l = last_word s in let r = s.requires.3.linked.ready in omega arith
+
+pub overflow_cast-from : goal.overflow_cast-from
+overflow_cast-from c =
+    let s = c.before.before.before in let o = s.requires.1 in let e = s.requires.2 in omega (
+      arith,
+      start_most _ _ _ _ _ s.args.first s.args.end s.requires.0 o e s.requires.3.linked s.args.first
+          (omega arith),
+      s.requires.3.linked.ready.few,
+    )
+
+pub overflow_add-to : goal.overflow_add-to
+overflow_add-to c = let s = c.before.before.before in let l = last_word s in let r = s.requires.3.linked.ready in omega arith
+
+pub offset_bounds-w-starts-2 : goal.offset_bounds-w-starts-2
+offset_bounds-w-starts-2 c = let s = c.before.before.before in let l = last_word s in let r = s.requires.3.linked.ready in omega arith
+
+pub bounds-w-starts-2 : goal.bounds-w-starts-2
+bounds-w-starts-2 c = let s = c.before.before.before.before in let l = last_word s in let r = s.requires.3.linked.ready in omega arith
+
+pub overflow_cast-to : goal.overflow_cast-to
+overflow_cast-to c =
+    let s = c.before.before.before.before in let o = s.requires.1 in let e = s.requires.2 in omega
+    (arith, start_most _ _ _ _ _ s.args.first s.args.end s.requires.0 o e s.requires.3.linked s.args.end e, s.requires.3.linked.ready.few)
+
+pub copy_points-requires : goal.copy_points-requires
+copy_points-requires c =
+    let s = c.before.before.before.before.before in
+    let r = s.requires.3 in
+    let o = s.requires.1 in
+    let e = s.requires.2 in (
+      r.linked.ready.few,
+      r.linked.ready.work_long,
+      run_goes _ _ _ _ _ _ _ s.requires.0 o e r.linked,
+      start_most _ _ _ _ _ s.args.first
+          s.args.end s.requires.0 o e r.linked s.args.end e,
+      run_room _ _ _ _ _ _ _ s.requires.0 o e _ r,
+    )
+
+pub returns : goal.returns
+returns c =
+    let a = c.before.before in
+    let s = a.before.before.before.before.before.before in
+    subst (Appended _ _ _ _ _) (run_is _ _ _ _ _ _ _ s.requires.0 s.requires.1 s.requires.2 s.requires.3.linked) a.copy_points.ensures

@@ -1,0 +1,12 @@
+-- What was read is at most as long as the buffer. Assumes nothing.
+use native.Mathlib.Omega.{arith}
+use lib.ListN.{length-take}
+use borrow.Author.Rules.{rules}
+use Rattle.stl.proofs.main.Reads as reads
+use Rattle.stl.proofs.main.Lts as lts
+use Rattle.reading.proofs.read_all.Reads as read-all-reads
+use Rattle.stl.proofs.write_patch.Reads as write-patch-reads
+use Rattle.stl.proofs.main.Goals as goal
+
+pub slice_bounds-write_patch-end : goal.slice_bounds-write_patch-end
+slice_bounds-write_patch-end c = simp length-take (omega arith)

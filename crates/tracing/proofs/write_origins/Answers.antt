@@ -1,0 +1,43 @@
+-- The loop's invariant: k faces are traced, and what is left leads to the whole. Assumes nothing.
+use Prim.Native.Nat.{◌-◌, ◌≤◌}
+use mathlib.Core.Path.{◌≡◌, refl, ◌∙◌}
+use native.Mathlib.Omega.{arith}
+use lib.ListN.{length, take, length-set}
+use Rattle.tracing.proofs.Laws.{Tracing, tracing_start, tracing_step, tracing_end}
+use borrow.Author.Rules.{rules}
+use Rattle.tracing.proofs.write_origins.Goals as goal
+
+pub loop-k-init : goal.loop-k-init
+loop-k-init c = (
+  omega arith,
+  refl,
+  refl,
+  tracing_start (take c.args.radii c.args.marks)
+      c.args.faces.now c.args.count c.args.words.now
+      c.args.origins.now,
+)
+
+pub bounds-origins-k-in-loop-k : goal.bounds-origins-k-in-loop-k
+bounds-origins-k-in-loop-k c =
+    let loop-test = (in_loop_of_place_of c).loop-test in
+    let loop = (at_loop_of_place_of c).loop in
+    let start = start_of_place_of c in
+    simp length-set (omega (arith, loop.inv.1, loop-test.taken, start.pre.2))
+
+pub loop-k-preserved : goal.loop-k-preserved
+loop-k-preserved c = (
+  search rules,
+  simp length-set (search rules),
+  c.trace_face-parent.auto.words ∙ (at_loop_of_place_of c).loop.invariant.2,
+  tracing_step
+      (take (start_of_place_of c).args.radii (start_of_place_of c).args.marks) (start_of_place_of c).args.faces.now (start_of_place_of c).args.count
+      (start_of_place_of c).args.words.now (start_of_place_of c).args.origins.now _ _ (at_loop_of_place_of c).loop.origins
+      (at_loop_of_place_of c).loop.k _ _ (in_loop_of_place_of c).loop-test.true c.trace_face-parent.ensures.0
+      c.trace_face-parent.ensures.1 c.place_of-place.ensures (at_loop_of_place_of c).loop.invariant.3,
+)
+
+pub returns : goal.returns
+returns c =
+    let start = start_of_after_loop c in
+    tracing_end (take start.args.radii start.args.marks) start.args.faces.now start.args.count start.args.words.now
+    start.args.origins.now _ _ _ c.loop-k-test.false c.loop-k.invariant.3

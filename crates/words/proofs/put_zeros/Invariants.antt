@@ -1,0 +1,14 @@
+-- `words::put_zeros` meets its contract: the first i bytes are zeros. Assumes nothing.
+use Prim.Native.Nat.{◌-◌, ◌≤◌}
+use mathlib.Core.Path.{◌≡◌, refl, ◌∙◌}
+use lib.ListN.{length, length-set, replicate}
+use lib.Seq.{sets}
+use Rattle.words.proofs.Laws.{zeros_more, zeros_all}
+use borrow.Author.Rules.{rules}
+use Rattle.words.proofs.put_zeros.Given as goal
+
+abbrev pub invariant-loop-i : goal.invariant-loop-i
+invariant-loop-i l = (length l.out ≡ length l.initial.out) × (l.i ≤ l.n) × (l.out ≡ sets l.initial.out 0 (replicate l.i 0))
+
+abbrev pub decreases-loop-i : goal.decreases-loop-i
+decreases-loop-i l = l.n - l.i
