@@ -4,12 +4,12 @@ use mathlib.Core.Bool.{cond}
 use mathlib.Core.Logic.{⊎_elim}
 use lib.Ieee.{lt}
 use Rattle.numbers.specs.Order.{clamp}
-use Rattle.numbers.proofs.clamp.Goals.{Joined-w-lo}
+use Rattle.numbers.proofs.clamp.Goals.{Joined-w-lo, then-w-lo, else-w-lo}
 use Rattle.numbers.proofs.clamp.Goals as goal
 
 -- what the first branch leaves
 raised : (c : Joined-w-lo) → cond (lt c.args.v c.args.lo) c.args.lo c.args.v ≡ c.if-w-lo.w
-raised c = ⊎_elim (λ w. rw w.0.taken (sym w.1)) (λ w. rw w.0.left (sym w.1)) c.if-w-lo.branch
+raised c = elim c.if-w-lo.branch [ then-w-lo w ↦ rw w.if-w-lo.true (sym w.w-is) | else-w-lo w ↦ rw w.if-w-lo.false (sym w.w-is) ]
 
 pub returns-then-w-hi : goal.returns-then-w-hi
 unfolding clamp
