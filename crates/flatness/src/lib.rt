@@ -2,7 +2,7 @@
 #![tactic(auto)]
 
 ghost use Rattle.std.specs.Prelude.{◌≡◌, true, ℕ, ◌*◌, ◌<◌, ◌≤◌, length};
-ghost use Rattle.points.specs.Points.{point_at_lem};
+ghost use Rattle.points.specs.Points.{point_at};
 ghost use Rattle.vector.specs.Inner.Numbers.{Finite};
 ghost use Rattle.flatness.specs.Inner.Flat.{too_small, Flat, AxisFinite, Extent};
 

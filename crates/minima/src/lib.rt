@@ -29,8 +29,8 @@ pub fn renew(base: usize, count: usize, words: &mut [u32], element: usize, value
 // Gives every element g the value count + g.
 fn set_leaves(base: usize, count: usize, words: &mut [u32])
     requires { (count ≤ 4096) × (base + 2 * count ≤ length words.old) }
-    ensures by_index { (g : ℕ) → g < count → leaf base count words.new g ≡ count + g }
-    ensures by_index_2 { (k : ℕ) → (k < base + count) ⊎ (base + 2 * count ≤ k)
+    ensures values { (g : ℕ) → g < count → leaf base count words.new g ≡ count + g }
+    ensures kept { (k : ℕ) → (k < base + count) ⊎ (base + 2 * count ≤ k)
         → get_or words.new k 0 ≡ get_or words.old k 0 }
 {
     let mut g: usize = 0;
@@ -44,7 +44,7 @@ fn set_leaves(base: usize, count: usize, words: &mut [u32])
 fn set_nodes(base: usize, count: usize, words: &mut [u32])
     requires { base + 2 * count ≤ length words.old }
     ensures nodes { Nodes base count words.new }
-    ensures by_index { (k : ℕ) → (k < base) ⊎ (base + count ≤ k)
+    ensures kept { (k : ℕ) → (k < base) ⊎ (base + count ≤ k)
         → get_or words.new k 0 ≡ get_or words.old k 0 }
 {
     let mut k: usize = count;

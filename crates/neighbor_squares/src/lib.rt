@@ -8,9 +8,9 @@ ghost use Rattle.std.specs.Prelude.{◌≡◌, true, false, not, ◌&&◌, ℕ, 
 ghost use Rattle.lists.specs.Members.{Below};
 ghost use Rattle.grid.specs.Inner.Index.{CellsIndexed};
 ghost use Rattle.sorting.specs.Inner.Rising.{Rising};
-ghost use Rattle.points.specs.Points.{point_at_lem};
+ghost use Rattle.points.specs.Points.{point_at};
 ghost use Rattle.vector.specs.Inner.Numbers.{Finite};
-ghost use Rattle.regions.specs.Inner.Regions.{neighbors_at, used_at, least_at_lem, radii_at};
+ghost use Rattle.regions.specs.Inner.Regions.{neighbors_at, used_at, least_at, radii_at};
 ghost use Rattle.neighbor_squares.specs.Inner.Squares.{is_neighbor_cell, within_limit, tenth_of, with_square};
 ghost use Rattle.neighbor_squares.specs.Inner.Squares.{least_squares};
 ghost use Rattle.neighbor_squares.specs.Inner.Squares.{Decided};

@@ -1,7 +1,7 @@
 -- The greedy order: it is an order of the faces, and no order has fewer faces that share no edge with an earlier one.
 -- Assumes nothing.
 use Prim.Native.Nat.{ℕ, zero, suc, ◌+◌, ◌≤◌, ◌<◌}
-use mathlib.Core.Path.{◌≡◌, refl, sym, ap, ◌∙◌}
+use mathlib.Core.Path.{◌≡◌, refl, sym, ap, subst, ◌∙◌}
 use mathlib.Core.Logic.{◌⊎◌, inl, inr, ⊎_elim}
 use mathlib.Core.Bool.{Bool, true, false, not, ◌&&◌}
 use mathlib.Core.List.{List, [], ◌∷◌, ◌++◌}
@@ -53,7 +53,7 @@ unfolding first_or
 first_in p d [] = inl refl
 first_in p d (x ∷ xs) = ⊎_elim
     (λ (t : p x ≡ true). inr (rw (first_yes p d x xs t) (let o : bit (eqb x x) ≡ 1 = ap bit (eq-eqb x x refl) in omega arith)))
-    (λ (t : p x ≡ false). rw (first_no p d x xs t) (⊎_elim
+    (λ (t : p x ≡ false). subst (λ (v : ℕ). (v ≡ d) ⊎ (1 ≤ count (eqb v) (x ∷ xs))) (sym (first_no p d x xs t)) (⊎_elim
     (λ (e : first_or p d xs ≡ d). inl e)
     (λ (m : 1 ≤ count (eqb (first_or p d xs)) xs). inr (omega arith))
     (first_in p d xs)))

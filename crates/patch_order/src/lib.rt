@@ -6,7 +6,7 @@
 ghost use Rattle.std.specs.Prelude.{◌≡◌, length};
 ghost use Rattle.domain.specs.Refusals.{first_refusal};
 ghost use Rattle.patch_order.specs.Ordering.{first_checks, refused_with, OrdersPatch};
-ghost use Rattle.patch_order.specs.Inner.Ready.{too_many_lem, Checked, OrderJudged};
+ghost use Rattle.patch_order.specs.Inner.Ready.{too_many, Checked, OrderJudged};
 
 // The answer's number, 0 where an order was found; the detail, the first malformed line from 1 at refusal 10; how many
 // faces there are, and how many of them share no edge with an earlier one in the order.

@@ -3,7 +3,7 @@ ghost use Rattle.std.specs.Prelude.{◌≡◌, not, ◌&&◌, ◌||◌, ◌<◌,
 ghost use Rattle.std.proofs.Math.Option.{none};
 ghost use Rattle.std.specs.Float.Ieee.{lt};
 ghost use Rattle.numbers.specs.Rounded.{f32};
-ghost use Rattle.points.specs.Points.{point_at_lem};
+ghost use Rattle.points.specs.Points.{point_at};
 ghost use Rattle.grid.specs.Grid.{in_range};
 ghost use Rattle.grid.specs.Inner.Index.{cell_in, Cells, CellsIndexed, earlier};
 ghost use Rattle.spatial_hash.specs.Inner.Near.{Hashed};

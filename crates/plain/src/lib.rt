@@ -5,7 +5,7 @@ mod acceptance;
 mod near;
 
 ghost use Rattle.std.specs.Prelude.{◌≡◌, cond, ◌||◌, [], ◌∷◌, ◌+◌, ◌/◌, ◌≤◌, ◌<◌, length, take, drop, get_or};
-ghost use Rattle.points.specs.Points.{point_at_lem};
+ghost use Rattle.points.specs.Points.{point_at};
 ghost use Rattle.lists.specs.Lists.{up_from};
 ghost use Rattle.vector.specs.Vector.{distance};
 ghost use Rattle.patch.specs.Lay.{face};

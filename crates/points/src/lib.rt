@@ -2,7 +2,7 @@
 #![tactic(auto)]
 
 ghost use Rattle.std.specs.Prelude.{◌≡◌, ◌+◌, ◌*◌, ◌<◌, length};
-ghost use Rattle.points.specs.Points.{point_at_lem};
+ghost use Rattle.points.specs.Points.{point_at};
 
 use vector::Point3f;
 

@@ -3,7 +3,7 @@ ghost use Rattle.std.specs.Prelude.{◌≡◌, map, ◌+◌, ◌≤◌, ◌<◌,
 ghost use Rattle.numbers.specs.Root.{root};
 ghost use Rattle.grid.specs.Inner.Index.{CellsIndexed};
 ghost use Rattle.spatial_hash.specs.Inner.Near.{HashedAll};
-ghost use Rattle.regions.specs.Inner.Regions.{neighbors_at, used_at, least_at_lem, radii_at};
+ghost use Rattle.regions.specs.Inner.Regions.{neighbors_at, used_at, least_at, radii_at};
 ghost use Rattle.radii.specs.Radii.{nearest_distances};
 ghost use Rattle.radii.specs.Inner.Steps.{around_of};
 

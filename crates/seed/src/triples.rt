@@ -5,7 +5,7 @@ ghost use Rattle.grid.specs.Inner.Index.{CellsIndexed};
 ghost use Rattle.spatial_hash.specs.Inner.Near.{Hashed};
 ghost use Rattle.patch.specs.Search.{is_second, is_third, third_of, second_of, first_of};
 ghost use Rattle.lists.specs.Lists.{up_from};
-ghost use Rattle.points.specs.Points.{point_at_lem};
+ghost use Rattle.points.specs.Points.{point_at};
 ghost use Rattle.decisions.specs.Decisions.{is_close, reach, floats_of};
 ghost use Rattle.filters.specs.Inner.Refused.{Limiting};
 ghost use Rattle.nearby.specs.Inner.Ready.{SceneHeld, NeighborsListed, used_in_scene, neighbors_listed, SceneKept};

@@ -3,7 +3,7 @@
 #![tactic(auto)]
 
 ghost use Rattle.std.specs.Prelude.{◌≡◌, ◌+◌, ◌*◌, ◌<◌, length};
-ghost use Rattle.sifting.specs.Inner.Sift.{is_within_lem, PointsListed, Sifted};
+ghost use Rattle.sifting.specs.Inner.Sift.{is_within, PointsListed, Sifted};
 
 use vector::Point3f;
 

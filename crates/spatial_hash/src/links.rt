@@ -1,7 +1,7 @@
 // Chaining the points into buckets. A bucket's word and a point's have the number of the next point plus 1, or 0;
 // a point's that was taken out has a number beyond all others.
 ghost use Rattle.std.specs.Prelude.{◌≡◌, ℕ, ◌+◌, ◌*◌, ◌≤◌, ◌<◌, length, take, get_or, set};
-ghost use Rattle.points.specs.Points.{point_at_lem};
+ghost use Rattle.points.specs.Points.{point_at};
 ghost use Rattle.regions.specs.Inner.Regions.{links_at, starts_at, bucket_room, words_length};
 ghost use Rattle.bucket_order.specs.Inner.Chains.{Chained};
 ghost use Rattle.spatial_hash.specs.Inner.Buckets.{bucket_at, buckets, links_of, is_out};

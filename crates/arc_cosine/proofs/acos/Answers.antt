@@ -13,12 +13,12 @@ returns-then-v c = rw (is_nan_lem, c.if-v.true) (differs_from_itself c.args.v (s
 
 pub returns-then-v-2 : goal.returns-then-v-2
 unfolding acos
-returns-then-v-2 c = rw (is_nan_lem, c.if-v.false, c.if2.true)
+returns-then-v-2 c = rw (is_nan_lem, c.if-v.false, c.if-v-2.true)
 
 pub returns-then-v-3 : goal.returns-then-v-3
 unfolding acos
-returns-then-v-3 c = rw (is_nan_lem, c.if-v.false, c.if2.false, c.if3.true)
+returns-then-v-3 c = rw (is_nan_lem, c.if-v.false, c.if-v-2.false, c.if-v-3.true)
 
 pub returns : goal.returns
 unfolding acos
-returns c = rw (is_nan_lem, c.if-v.false, c.if2.false, c.if3.false) c.acos_inside.ensures
+returns c = rw (is_nan_lem, c.if-v.false, c.if-v-2.false, c.if-v-3.false) c.acos_inside.ensures

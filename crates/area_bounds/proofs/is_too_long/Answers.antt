@@ -14,6 +14,6 @@ returns-then-not-least c = λ h. absurd (subst T (sym h) tt)
 
 pub returns : goal.returns
 returns c =
-    let s = c.before.before in
-    λ h. too_long_is _ _ _ (subst T (sym s.well_formed.1.0.1) tt) (rw (not-false (le tiny s.args.least) c.if-not-least.false) tt)
+    let s = c in
+    λ h. too_long_is _ _ _ (subst T (sym s.well_formed.1.0.1) tt) (rw (c.if-not-least.false) tt)
     (rw (← c.sqrt.ensures, h) tt)

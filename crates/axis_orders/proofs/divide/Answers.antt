@@ -19,7 +19,7 @@ part-requires-2 c =
     let part = c.part in
     let start = c in
     let d = start.requires in
-    (d.axis_is, omega (arith, (order_sizes d.numbers d.orders).1, d.work_enough, part.kept.1.1.1.1.1.1.0))
+    (d.axis_is, omega (arith, (order_sizes d.numbers d.orders).1, d.work_enough, part.auto.work))
 
 pub part-requires-3 : goal.part-requires-3
 part-requires-3 c =
@@ -27,7 +27,7 @@ part-requires-3 c =
     let part = c.part in
     let start = c in
     let d = start.requires in
-    (d.axis_is, omega (arith, (order_sizes d.numbers d.orders).2, d.work_enough, part.kept.1.1.1.1.1.1.0, part2.kept.1.1.1.1.1.1.0))
+    (d.axis_is, omega (arith, (order_sizes d.numbers d.orders).2, d.work_enough, part.auto.work, part2.auto.work))
 
 pub returns : goal.returns
 returns c =
@@ -37,5 +37,5 @@ returns c =
     let coordinate = c.coordinate-at in
     let put_along = c.put_along in
     let start = c in
-    divided start.requires put_along.last.1.0 part.last.1.1.1.1.1.0 part2.last.1.1.1.1.1.0 part3.last.1.1.1.1.1.0 _ _
+    divided start.requires put_along.new.order part.new.list part2.new.list part3.new.list _ _
     put_along.ensures refl coordinate.ensures part.ensures part2.ensures part3.ensures

@@ -11,7 +11,7 @@ put_from-requires c =
     let sift = c.sift-kept in
     let start = c in
     let s = sift in
-    (omega (arith, s.ensures.most, s.kept.1.1.1.1.0), omega (arith, s.kept.1.1.1.1.0, s.kept.1.1.1.1.1.0, start.requires.1))
+    (omega (arith, s.ensures.most, s.auto.list), omega (arith, s.auto.list, s.auto.work, start.requires.1))
 
 pub returns : goal.returns
 returns c =
@@ -19,5 +19,5 @@ returns c =
     let if1 = c.if-own-axis in
     let start = c in
     let s = sift in
-    parted_other _ _ _ start.args.list.now s.last.1.1.1.1.0 s.last.1.1.1.1.1.0 _ _ if1.left s.ensures s.kept.1.1.1.1.0
+    parted_other _ _ _ start.args.list.now s.new.list s.new.work _ _ if1.false s.ensures s.auto.list
     c.put_from.ensures

@@ -10,9 +10,9 @@ returns-then-not-threshold c = λ h. absurd (subst T (sym h) tt)
 
 pub returns : goal.returns
 returns c =
-    let r = c.before.before.before.before.before in
-    let g = r.before.before.before in
-    let s = g.before.before in
+    let r = c in
+    let g = r in
+    let s = g in
     λ h.
     low_by _ s.args.area s.args.e g.least_angle-angle.ensures r.min.ensures r.min-2.ensures r.sqrt-shortest.ensures
     c.sqrt-a.ensures c.sqrt-b.ensures c.sqrt-c.ensures

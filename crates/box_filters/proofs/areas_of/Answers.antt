@@ -5,9 +5,9 @@ use Rattle.box_filters.proofs.areas_of.Goals as goal
 
 pub returns : goal.returns
 returns c =
-    let z = c.before.before in
-    let y = z.before.before.before in
-    let d = y.before.before in
+    let z = c in
+    let y = z in
+    let d = y in
     areas_held _ _ _ d.requires (rw (← y.differences.ensures, ← d.differences-tq.ensures) y.cross_squares-y.ensures)
-    (rw (← z.differences3.ensures, ← z.differences4.ensures) z.cross_squares-z.ensures)
+    (rw (← z.differences-2.ensures, ← z.differences-3.ensures) z.cross_squares-z.ensures)
     c.joined.ensures c.joined-2.ensures

@@ -4,8 +4,8 @@ use Rattle.box_filters.proofs.edges_of.Goals as goal
 
 pub returns : goal.returns
 returns c =
-    let b = c.before.before in
-    let a = b.before.before in
+    let b = c in
+    let a = b in
     record {
       pq_held = rw (← a.differences.ensures) a.magnitudes-pq.ensures;
       pt_held = rw (← b.differences-2.ensures) b.magnitudes-pt.ensures;

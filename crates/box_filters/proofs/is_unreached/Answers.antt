@@ -11,4 +11,4 @@ returns-then-not-is_out_of_reach c = λ h. absurd (subst T (sym h) tt)
 pub returns : goal.returns
 returns c =
     let b = c.is_out_of_reach in
-    λ h. record { beyond = rw (← b.ensures, not-false b.result c.if-not-is_out_of_reach.false) tt; plain = c.is_plain.ensures h }
+    λ h. record { beyond = rw (← b.ensures, c.if-not-is_out_of_reach.false) tt; plain = c.is_plain.ensures h }

@@ -10,7 +10,7 @@ pub returns-then-e : goal.returns-then-e
 returns-then-e c = third_within c.needle_angle-then-e.ensures
 
 pub returns-then-e-3 : goal.returns-then-e-3
-returns-then-e-3 c = second_within c.needle-angle3.ensures
+returns-then-e-3 c = second_within c.needle_angle-then-e-3.ensures
 
 pub returns : goal.returns
-returns c = third_within c.needle-angle4.ensures
+returns c = third_within c.needle_angle-2.ensures

@@ -7,7 +7,7 @@ pub returns-then-area-l : goal.returns-then-area-l
 returns-then-area-l c = λ h. small_areas (rw c.if-area-l.true tt)
 
 pub returns-then-area-l-2 : goal.returns-then-area-l-2
-returns-then-area-l-2 c = λ h. large_areas (rw c.if2.true tt)
+returns-then-area-l-2 c = λ h. large_areas (rw c.if-area-l-2.true tt)
 
 pub returns-then-is_thin_within : goal.returns-then-is_thin_within
 returns-then-is_thin_within c = λ _. thin_edges (c.is_thin_within.ensures c.if-is_thin_within.true)

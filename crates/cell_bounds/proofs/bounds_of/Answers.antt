@@ -5,6 +5,6 @@ use Rattle.cell_bounds.proofs.bounds_of.Goals as goal
 
 pub returns : goal.returns
 returns c =
-    let s = c.before.before.before.before in
+    let s = c in
     holding s.args.grid s.args.cell s.args.range _ _ _ c.interval-x.ensures c.interval-y.ensures
     c.interval-z.ensures

@@ -14,6 +14,6 @@ farthest-z-requires c = c.requires.z_finite
 
 pub returns : goal.returns
 returns c =
-    let s = c.before.before.before in
+    let s = c in
     reaching s.args.bounds s.args.place _ _ _ _ s.requires c.farthest-x.ensures c.farthest-y.ensures
     c.farthest-z.ensures refl

@@ -10,9 +10,9 @@ pub returns-then-x-words : goal.returns-then-x-words
 returns-then-x-words c = let a = c.args in sym (touches_first a.x (face_in a.words.now a.g) (eq-eqb _ _ c.if-x-words.true))
 
 pub returns-then-x-words-2 : goal.returns-then-x-words-2
-returns-then-x-words-2 c = let a = c.args in sym (touches_second a.x (face_in a.words.now a.g) (eq-eqb _ _ c.if2.true))
+returns-then-x-words-2 c = let a = c.args in sym (touches_second a.x (face_in a.words.now a.g) (eq-eqb _ _ c.if-x-words-2.true))
 
 pub returns : goal.returns
 returns c =
     let a = c.args in sym
-    (touches_third a.x (face_in a.words.now a.g) (ne_eqb _ _ c.if-x-words.false) (ne_eqb _ _ c.if2.false))
+    (touches_third a.x (face_in a.words.now a.g) (ne_eqb _ _ c.if-x-words.false) (ne_eqb _ _ c.if-x-words-2.false))

@@ -80,7 +80,7 @@ bounds-words-n-in-loop-s-2 c =
 pub loop-s-preserved : goal.loop-s-preserved
 loop-s-preserved c =
     let l = c.loop-s in
-    let s = c.before.before.before.before in
+    let s = c in
     let a = s.args in (
       simp length-set l.invariant.0,
       search rules,
@@ -90,7 +90,7 @@ loop-s-preserved c =
 pub returns : goal.returns
 returns c =
     let l = c.loop-s in
-    let s = c.before.before in
+    let s = c in
     let a = s.args in
     let e : l.s ≡ 3 * a.count = omega (arith, l.invariant.1) in
     partly_end a.n (3 * a.count) a.words.now s.requires.2 (omega arith) s.requires.3 l.words (rw e at l.invariant.2)

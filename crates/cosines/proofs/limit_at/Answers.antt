@@ -9,7 +9,7 @@ returns-then-is_near c = rw (← c.is_near.ensures, c.if-is_near.true)
 
 pub returns-then-is_near-2 : goal.returns-then-is_near-2
 unfolding limit_at
-returns-then-is_near-2 c = rw (← c.is_near.ensures, c.if-is_near.false, ← c.is_near-2.ensures, c.if2.true)
+returns-then-is_near-2 c = rw (← c.is_near.ensures, c.if-is_near.false, ← c.is_near-2.ensures, c.if-is_near-2.true)
 
 pub returns-then-is_near-3 : goal.returns-then-is_near-3
 unfolding limit_at
@@ -18,9 +18,9 @@ returns-then-is_near-3 c =
       ← c.is_near.ensures,
       c.if-is_near.false,
       ← c.is_near-2.ensures,
-      c.if2.false,
+      c.if-is_near-2.false,
       ← c.is_near-3.ensures,
-      c.if3.true,
+      c.if-is_near-3.true,
     )
 
 pub returns-then-is_near-4 : goal.returns-then-is_near-4
@@ -30,11 +30,11 @@ returns-then-is_near-4 c =
       ← c.is_near.ensures,
       c.if-is_near.false,
       ← c.is_near-2.ensures,
-      c.if2.false,
+      c.if-is_near-2.false,
       ← c.is_near-3.ensures,
-      c.if3.false,
+      c.if-is_near-3.false,
       ← c.is_near-4.ensures,
-      c.if4.true,
+      c.if-is_near-4.true,
     )
 
 pub returns : goal.returns
@@ -44,9 +44,9 @@ returns c =
       ← c.is_near.ensures,
       c.if-is_near.false,
       ← c.is_near-2.ensures,
-      c.if2.false,
+      c.if-is_near-2.false,
       ← c.is_near-3.ensures,
-      c.if3.false,
+      c.if-is_near-3.false,
       ← c.is_near-4.ensures,
-      c.if4.false,
+      c.if-is_near-4.false,
     )

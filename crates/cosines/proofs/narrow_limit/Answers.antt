@@ -6,8 +6,8 @@ use Rattle.cosines.proofs.narrow_limit.Goals as goal
 
 pub returns-then-cosine-2 : goal.returns-then-cosine-2
 returns-then-cosine-2 c =
-    let s = c.before.before in
-    limit_is s.args.cosine (subst T (sym s.well_formed.0.1) tt) (rw c.if-cosine.true tt) (rw c.if2.true tt)
+    let s = c in
+    limit_is s.args.cosine (subst T (sym s.well_formed.0.1) tt) (rw c.if-cosine.true tt) (rw c.if-cosine-2.true tt)
 
 pub returns-else-cosine-2 : goal.returns-else-cosine-2
 returns-else-cosine-2 c = no_limit _

@@ -7,10 +7,10 @@ use Rattle.cosines.proofs.passes.Goals as goal
 
 pub returns-then-is_short : goal.returns-then-is_short
 returns-then-is_short c =
-    let limit = c.before in
-    let short = limit.before.before in
-    let plain = short.before.before in
-    let s = plain.before in
+    let limit = c in
+    let short = limit in
+    let plain = short in
+    let s = plain in
     let a = s.args in
     λ h.
     narrow_is a.al a.ah a.cl a.ch a.bl a.bh a.cross a.limit (subst T (sym s.well_formed.0.1) tt) (subst T (sym s.well_formed.1.1.0.1) tt)

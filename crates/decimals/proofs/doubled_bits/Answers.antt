@@ -6,7 +6,6 @@ use lib.Ieee.Nearest.{closest}
 use Rattle.numbers.proofs.RootPattern.{no_nan_bits}
 use Rattle.decimals.specs.Inner.Ready.{Scaling}
 use Rattle.decimals.proofs.Nearest.{Rounded, number_no_nan, positive, at_most, scaling_start, scaling_more, scaling_next, scaling_end, scaling_no_tie}
-use Rattle.decimals.proofs.doubled_bits.Invariants.{decreases-loop-n, invariant-loop-n}
 use Rattle.decimals.proofs.doubled_bits.Goals.{After-loop-n, After-nearest_quotient, In-loop-n}
 use Rattle.decimals.proofs.doubled_bits.Goals as goal
 
@@ -20,7 +19,7 @@ pub loop-n-init : goal.loop-n-init
 loop-n-init c = scaling_start _ _ c.requires.0 c.requires.1
 
 -- where the loop goes on
-again : (c : In-loop-n invariant-loop-n decreases-loop-n) → c.loop-n.n < 8388608 * c.args.d
+again : (c : In-loop-n) → c.loop-n.n < 8388608 * c.args.d
 again c = let h = c.loop-n-test.true in omega arith
 
 pub overflow_mul-n-in-loop-n : goal.overflow_mul-n-in-loop-n
@@ -36,12 +35,12 @@ pub loop-n-preserved : goal.loop-n-preserved
 loop-n-preserved c = scaling_next _ _ _ _ c.loop-n.invariant (again c)
 
 -- where it ends
-rounded : (c : After-loop-n invariant-loop-n decreases-loop-n)
+rounded : (c : After-loop-n)
     → Rounded c.args.m c.args.d
     (c.loop-n.h * 8388608 + closest c.loop-n.n c.args.d)
 rounded c = scaling_end _ _ _ _ c.loop-n.invariant c.requires.1 (let h = c.loop-n-test.false in omega arith)
 
-pattern : (c : After-nearest_quotient invariant-loop-n decreases-loop-n) → c.loop-n.h * 8388608 + c.nearest_quotient.result < 0x7f800000
+pattern : (c : After-nearest_quotient) → c.loop-n.h * 8388608 + c.nearest_quotient.result < 0x7f800000
 pattern c = let n = (rounded c.before).nearest.number in let e = c.nearest_quotient.ensures in omega arith
 
 pub overflow_mul-result : goal.overflow_mul-result

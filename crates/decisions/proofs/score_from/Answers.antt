@@ -12,7 +12,7 @@ pub returns-then-score_bound-top : goal.returns-then-score_bound-top
 returns-then-score_bound-top c =
     let a = c.args in
     ap score_found (score_bound_lem a.s a.radius a.top a.a a.b a.c a.area c.shape_of-shape.ensures
-    c.score_bound_lem.ensures c.if-score_bound-top.true)
+    c.score_bound.ensures c.if-score_bound-top.true)
 
 pub quality_of-q-requires : goal.quality_of-q-requires
 quality_of-q-requires c =
@@ -24,7 +24,7 @@ returns-then-not-q-top c =
     let a = c.args in
     let q = c.quality_of-q in
     rw (quality_own a.a a.b a.c a.area c.shape_of-shape.ensures q.ensures)
-    (ap score_found (score_low a.s a.radius a.top q.result (not-true (le a.top q.result.quality_score) c.if-not-q-top.true)))
+    (ap score_found (score_low a.s a.radius a.top q.result (c.if-not-q-top.true)))
 
 pub returns-then-not-is_accepted : goal.returns-then-not-is_accepted
 returns-then-not-is_accepted c =
@@ -32,12 +32,12 @@ returns-then-not-is_accepted c =
     let q = c.quality_of-q in
     rw (quality_own a.a a.b a.c a.area c.shape_of-shape.ensures q.ensures)
     (ap score_found (score_refused a.s a.radius a.top q.result
-    (sym c.is_accepted.ensures ∙ not-true c.is_accepted.result c.if-not-is_accepted.true)))
+    (sym c.is_accepted.ensures ∙ c.if-not-is_accepted.true)))
 
 pub returns : goal.returns
 returns c =
     let a = c.args in
     let q = c.quality_of-q in
     rw (quality_own a.a a.b a.c a.area c.shape_of-shape.ensures q.ensures)
-    (ap score_found (score_kept a.s a.radius a.top q.result (not-false (le a.top q.result.quality_score) c.if-not-q-top.false)
-    (sym c.is_accepted.ensures ∙ not-false c.is_accepted.result c.if-not-is_accepted.false)))
+    (ap score_found (score_kept a.s a.radius a.top q.result (c.if-not-q-top.false)
+    (sym c.is_accepted.ensures ∙ c.if-not-is_accepted.false)))

@@ -33,13 +33,13 @@ returns c =
     let start = c in
     let s = start in
     let r = refusal-of-estimate in
-    let zero = if1.left in
+    let zero = if1.false in
     let o = optimal-radius in
     let u = clear-u32 in
     let f = c.clear_f32 in
-    let same : length o.last.1.1.1.1.0 ≡ length s.args.work-f32.now = omega arith in
-    let same-words : length o.last.1.1.1.0 ≡ length s.args.work-u32.now = omega arith in
+    let same : length o.new.f ≡ length s.args.work-f32.now = omega arith in
+    let same-words : length o.new.w ≡ length s.args.work-u32.now = omega arith in
     outcome_passed s.args.points.now s.args.percentile s.args.work-u32.now s.args.work-f32.now r.result r.ensures o.result
-    u.last.0 f.new.w zero o.ensures
+    u.new.w f.new.w zero o.ensures
     (u.ensures ∙ ap (λ (n : ℕ). replicate n 0) same-words)
     (f.ensures ∙ ap (λ (n : ℕ). replicate n (f32 0)) same)

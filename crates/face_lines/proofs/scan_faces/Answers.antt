@@ -10,45 +10,44 @@ use Rattle.patch.specs.Lay.{face}
 use Rattle.face_lines.specs.Format.{line}
 use Rattle.face_lines.proofs.Parts.{line_got, line_not, line_shorter}
 use Rattle.face_lines.proofs.Scanning.{Scanning, scanning_start, scanning_end, scanning_wrong, scanning_next}
-use Rattle.face_lines.proofs.scan_faces.Invariants.{decreases-loop-at, invariant-loop-at}
 use Rattle.face_lines.proofs.scan_faces.Goals.{In-Face-2}
 use Rattle.face_lines.proofs.scan_faces.Goals as goal
 
 -- the line that was read
-read : (c : In-Face-2 invariant-loop-at decreases-loop-at) → line (drop (at_loop_of_a c).loop.at (start_of_a c).args.s.now)
-    ≡ parsed (face c.a.given.0.0 c.a.given.0.1.0 c.a.given.0.1.1.0) (drop c.a.given.0.1.1.1.0 (start_of_a c).args.s.now)
-read c = line_got (start_of_a c).args.s.now _ _ _ _ _ _ c.line_at_lem.ensures c.a.given.1
+read : (c : In-Face-2) → line (drop c.loop-at.at c.args.s.now)
+    ≡ parsed (face c.a.given.0.0 c.a.given.0.1.0 c.a.given.0.1.1.0) (drop c.a.given.0.1.1.1.0 c.args.s.now)
+read c = line_got c.args.s.now _ _ _ _ _ _ c.line_at.ensures c.a.given.1
 
 pub loop-at-init : goal.loop-at-init
 loop-at-init c = scanning_start _ _
 
 pub overflow_add-count : goal.overflow_add-count
-overflow_add-count c = let i = (at_loop_of_is_twice c).loop.invariant.few in
+overflow_add-count c = let i = c.loop-at.invariant.few in
     omega arith
 
 pub loop-at-smaller : goal.loop-at-smaller
 loop-at-smaller c =
-    let loop = (at_loop_of_is_twice c).loop in
-    let start = start_of_is_twice c in
+    let loop = c.loop-at in
+    let start = c in
     let h = line_shorter start.args.s.now loop.at c.a.given.0.1.1.1.0 _ (read c.before.before.before) in
     omega arith
 
 pub loop-at-preserved : goal.loop-at-preserved
 loop-at-preserved c =
-    let loop-test = (in_loop_of_is_twice c).loop-test in
-    let loop = (at_loop_of_is_twice c).loop in
-    scanning_next _ _ _ _ _ _ loop.inv loop-test.taken _ _ _ _ (read c.before.before.before) c.is_outside-outside.ensures c.is_twice-twice.ensures
+    let loop-test = c.loop-at-test in
+    let loop = c.loop-at in
+    scanning_next _ _ _ _ _ _ loop.invariant loop-test.true _ _ _ _ (read c.before.before.before) c.is_outside-outside.ensures c.is_twice-twice.ensures
 
 pub overflow_add-result : goal.overflow_add-result
-overflow_add-result c = let i = (at_loop_of_enum_told c).loop.invariant.few in
+overflow_add-result c = let i = c.loop-at.invariant.few in
     omega arith
 
 pub returns-in-Malformed : goal.returns-in-Malformed
 returns-in-Malformed c =
-    let loop = (at_loop_of_enum_told c).loop in
-    let start = start_of_enum_told c in
-    scanning_wrong _ _ _ _ _ _ loop.inv c.loop-at-test.true
-    (line_not start.args.s.now _ _ c.line_at_lem.ensures c.enum_told.given.1)
+    let loop = c.loop-at in
+    let start = c in
+    scanning_wrong _ _ _ _ _ _ loop.invariant c.loop-at-test.true
+    (line_not start.args.s.now _ _ c.line_at.ensures c.enum_told.given.1)
 
 pub returns : goal.returns
 returns c = scanning_end _ _ _ _ _ _ c.loop-at.invariant c.loop-at-test.false

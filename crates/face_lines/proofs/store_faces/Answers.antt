@@ -11,66 +11,65 @@ use Rattle.face_lines.specs.Format.{line}
 use Rattle.face_lines.specs.Inner.Answers.{Readable}
 use Rattle.face_lines.proofs.Parts.{line_got, line_not, line_shorter}
 use Rattle.face_lines.proofs.Storing.{Storing, storing_start, storing_few, storing_end, storing_never, storing_next}
-use Rattle.face_lines.proofs.store_faces.Invariants.{decreases-loop-at, invariant-loop-at}
 use Rattle.face_lines.proofs.store_faces.Goals.{In-Face-2}
 use Rattle.face_lines.proofs.store_faces.Goals as goal
 
 -- the line that was read
-read : (c : In-Face-2 invariant-loop-at decreases-loop-at) → line (drop (at_loop_of_a c).loop.at (start_of_a c).args.s.now)
-    ≡ parsed (face c.a.given.0.0 c.a.given.0.1.0 c.a.given.0.1.1.0) (drop c.a.given.0.1.1.1.0 (start_of_a c).args.s.now)
-read c = line_got (start_of_a c).args.s.now _ _ _ _ _ _ c.line_at_lem.ensures c.a.given.1
+read : (c : In-Face-2) → line (drop c.loop-at.at c.args.s.now)
+    ≡ parsed (face c.a.given.0.0 c.a.given.0.1.0 c.a.given.0.1.1.0) (drop c.a.given.0.1.1.1.0 c.args.s.now)
+read c = line_got c.args.s.now _ _ _ _ _ _ c.line_at.ensures c.a.given.1
 
 pub loop-at-init : goal.loop-at-init
 loop-at-init c = (refl, λ r. storing_start _ _ r)
 
 pub put_face-requires : goal.put_face-requires
 put_face-requires c =
-    let loop = (at_loop_of_put_face_arg c).loop in
-    let start = start_of_put_face_arg c in
-    let r = start.pre in
-    storing_few _ _ r _ _ _ (loop.inv.1 r)
+    let loop = c.loop-at in
+    let start = c in
+    let r = start.requires in
+    storing_few _ _ r _ _ _ (loop.invariant.1 r)
 
 pub overflow_add-count : goal.overflow_add-count
 overflow_add-count c =
-    let loop = (at_loop_of_slice_known2 c).loop in
-    let start = start_of_slice_known2 c in
-    let r = start.pre in
-    let h = storing_few _ _ r _ _ _ (loop.inv.1 r) in
+    let loop = c.loop-at in
+    let start = c in
+    let r = start.requires in
+    let h = storing_few _ _ r _ _ _ (loop.invariant.1 r) in
     omega arith
 
 pub loop-at-smaller : goal.loop-at-smaller
 loop-at-smaller c =
-    let after-a = a_of_slice_known2 c in
-    let a = (a_of_slice_known2 c).a in
-    let loop = (at_loop_of_slice_known2 c).loop in
-    let start = start_of_slice_known2 c in
+    let after-a = c in
+    let a = c.a in
+    let loop = c.loop-at in
+    let start = c in
     let h = line_shorter start.args.s.now loop.at a.given.0.1.1.1.0 _ (read after-a) in
     omega arith
 
 pub loop-at-preserved : goal.loop-at-preserved
 loop-at-preserved c =
-    let after-a = a_of_slice_known2 c in
-    let loop-test = (in_loop_of_slice_known2 c).loop-test in
-    let loop = (at_loop_of_slice_known2 c).loop in (
-      c.put_face.auto.faces ∙ loop.inv.0,
-      λ r. storing_next _ _ r _ _ _ (loop.inv.1 r) loop-test.taken _ _ _ (read after-a)
+    let after-a = c in
+    let loop-test = c.loop-at-test in
+    let loop = c.loop-at in (
+      c.put_face.auto.faces ∙ loop.invariant.0,
+      λ r. storing_next _ _ r _ _ _ (loop.invariant.1 r) loop-test.true _ _ _ (read after-a)
           c.put_face.ensures,
     )
 
 pub shape_of-words-in-Malformed : goal.shape_of-words-in-Malformed
-shape_of-words-in-Malformed c = (at_loop_of_enum_told c).loop.invariant.0
+shape_of-words-in-Malformed c = c.loop-at.invariant.0
 
 pub returns-in-Malformed : goal.returns-in-Malformed
 returns-in-Malformed c =
-    let loop = (at_loop_of_enum_told c).loop in
-    let start = start_of_enum_told c in
-    let r = start.pre in
-    absurd (storing_never _ _ r _ _ _ (loop.inv.1 r) c.loop-at-test.true
-    (line_not start.args.s.now _ _ c.line_at_lem.ensures c.enum_told.given.1))
+    let loop = c.loop-at in
+    let start = c in
+    let r = start.requires in
+    absurd (storing_never _ _ r _ _ _ (loop.invariant.1 r) c.loop-at-test.true
+    (line_not start.args.s.now _ _ c.line_at.ensures c.enum_told.given.1))
 
 pub shape_of-words : goal.shape_of-words
 shape_of-words c = c.loop-at.invariant.0
 
 pub returns : goal.returns
-returns c = let r = (start_of_after_loop c).requires in
+returns c = let r = c.requires in
     storing_end _ _ r _ _ _ (c.loop-at.invariant.1 r) c.loop-at-test.false

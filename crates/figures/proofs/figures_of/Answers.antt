@@ -8,7 +8,7 @@ use Rattle.figures.proofs.figures_of.Goals as goal
 
 pub returns-then-not-is_sound : goal.returns-then-not-is_sound
 unfolding figures_of
-returns-then-not-is_sound c = rw (← c.is_sound.ensures, not-true c.is_sound.result c.if-not-is_sound.true, c.no_figures.ensures)
+returns-then-not-is_sound c = rw (← c.is_sound.ensures, c.if-not-is_sound.true, c.no_figures.ensures)
 
 pub returns-then-tally-eq0 : goal.returns-then-tally-eq0
 unfolding figures_of

@@ -16,8 +16,8 @@ returns c =
     let x = c.is_long in
     let y = c.is_long-2 in
     λ h. (
-      x.ensures (not-false x.result c.if-not-is_long.false),
+      x.ensures (c.if-not-is_long.false),
       y.ensures
-          (not-false y.result c.if2.false),
+          (c.if-not-is_long-2.false),
       c.is_long-3.ensures h,
     )

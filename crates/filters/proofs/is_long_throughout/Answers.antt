@@ -5,9 +5,9 @@ use Rattle.filters.proofs.is_long_throughout.Goals as goal
 
 pub returns : goal.returns
 returns c =
-    let l = c.before in
-    let d = l.before.before in
-    let x = d.before.before.before in
+    let l = c in
+    let d = l in
+    let x = d in
     let a = x.args in
     λ h.
     long_each a.s a.radius l.long_limit-limit.result l.long_limit-limit.ensures d.distance_squared-first.ensures

@@ -18,14 +18,14 @@ returns-then-not-are_at_most c = λ h. absurd (subst T (sym h) tt)
 
 pub returns : goal.returns
 returns c =
-    let o = c.before in
-    let k = o.before.before.before.before in
-    let d = k.before in
+    let o = c in
+    let k = o in
+    let d = k in
     let n = d.are_numbers in
     let b = d.is_out_of_reach in
     λ h.
-    low_is (f32 0x4c800000) (rw (← b.ensures, not-false b.result d.if-not-is_out_of_reach.false) tt)
+    low_is (f32 0x4c800000) (rw (← b.ensures, d.if-not-is_out_of_reach.false) tt)
     d.distance_squared-first.ensures d.distance_squared-second.ensures d.distance_squared-third.ensures
-    (n.ensures (not-false n.result d.if-not-are_numbers.false))
-    (rw (← k.are_at_most.ensures, not-false k.are_at_most.result o.if-not-are_at_most.false) tt)
+    (n.ensures (d.if-not-are_numbers.false))
+    (rw (← k.are_at_most.ensures, o.if-not-are_at_most.false) tt)
     o.only.ensures o.only-2.ensures o.only-3.ensures (c.is_plain.ensures h)

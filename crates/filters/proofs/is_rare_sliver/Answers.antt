@@ -19,12 +19,12 @@ returns-then-not-is_sliver c = λ h. absurd (subst T (sym h) tt)
 
 pub returns : goal.returns
 returns c =
-    let y = c.before in
-    let x = y.before.before.before.before.before.before.before in
-    let d = x.before in
+    let y = c in
+    let x = y in
+    let d = x in
     let n = d.are_numbers in
     let a = d.args in
     λ h.
-    (c.is_sliver_of.ensures h).is a.p a.q a.t (n.ensures (not-false n.result d.if-not-are_numbers.false))
+    (c.is_sliver_of.ensures h).is a.p a.q a.t (n.ensures (d.if-not-are_numbers.false))
     d.distance_squared-pq.ensures d.distance_squared-pt.ensures d.distance_squared-qt.ensures x.cross_squared-x.ensures
     y.cross_squared-y.ensures y.cross_squared-z.ensures

@@ -10,11 +10,11 @@ pub returns-then-cross-l : goal.returns-then-cross-l
 returns-then-cross-l c = λ h. small (rw (← c.cross_squared-cross.ensures, c.if-cross-l.true) tt)
 
 pub returns-then-cross-l-2 : goal.returns-then-cross-l-2
-returns-then-cross-l-2 c = λ h. large (rw (← c.cross_squared-cross.ensures, c.if3.true) tt)
+returns-then-cross-l-2 c = λ h. large (rw (← c.cross_squared-cross.ensures, c.if-cross-l-2.true) tt)
 
 pub returns : goal.returns
 returns c =
-    let x = c.before.before.before.before.before.before.before in
+    let x = c in
     λ h. thin (rw (
       ← x.cross_squared-cross.ensures,
       ← x.distance_squared-last.ensures,

@@ -15,15 +15,15 @@ returns-then-not-are_at_most-2 c = λ h. absurd (subst T (sym h) tt)
 
 pub returns : goal.returns
 returns c =
-    let o = c.before in
+    let o = c in
     let m = o.are_at_most-2 in
-    let x = o.before.before.before.before.before.before.before in
+    let x = o in
     let k = x.are_at_most in
     λ h.
     record {
       is =
           λ p q t f ex ey ez ea eb ec.
-          sliver_is (f32 0x4c800000) ex ey ez ea eb ec f (rw (← k.ensures, not-false k.result x.if-not-are_at_most.false) tt)
-          (rw (← m.ensures, not-false m.result o.if2.false) tt)
+          sliver_is (f32 0x4c800000) ex ey ez ea eb ec f (rw (← k.ensures, x.if-not-are_at_most.false) tt)
+          (rw (← m.ensures, o.if-not-are_at_most-2.false) tt)
           o.only.ensures o.only-2.ensures o.only-3.ensures (c.is_sliver.ensures h);
     }

@@ -13,11 +13,11 @@ returns-then-not-are_numbers c = λ h. absurd (subst T (sym h) tt)
 
 pub returns : goal.returns
 returns c =
-    let x = c.before in
-    let d = x.before.before.before in
+    let x = c in
+    let d = x in
     let n = d.are_numbers in
     let a = d.args in
     λ h.
-    (c.is_sliver_of.ensures h).is a.p a.q a.t (n.ensures (not-false n.result d.if-not-are_numbers.false))
+    (c.is_sliver_of.ensures h).is a.p a.q a.t (n.ensures (d.if-not-are_numbers.false))
     d.distance_squared-pq.ensures d.distance_squared-pt.ensures d.distance_squared-qt.ensures
     x.cross_squared-x.ensures x.cross_squared-y.ensures x.cross_squared-z.ensures

@@ -4,7 +4,7 @@ use Rattle.filters.proofs.limits_of.Goals as goal
 
 pub returns : goal.returns
 returns c =
-    let d = c.before in
+    let d = c in
     let l = d.least_area in
     record {
       least = l.result;

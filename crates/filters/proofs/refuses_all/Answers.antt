@@ -15,6 +15,6 @@ pub returns : goal.returns
 returns c =
     let a = c.args in
     λ h. record {
-      bounded = rw (← infinite, not-false (lt (a.radius ⊗ f32 0x40000000) (f32 0x3f800000 ⊘ f32 0)) c.if-not-radius.false) tt;
+      bounded = rw (← infinite, c.if-not-radius.false) tt;
       long = c.is_too_long.ensures h;
     }

@@ -5,4 +5,4 @@ use Rattle.intervals.proofs.cross_squares.Goals as goal
 
 pub returns : goal.returns
 returns c =
-    let s = c.before.before in cross_squares_held s.args.v s.args.w c.crosses.ensures c.magnitudes.ensures
+    let s = c in cross_squares_held s.args.v s.args.w c.crosses.ensures c.magnitudes.ensures

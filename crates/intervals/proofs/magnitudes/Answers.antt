@@ -5,5 +5,5 @@ use Rattle.intervals.proofs.magnitudes.Goals as goal
 
 pub returns : goal.returns
 returns c =
-    let o = c.before.before.before.before.before.before in
+    let o = c in
     magnitudes_held o.args.v o.squares-x.ensures o.squares-y.ensures o.squares-z.ensures

@@ -5,12 +5,11 @@ use native.Mathlib.Omega.{arith}
 use mathlib.Core.Bool.{Bool}
 use Rattle.judged.specs.Inner.Triples.{is_beside_both}
 use Rattle.judged.proofs.Triples.{Seeking, seek_start, seek_hit, seek_miss, seek_end}
-use Rattle.judged.proofs.find_third.Invariants.{decreases-loop-m, invariant-loop-m}
 use Rattle.judged.proofs.find_third.Goals.{Start}
 use Rattle.judged.proofs.find_third.Goals as goal
 
 -- what is looked for
-abbrev sought : Start invariant-loop-m decreases-loop-m → ℕ → Bool
+abbrev sought : Start → ℕ → Bool
 sought a = let x = a.args in is_beside_both x.s x.points.now x.radius x.i x.j
 
 pub loop-m-init : goal.loop-m-init
@@ -18,22 +17,22 @@ loop-m-init c = let a = c.before.before in seek_start (sought a) a.requires.0.he
 
 pub listed_point-k-requires : goal.listed_point-k-requires
 listed_point-k-requires c =
-    let a = start_of_in_loop c in
-    (a.pre.0.held.few, a.pre.0.held.work_long, a.pre.1, c.loop-m-test.true)
+    let a = c in
+    (a.requires.0.held.few, a.requires.0.held.work_long, a.requires.1, c.loop-m-test.true)
 
 pub overflow_add-m : goal.overflow_add-m
 overflow_add-m c =
-    let a = start_of_listed_point c in
-    omega (arith, c.loop-m-test.true, a.pre.1.most, a.pre.0.held.few)
+    let a = c in
+    omega (arith, c.loop-m-test.true, a.requires.1.most, a.requires.0.held.few)
 
 pub is_beside_both-requires : goal.is_beside_both-requires
-is_beside_both-requires c = let a = start_of_listed_point c in
-    (a.pre.0, a.pre.2, c.listed_point-k.ensures.1)
+is_beside_both-requires c = let a = c in
+    (a.requires.0, a.requires.2, c.listed_point-k.ensures.1)
 
 pub returns-then-is_beside_both : goal.returns-then-is_beside_both
 returns-then-is_beside_both c =
-    let p = c.before.before in
-    let l = p.before.before in
+    let p = c in
+    let l = p in
     seek_hit (sought l.before.before.before) l.loop-m.invariant p.loop-m-test.true p.listed_point-k.ensures.0
     c.is_beside_both.ensures c.if-is_beside_both.true
 
@@ -42,10 +41,10 @@ loop-m-smaller c = omega (arith, c.loop-m-test.true)
 
 pub loop-m-preserved : goal.loop-m-preserved
 loop-m-preserved c =
-    let p = c.before.before in
-    let l = p.before.before in
+    let p = c in
+    let l = p in
     seek_miss (sought l.before.before.before) l.loop-m.invariant p.loop-m-test.true p.listed_point-k.ensures.0
     c.is_beside_both.ensures c.if-is_beside_both.false
 
 pub returns : goal.returns
-returns c = let l = c.before in seek_end (sought l.before.before.before) l.loop-m.invariant c.loop-m-test.false
+returns c = let l = c in seek_end (sought l.before.before.before) l.loop-m.invariant c.loop-m-test.false

@@ -9,7 +9,7 @@ is_beside-requires c = (c.requires.0, c.requires.2)
 
 pub returns-then-not-is_beside : goal.returns-then-not-is_beside
 unfolding has_third
-returns-then-not-is_beside c = rw (sym c.is_beside_lem.ensures, not-true c.is_beside_lem.result c.if-not-is_beside.true)
+returns-then-not-is_beside c = rw (sym c.is_beside.ensures, c.if-not-is_beside.true)
 
 pub find_third-requires : goal.find_third-requires
 find_third-requires c = c.requires
@@ -17,4 +17,4 @@ find_third-requires c = c.requires
 pub returns : goal.returns
 unfolding has_third
 returns c =
-    rw (sym c.is_beside_lem.ensures, not-false c.is_beside_lem.result c.if-not-is_beside.false) c.find_third.ensures
+    rw (sym c.is_beside.ensures, c.if-not-is_beside.false) c.find_third.ensures

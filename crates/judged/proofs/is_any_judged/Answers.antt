@@ -21,23 +21,23 @@ is_first-requires c =
 
 pub shape_of-w-then-is_first : goal.shape_of-w-then-is_first
 shape_of-w-then-is_first c =
-    c.is_first.auto.w ∙ (at_loop_of_then2 c).loop.invariant.words
+    c.is_first.auto.w ∙ c.loop-i.invariant.words
 
 pub returns-then-is_first : goal.returns-then-is_first
 returns-then-is_first c = ask_some c.is_first.ensures.0 c.if-is_first.true
 
 pub overflow_add-i : goal.overflow_add-i
 overflow_add-i c =
-    let loop-test = (in_loop_of_else2 c).loop-test in
-    let loop = (at_loop_of_else2 c).loop in
-    omega (arith, loop-test.taken, loop.inv.fresh.held.few)
+    let loop-test = c.loop-i-test in
+    let loop = c.loop-i in
+    omega (arith, loop-test.true, loop.invariant.fresh.held.few)
 
 pub loop-i-smaller : goal.loop-i-smaller
-loop-i-smaller c = omega (arith, (in_loop_of_else2 c).loop-test.true)
+loop-i-smaller c = omega (arith, c.loop-i-test.true)
 
 pub loop-i-preserved : goal.loop-i-preserved
 loop-i-preserved c =
-    ask_next (at_loop_of_else2 c).loop.invariant c.is_first.new.w c.is_first.ensures.0
+    ask_next c.loop-i.invariant c.is_first.new.w c.is_first.ensures.0
     c.if-is_first.false c.is_first.ensures.1 c.is_first.auto.w
 
 pub shape_of-w : goal.shape_of-w

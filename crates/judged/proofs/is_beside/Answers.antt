@@ -41,5 +41,5 @@ returns c =
     rw (
       ne_eqb a.i a.k c.if-i-k.false,
       sym (near_is start.requires.0 start.requires.1 c.is_near.ensures),
-      not-false c.is_near.result c.if-not-is_near.false,
+      c.if-not-is_near.false,
     ) c.is_close.ensures

@@ -17,7 +17,7 @@ pub returns-then-not-is_beside : goal.returns-then-not-is_beside
 unfolding is_beside_both
 returns-then-not-is_beside c =
     let a = c.args in
-    rw (ne_eqb a.j a.k c.if-j-k.false, sym c.is_beside_lem.ensures, not-true c.is_beside_lem.result c.if-not-is_beside.true)
+    rw (ne_eqb a.j a.k c.if-j-k.false, sym c.is_beside.ensures, c.if-not-is_beside.true)
 
 pub is_close-requires : goal.is_close-requires
 is_close-requires c =
@@ -30,7 +30,7 @@ returns c =
     let a = c.args in
     rw (
       ne_eqb a.j a.k c.if-j-k.false,
-      sym c.is_beside_lem.ensures,
+      sym c.is_beside.ensures,
       not-false
-          c.is_beside_lem.result c.if-not-is_beside.false,
+          c.is_beside.result c.if-not-is_beside.false,
     ) c.is_close.ensures

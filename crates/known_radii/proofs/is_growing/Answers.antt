@@ -11,4 +11,4 @@ returns-then-not-is_number c = λ h. absurd (subst T (sym h) tt)
 pub returns : goal.returns
 returns c =
     let f = c.is_number in
-    λ h. record { radius = c.is_number-2.ensures h; factor = f.ensures (not-false f.result c.if-not-is_number.false) }
+    λ h. record { radius = c.is_number-2.ensures h; factor = f.ensures (c.if-not-is_number.false) }

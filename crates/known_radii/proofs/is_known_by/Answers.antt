@@ -9,4 +9,4 @@ pub returns-then-not-told : goal.returns-then-not-told
 returns-then-not-told c = λ h. absurd (subst T (sym h) tt)
 
 pub returns : goal.returns
-returns c = λ h. (not-false c.args.told c.if-not-told.false, c.is_known.ensures h)
+returns c = λ h. (c.if-not-told.false, c.is_known.ensures h)

@@ -28,6 +28,6 @@ returns c =
     let g = c.is_growing in
     let e = c.is_exhausted in (
       λ h. larger_nothing a.p.scene a.points.now (used_in_scene a.p.scene a.w.now) a.largest
-          (g.ensures (not-false g.result c.if-not-is_growing.false)) (e.ensures.0 h),
+          (g.ensures (c.if-not-is_growing.false)) (e.ensures.0 h),
       e.ensures.1,
     )

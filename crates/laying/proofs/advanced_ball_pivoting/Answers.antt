@@ -15,87 +15,87 @@ pub is_flat-flat-requires : goal.is_flat-flat-requires
 is_flat-flat-requires c = let g = c.requires.0 in (g.some, g.held.few, g.held.points_long, g.hashed.linked.ready.numbers)
 
 pub last_of-largest-requires : goal.last_of-largest-requires
-last_of-largest-requires c = (start_of_is_flat c).requires.1
+last_of-largest-requires c = c.requires.1
 
 pub begin-c-requires : goal.begin-c-requires
-begin-c-requires c = let g = (start_of_begin_arg c).requires.0 in
+begin-c-requires c = let g = c.requires.0 in
     record { some = g.some; few = g.held.few; long = g.held.work_long }
 
 pub loop-i-init : goal.loop-i-init
 loop-i-init c =
-    let start = start_of_slice_known3 c in
+    let start = c in
     let a = start.args in (
-      cover_start start.pre.0 c.begin-c.ensures.0 c.begin-c.ensures.1,
+      cover_start start.requires.0 c.begin-c.ensures.0 c.begin-c.ensures.1,
       nothing_yet a.s a.points.now
           (used_in_scene a.s c.begin-c.new.w),
       marks_start a.rule a.s a.points.now a.t3,
     )
 
 pub offset_bounds-radii-i : goal.offset_bounds-radii-i
-offset_bounds-radii-i c = omega (arith, c.loop-i-test.true, (start_of_in_loop c).requires.1)
+offset_bounds-radii-i c = omega (arith, c.loop-i-test.true, c.requires.1)
 
 pub bounds-radii-i : goal.bounds-radii-i
-bounds-radii-i c = omega (arith, c.loop-i-test.true, (start_of_in_loop c).requires.1)
+bounds-radii-i c = omega (arith, c.loop-i-test.true, c.requires.1)
 
 pub lay_one-laid-requires : goal.lay_one-laid-requires
 lay_one-laid-requires c =
-    let loop = (at_loop_of_lay_one_arg2 c).loop in
-    let is-flat = (is_flat_of_lay_one_arg2 c).is-flat in
-    let start = start_of_lay_one_arg2 c in
+    let loop = c.loop-i in
+    let is-flat = c.is_flat-flat in
+    let start = c in
     let a = start.args in
     let l = loop in (
-      between_radii l.inv.0,
+      between_radii l.invariant.0,
       λ h. known_nothing a.s a.points.now (used_in_scene a.s l.w) (c.is_known-known.ensures h) is-flat.ensures
-          l.inv.1,
-      l.inv.1,
+          l.invariant.1,
+      l.invariant.1,
     )
 
 pub offset_bounds-marks-i : goal.offset_bounds-marks-i
 offset_bounds-marks-i c =
-    let loop-test = (in_loop_of_c c).loop-test in
-    let start = start_of_c c in
-    omega (arith, loop-test.taken, start.pre.1)
+    let loop-test = c.loop-i-test in
+    let start = c in
+    omega (arith, loop-test.true, start.requires.1)
 
 pub bounds-marks-i : goal.bounds-marks-i
 bounds-marks-i c =
-    let loop-test = (in_loop_of_c c).loop-test in
-    let start = start_of_c c in
-    omega (arith, loop-test.taken, start.pre.1)
+    let loop-test = c.loop-i-test in
+    let start = c in
+    omega (arith, loop-test.true, start.requires.1)
 
 pub overflow_add-i : goal.overflow_add-i
 overflow_add-i c =
-    let loop-test = (in_loop_of_c c).loop-test in
-    let start = start_of_c c in
-    omega (arith, loop-test.taken, start.pre.1)
+    let loop-test = c.loop-i-test in
+    let start = c in
+    omega (arith, loop-test.true, start.requires.1)
 
 pub loop-i-smaller : goal.loop-i-smaller
-loop-i-smaller c = omega (arith, (in_loop_of_c c).loop-test.true)
+loop-i-smaller c = omega (arith, c.loop-i-test.true)
 
 pub loop-i-preserved : goal.loop-i-preserved
 loop-i-preserved c =
-    let lay-one = (lay_one_of_c c).lay-one in
-    let loop-test = (in_loop_of_c c).loop-test in
-    let loop = (at_loop_of_c c).loop in
-    let start = start_of_c c in
+    let lay-one = c.lay_one-laid in
+    let loop-test = c.loop-i-test in
+    let loop = c.loop-i in
+    let start = c in
     let l = loop in
     let o = lay-one in
-    let t = loop-test.taken in
-    let on = cover_step l.inv.0 _ t (omega (arith, start.good.1.1.0.1.0.1, t, start.pre.1)) o.ensures.0 o.kept.1.1.0 in (
+    let t = loop-test.true in
+    let on = cover_step l.invariant.0 _ t (omega (arith, start.well_formed.1.1.0.1.0.1, t, start.requires.1)) o.ensures.0 o.auto.faces in (
       on,
       o.ensures.1,
-      marks_step l.marks on (omega (arith, t, start.pre.1)) (omega (arith, start.good.1.1.0.1.0.1, t, start.pre.1)) l.inv.2,
+      marks_step l.marks on (omega (arith, t, start.requires.1)) (omega (arith, start.well_formed.1.1.0.1.0.1, t, start.requires.1)) l.invariant.2,
     )
 
 pub shape_of-faces : goal.shape_of-faces
 shape_of-faces c = c.loop-i.invariant.0.face_words
 
 pub shape_of-w : goal.shape_of-w
-shape_of-w c = c.loop-i.invariant.0.words ∙ (begin_of_after_loop c).begin.auto.0
+shape_of-w c = c.loop-i.invariant.0.words ∙ c.begin-c.auto.w
 
 pub returns : goal.returns
 returns c = (
   cover_end c.loop-i.invariant.0 c.loop-i-test.false,
   c.loop-i.invariant.0.searchable,
   marks_end c.loop-i.marks
-      (start_of_after_loop c).args.count c.loop-i.invariant.0.inside c.loop-i-test.false c.loop-i.invariant.2,
+      c.args.count c.loop-i.invariant.0.inside c.loop-i-test.false c.loop-i.invariant.2,
 )

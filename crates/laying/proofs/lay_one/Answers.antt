@@ -37,9 +37,9 @@ remove_three-requires c =
     let t = search_of f in
     let s = start_of t in
     let g = free_seed s.args.p.rule s.args.p.radius s.pre.0 t.clear.ensures t.find-seed-triangle.ensures.0
-    t.find-seed-triangle.ensures.1 t.find-seed-triangle.kept.1.1.0 f.seed.given.1 in (
+    t.find-seed-triangle.ensures.1 t.find-seed-triangle.auto.1.1.0 f.seed.given.1 in (
       (searched s.args.p.rule s.args.p.radius s.pre.0 t.clear.ensures t.find-seed-triangle.ensures.0
-          t.find-seed-triangle.ensures.1 t.find-seed-triangle.kept.1.1.0).hashed.linked,
+          t.find-seed-triangle.ensures.1 t.find-seed-triangle.auto.1.1.0).hashed.linked,
       g.first.below,
       g.second.below,
       g.third.below,
@@ -54,7 +54,7 @@ overflow_cast-i c =
     omega (
       arith,
       (free_seed s.args.p.rule s.args.p.radius s.pre.0 t.clear.ensures t.find-seed-triangle.ensures.0
-          t.find-seed-triangle.ensures.1 t.find-seed-triangle.kept.1.1.0 f.seed.given.1).first.below,
+          t.find-seed-triangle.ensures.1 t.find-seed-triangle.auto.1.1.0 f.seed.given.1).first.below,
       s.pre.0.searchable.held.few,
     )
 
@@ -67,7 +67,7 @@ overflow_cast-j c =
     omega (
       arith,
       (free_seed s.args.p.rule s.args.p.radius s.pre.0 t.clear.ensures t.find-seed-triangle.ensures.0
-          t.find-seed-triangle.ensures.1 t.find-seed-triangle.kept.1.1.0 f.seed.given.1).second.below,
+          t.find-seed-triangle.ensures.1 t.find-seed-triangle.auto.1.1.0 f.seed.given.1).second.below,
       s.pre.0.searchable.held.few,
     )
 
@@ -80,7 +80,7 @@ overflow_cast-k c =
     omega (
       arith,
       (free_seed s.args.p.rule s.args.p.radius s.pre.0 t.clear.ensures t.find-seed-triangle.ensures.0
-          t.find-seed-triangle.ensures.1 t.find-seed-triangle.kept.1.1.0 f.seed.given.1).third.below,
+          t.find-seed-triangle.ensures.1 t.find-seed-triangle.auto.1.1.0 f.seed.given.1).third.below,
       s.pre.0.searchable.held.few,
     )
 
@@ -91,7 +91,7 @@ lay_seed-first-requires c =
     let t = search_of f in
     let s = start_of t in
     seed_room s.args.p.rule s.args.p.radius s.pre.0 t.clear.ensures t.find-seed-triangle.ensures.0
-    t.find-seed-triangle.ensures.1 t.find-seed-triangle.kept.1.1.0 f.seed.given.1 r.remove_three.ensures r.remove_three.kept.1.0
+    t.find-seed-triangle.ensures.1 t.find-seed-triangle.auto.1.1.0 f.seed.given.1 r.remove_three.ensures r.remove_three.auto.w
 
 pub run-last-requires : goal.run-last-requires
 run-last-requires c =
@@ -101,7 +101,7 @@ run-last-requires c =
     let t = search_of f in
     let s = start_of t in
     seed_between_looks s.args.p.rule s.args.p.radius s.pre.0 t.clear.ensures t.find-seed-triangle.ensures.0
-    t.find-seed-triangle.ensures.1 t.find-seed-triangle.kept.1.1.0 f.seed.given.1 r.remove-three.ensures r.remove-three.kept.1.0
+    t.find-seed-triangle.ensures.1 t.find-seed-triangle.auto.1.1.0 f.seed.given.1 r.remove-three.ensures r.remove-three.auto.1.0
     l.lay_seed-first.ensures.0 l.lay_seed-first.ensures.1
 
 pub shape_of-w-in-Triangle : goal.shape_of-w-in-Triangle
@@ -113,7 +113,7 @@ shape_of-w-in-Triangle c =
     let t = search_of f in
     let s = start_of t in
     (seed_laid s.args.p.rule s.args.p.radius s.pre.0 t.clear.ensures t.find-seed-triangle.ensures.0
-    t.find-seed-triangle.ensures.1 t.find-seed-triangle.kept.1.1.0 f.seed.given.1 r.remove-three.ensures r.remove-three.kept.1.0
+    t.find-seed-triangle.ensures.1 t.find-seed-triangle.auto.1.1.0 f.seed.given.1 r.remove-three.ensures r.remove-three.auto.1.0
     l.lay-seed.ensures.0 l.lay-seed.ensures.1 u.run-last.ensures).length_same
 
 pub returns-in-Triangle : goal.returns-in-Triangle
@@ -125,11 +125,11 @@ returns-in-Triangle c =
     let t = search_of f in
     let s = start_of t in (
       seed_laid s.args.p.rule s.args.p.radius s.pre.0 t.clear.ensures t.find-seed-triangle.ensures.0
-          t.find-seed-triangle.ensures.1 t.find-seed-triangle.kept.1.1.0 f.seed.given.1 r.remove-three.ensures
-          r.remove-three.kept.1.0
+          t.find-seed-triangle.ensures.1 t.find-seed-triangle.auto.1.1.0 f.seed.given.1 r.remove-three.ensures
+          r.remove-three.auto.1.0
           l.lay-seed.ensures.0 l.lay-seed.ensures.1 u.run-last.ensures,
       nothing_yet s.args.p.scene s.args.points.now
-          (used_in_scene s.args.p.scene u.run-last.last.1.1.1.0),
+          (used_in_scene s.args.p.scene u.run-last.new.w),
     )
 
 pub returns-in-Nothing : goal.returns-in-Nothing
@@ -137,7 +137,7 @@ returns-in-Nothing c =
     let t = c in
     let s = start_of t in (
       no_seed s.args.p.rule s.args.p.radius s.pre.0 t.clear-c.ensures t.find_seed_triangle-search.ensures.0
-          t.find_seed_triangle-search.ensures.1 t.find_seed_triangle-search.kept.1.1.0 c.enum_told.given.1,
+          t.find_seed_triangle-search.ensures.1 t.find_seed_triangle-search.auto.w c.enum_told.given.1,
       nothing_kept {s = s.args.p.scene}
           s.args.points.now t.find_seed_triangle-search.result.upto t.find_seed_triangle-search.ensures.1 t.find_seed_triangle-search.ensures.3,
     )

@@ -24,7 +24,7 @@ returns-then-entry c =
 
 pub pivot_over-requires : goal.pivot_over-requires
 pivot_over-requires c =
-    let e = c.before.before in
+    let e = c in
     let i = e.before in
     let p = pop_of_lem i in
     let s = start_of p in
@@ -33,9 +33,9 @@ pivot_over-requires c =
 pub returns : goal.returns
 returns c =
     let o = c in
-    let e = o.before.before.before in
+    let e = o in
     let i = e.before in
     let p = pop_of_lem i in
     let s = start_of p in
     looked_over s.args.p.rule s.args.p.radius s.pre.0 s.pre.1 p.pop.ensures.0 p.pop.ensures.1 i.read_entry-entry.ensures
-    e.if-entry.left o.pivot_over.ensures
+    e.if-entry.false o.pivot_over.ensures

@@ -27,9 +27,9 @@ remove-requires c =
     let t = search_of f in
     let s = start_of t in (
       (searched s.args.p.radius s.pre t.try-ball-pivot.ensures.0 t.try-ball-pivot.ensures.1
-          t.try-ball-pivot.kept.1.1.0).hashed.linked,
+          t.try-ball-pivot.auto.1.1.0).hashed.linked,
       (free_point s.args.p.radius s.pre t.try-ball-pivot.ensures.0
-          t.try-ball-pivot.ensures.1 t.try-ball-pivot.kept.1.1.0 f.found.given.1).below,
+          t.try-ball-pivot.ensures.1 t.try-ball-pivot.auto.1.1.0 f.found.given.1).below,
     )
 
 pub overflow_cast-k : goal.overflow_cast-k
@@ -37,7 +37,7 @@ overflow_cast-k c =
     let f = found_of c in
     let t = search_of f in
     let s = start_of t in
-    let h = free_point s.args.p.radius s.pre t.try-ball-pivot.ensures.0 t.try-ball-pivot.ensures.1 t.try-ball-pivot.kept.1.1.0
+    let h = free_point s.args.p.radius s.pre t.try-ball-pivot.ensures.0 t.try-ball-pivot.ensures.1 t.try-ball-pivot.auto.1.1.0
     f.found.given.1 in
     omega (arith, h.below, s.pre.searchable.held.few)
 
@@ -47,8 +47,8 @@ lay_pivot-requires c =
     let f = found_of r in
     let t = search_of f in
     let s = start_of t in
-    pivot_room s.args.p.radius s.pre t.try-ball-pivot.ensures.0 t.try-ball-pivot.ensures.1 t.try-ball-pivot.kept.1.1.0
-    f.found.given.1 r.remove.ensures r.remove.kept.1.0
+    pivot_room s.args.p.radius s.pre t.try-ball-pivot.ensures.0 t.try-ball-pivot.ensures.1 t.try-ball-pivot.auto.1.1.0
+    f.found.given.1 r.remove.ensures r.remove.auto.w
 
 pub miss-requires : goal.miss-requires
 miss-requires c =
@@ -63,12 +63,12 @@ returns-in-To c =
     let f = found_of r in
     let t = search_of f in
     let s = start_of t in
-    pivot_laid s.args.p.radius s.pre t.try-ball-pivot.ensures.0 t.try-ball-pivot.ensures.1 t.try-ball-pivot.kept.1.1.0
-    f.found.given.1 r.remove.ensures r.remove.kept.1.0 p.lay_pivot.ensures.0 p.lay_pivot.ensures.1
+    pivot_laid s.args.p.radius s.pre t.try-ball-pivot.ensures.0 t.try-ball-pivot.ensures.1 t.try-ball-pivot.auto.1.1.0
+    f.found.given.1 r.remove.ensures r.remove.auto.w p.lay_pivot.ensures.0 p.lay_pivot.ensures.1
 
 pub returns-in-Nowhere : goal.returns-in-Nowhere
 returns-in-Nowhere c =
     let t = c in
     let s = start_of t in
-    pivot_missed s.args.p.radius s.pre t.try_ball_pivot-found.ensures.0 t.try_ball_pivot-found.ensures.1 t.try_ball_pivot-found.kept.1.1.0
+    pivot_missed s.args.p.radius s.pre t.try_ball_pivot-found.ensures.0 t.try_ball_pivot-found.ensures.1 t.try_ball_pivot-found.auto.w
     c.enum_told.given.1 c.miss.ensures

@@ -5,25 +5,25 @@ use Rattle.laying.proofs.run.Goals as goal
 
 pub loop-c-init : goal.loop-c-init
 loop-c-init c =
-    let s = c.before.before.before in
+    let s = c in
     run_start s.requires
 
 pub look-c-requires : goal.look-c-requires
-look-c-requires c = ((at_loop_of_look_arg2 c).loop.invariant.between_looks, c.loop-c-test.true)
+look-c-requires c = (c.loop-c.invariant.between_looks, c.loop-c-test.true)
 
 pub loop-c-smaller : goal.loop-c-smaller
 loop-c-smaller c =
-    let o = look_of_slice_known4 c in
-    let t = o.before.before.before in
-    let l = t.before.before in
-    run_less l.loop.inv t.if1.taken o.look.ensures
+    let o = c in
+    let t = o in
+    let l = t in
+    run_less l.loop-c.invariant t.loop-c-test.true o.look-c.ensures
 
 pub loop-c-preserved : goal.loop-c-preserved
 loop-c-preserved c =
-    let o = look_of_slice_known4 c in
-    let t = o.before.before.before in
-    let l = t.before.before in
-    run_step l.loop.inv t.if1.taken o.look.ensures o.look.kept.1.1.0
+    let o = c in
+    let t = o in
+    let l = t in
+    run_step l.loop-c.invariant t.loop-c-test.true o.look-c.ensures o.look-c.auto.faces
 
 pub shape_of-faces : goal.shape_of-faces
 shape_of-faces c = c.loop-c.invariant.face_words
@@ -33,5 +33,5 @@ shape_of-w c = c.loop-c.invariant.lays.length_same
 
 pub returns : goal.returns
 returns c =
-    let l = c.before.before in
+    let l = c in
     run_end l.loop-c.invariant c.loop-c-test.false

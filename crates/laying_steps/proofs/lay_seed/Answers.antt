@@ -5,10 +5,10 @@ use Rattle.laying_steps.proofs.lay_seed.Goals as goal
 
 pub returns : goal.returns
 returns c =
-    let p = c.before.before.before in
-    let m = p.before.before.before.before.before in
-    let f = m.before.before.before.before in
-    let s = f.before.before.before.before in
+    let p = c in
+    let m = p in
+    let f = m in
+    let s = f in
     let pushed = p.add_triangle_edges_to_frontier in
     let marked = m.mark_seed in
     let wrote = f.put_face in (

@@ -4,4 +4,4 @@ use borrow.Author.Rules.{rules}
 use Rattle.laying_steps.proofs.miss.Goals as goal
 
 pub returns : goal.returns
-returns c = let s = c.before in miss_takes s.args.c
+returns c = let s = c in miss_takes s.args.c

@@ -8,5 +8,5 @@ use Rattle.laying_steps.proofs.pop_queue.Goals as goal
 
 pub returns : goal.returns
 returns c =
-    let s = c.before.before.before in
+    let s = c in
     queue_takes s.args.n s.args.c s.args.w.now _ s.requires.1 refl

@@ -13,7 +13,7 @@ pub bounds-faces-i-then-i-faces-2 : goal.bounds-faces-i-then-i-faces-2
 bounds-faces-i-then-i-faces-2 c = simp length-set (omega arith)
 
 pub returns-then-i-faces : goal.returns-then-i-faces
-returns-then-i-faces c = let s = c.before in wrote_more s.args.count s.args.a s.args.b s.args.k s.args.faces.now c.if-i-faces.true
+returns-then-i-faces c = let s = c in wrote_more s.args.count s.args.a s.args.b s.args.k s.args.faces.now c.if-i-faces.true
 
 pub returns-else-i-faces : goal.returns-else-i-faces
-returns-else-i-faces c = let s = c.before in wrote_full s.args.count s.args.a s.args.b s.args.k s.args.faces.now c.if-i-faces.false
+returns-else-i-faces c = let s = c in wrote_full s.args.count s.args.a s.args.b s.args.k s.args.faces.now c.if-i-faces.false

@@ -7,12 +7,12 @@ use Rattle.listing.proofs.put_listing.Goals as goal
 -- TODO slice_aggregate_put_text
 -- slice_aggregate_put_text : goal.Need-slice-aggregate-put-text
 -- slice_aggregate_put_text c = search rules
--- 
+--
 
 -- TODO slice_aggregate_put_text_2
 -- slice_aggregate_put_text_2 : goal.Need-slice-aggregate-put-text-2
 -- slice_aggregate_put_text_2 c = search rules
--- 
+--
 
 pub returns : goal.returns
 unfolding text

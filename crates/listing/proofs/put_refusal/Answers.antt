@@ -7,7 +7,7 @@ use Rattle.listing.proofs.put_refusal.Goals as goal
 -- TODO slice_aggregate_put_text
 -- slice_aggregate_put_text : goal.Need-slice-aggregate-put-text
 -- slice_aggregate_put_text c = search rules
--- 
+--
 
 pub returns : goal.returns
 unfolding text

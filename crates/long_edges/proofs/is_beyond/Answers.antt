@@ -6,14 +6,14 @@ use Rattle.long_edges.proofs.is_beyond.Goals as goal
 pub returns-then-is_between-2 : goal.returns-then-is_between-2
 unfolding is_beyond
 returns-then-is_between-2 c =
-    let first = c.before.before.before in
-    rw (← first.is_between.ensures, c.if-is_between.true, ← c.is_between-then-is_between.ensures, c.if2.true)
+    let first = c in
+    rw (← first.is_between.ensures, c.if-is_between.true, ← c.is_between-then-is_between.ensures, c.if-is_between-2.true)
 
 pub returns-else-is_between-2 : goal.returns-else-is_between-2
 unfolding is_beyond
 returns-else-is_between-2 c =
-    let first = c.before.before.before in
-    rw (← first.is_between.ensures, c.if-is_between.true, ← c.is_between-then-is_between.ensures, c.if2.false)
+    let first = c in
+    rw (← first.is_between.ensures, c.if-is_between.true, ← c.is_between-then-is_between.ensures, c.if-is_between-2.false)
 
 pub returns-else-is_between : goal.returns-else-is_between
 unfolding is_beyond

@@ -11,10 +11,10 @@ returns-then-not-is_beyond c = λ h. absurd (subst T (sym h) tt)
 
 pub returns : goal.returns
 returns c =
-    let x = c.before.before in
+    let x = c in
     let a = x.args in
     λ h.
     long_is a.a a.b a.c a.cross a.limit x.min-short.result x.max-long.result
     (rw (← x.min.ensures) x.min-short.ensures)
     (rw (← x.max.ensures) x.max-long.ensures)
-    (rw (← c.is_plain.ensures, h) tt) (rw (← x.is_beyond.ensures, not-false x.is_beyond.result c.if-not-is_beyond.false) tt)
+    (rw (← c.is_plain.ensures, h) tt) (rw (← x.is_beyond.ensures, c.if-not-is_beyond.false) tt)

@@ -6,16 +6,16 @@ use Rattle.long_edges.proofs.is_plain.Goals as goal
 pub returns-then-is_between-2 : goal.returns-then-is_between-2
 unfolding is_plain_triple
 returns-then-is_between-2 c =
-    let second = c.before.before in
-    let first = second.before.before in
-    rw (← first.is_between.ensures, second.if-is_between.true, ← second.is_between-then-is_between.ensures, c.if2.true) c.is-between3.ensures
+    let second = c in
+    let first = second in
+    rw (← first.is_between.ensures, second.if-is_between.true, ← second.is_between-then-is_between.ensures, c.if-is_between-2.true) c.is_between-then-is_between-2.ensures
 
 pub returns-else-is_between-2 : goal.returns-else-is_between-2
 unfolding is_plain_triple
 returns-else-is_between-2 c =
-    let second = c.before in
-    let first = second.before.before in
-    rw (← first.is_between.ensures, second.if-is_between.true, ← second.is_between-then-is_between.ensures, c.if2.false)
+    let second = c in
+    let first = second in
+    rw (← first.is_between.ensures, second.if-is_between.true, ← second.is_between-then-is_between.ensures, c.if-is_between-2.false)
 
 pub returns-else-is_between : goal.returns-else-is_between
 unfolding is_plain_triple

@@ -8,7 +8,7 @@ use Rattle.long_edges.proofs.long_limit.Goals as goal
 
 pub returns-then-is_between : goal.returns-then-is_between
 returns-then-is_between c =
-    let s = c.before.before in
+    let s = c in
     limit_is s.args.edge (subst T (sym s.well_formed.0.1) tt) (rw (← c.is_between.ensures, c.if-is_between.true) tt)
 
 pub returns : goal.returns

@@ -8,5 +8,5 @@ returns c =
     let nodes = c.set_nodes in
     let leaves = c.set_leaves in
     let a = c.args in
-    planted a.base a.count a.words.now leaves.new.words nodes.new.words leaves.ensures.0 leaves.ensures.1 nodes.ensures.0
-    nodes.ensures.1
+    planted a.base a.count a.words.now leaves.new.words nodes.new.words leaves.ensures.values leaves.ensures.kept nodes.ensures.nodes
+    nodes.ensures.kept

@@ -27,4 +27,4 @@ pub returns : goal.returns
 returns c =
     let l = c.loop-g in
     let a = c.args in
-    ((λ g h. l.invariant.2 g (omega arith)), l.invariant.3)
+    record { values = (λ g h. l.invariant.2 g (omega arith)); kept = l.invariant.3 }

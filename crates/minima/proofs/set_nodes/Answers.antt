@@ -14,7 +14,7 @@ loop-k-init c = (refl, search rules, (λ k a b d. absurd (omega arith)), λ j s.
 pub loop-k-preserved : goal.loop-k-preserved
 loop-k-preserved c =
     let l = c.loop-k in
-    let s = c.before.before.before.before.before.before in
+    let s = c in
     let a = s.args in
     let room : a.base + 2 * a.count ≤ length l.words = omega (arith, l.invariant.0, s.requires) in
     let down : l.k - 1 + 1 ≡ l.k = omega arith in (
@@ -29,4 +29,4 @@ pub returns : goal.returns
 returns c =
     let l = c.loop-k in
     let a = c.args in
-    ((λ k b d. l.invariant.2 k (omega arith) b d), l.invariant.3)
+    record { nodes = (λ k b d. l.invariant.2 k (omega arith) b d); kept = l.invariant.3 }

@@ -11,14 +11,14 @@ loop-m-init c = narrow_start
 
 pub overflow_cast-k : goal.overflow_cast-k
 overflow_cast-k c =
-    let a = c.before.before.before.before.before.before in
+    let a = c in
     let h = narrow_below a.requires.0 a.requires.2 c.loop-m.invariant c.loop-m-test.true in
     record { fits = omega (arith, h, a.requires.0.few) }
 
 pub passes-requires : goal.passes-requires
 passes-requires c =
     let l = c.loop-m in
-    let a = c.before.before.before.before.before.before.before in (
+    let a = c in (
       held_kept l.w a.requires.0 l.invariant.same,
       cells_kept a.args.s.grid a.args.points.now a.args.s.n a.args.w.now l.w a.requires.1 l.invariant.kept.before,
       narrow_below a.requires.0 a.requires.2 l.invariant c.loop-m-test.true,
@@ -27,7 +27,7 @@ passes-requires c =
 pub insert_point-requires : goal.insert_point-requires
 insert_point-requires c =
     let l = c.loop-m in
-    let a = c.before.before.before.before.before.before.before.before.before.before in (
+    let a = c in (
       narrow_below a.requires.0 a.requires.2 l.invariant c.loop-m-test.true,
       a.requires.0.few,
       omega (arith, a.requires.0.work_long, l.invariant.same),
@@ -38,14 +38,14 @@ insert_point-requires c =
 pub loop-m-preserved-then-passes : goal.loop-m-preserved-then-passes
 loop-m-preserved-then-passes c =
     let i = c.insert_point in
-    let a = c.before.before.before.before.before.before.before.before.before.before.before.before.before in
+    let a = c in
     narrow_take a.requires.0 a.requires.2 c.loop-m.invariant i.new.w
     c.loop-m-test.true a.requires.1
     c.passes.ensures c.if-passes.true i.auto.w i.ensures
 
 pub loop-m-preserved : goal.loop-m-preserved
 loop-m-preserved c =
-    let a = c.before.before.before.before.before.before.before.before.before in
+    let a = c in
     narrow_skip a.requires.0 a.requires.2 c.loop-m.invariant c.loop-m-test.true
     c.passes.ensures c.if-passes.false
 
@@ -53,4 +53,4 @@ pub shape_of-w : goal.shape_of-w
 shape_of-w c = c.loop-m.invariant.same
 
 pub returns : goal.returns
-returns c = let a = c.before.before.before.before.before in narrow_end a.requires.0 a.requires.2 c.loop-m.invariant c.loop-m-test.false
+returns c = let a = c in narrow_end a.requires.0 a.requires.2 c.loop-m.invariant c.loop-m-test.false

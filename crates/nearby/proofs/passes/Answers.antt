@@ -13,7 +13,7 @@ use Rattle.nearby.proofs.passes.Goals as goal
 
 pub returns-then-not-is_unused : goal.returns-then-not-is_unused
 unfolding passes_filter in_reach
-returns-then-not-is_unused c = rw (sym c.is_unused.ensures ∙ not-true c.is_unused.result c.if-not-is_unused.true)
+returns-then-not-is_unused c = rw (sym c.is_unused.ensures ∙ c.if-not-is_unused.true)
 
 pub returns-then-distance_squared-f : goal.returns-then-distance_squared-f
 unfolding passes_filter in_reach
@@ -22,19 +22,19 @@ returns-then-distance_squared-f c =
     let u = c.is_unused in
     let d = c.distance_squared in
     rw (
-      sym u.ensures ∙ not-false u.result c.if-not-is_unused.false,
+      sym u.ensures ∙ c.if-not-is_unused.false,
       ap (lt a.f.limit) (sym (d.ensures ∙ ap (λ (q : Point3f). squared q a.f.center) c.point_at.ensures)) ∙ c.if-distance_squared-f.true,
     )
 
 pub returns : goal.returns
 unfolding passes_filter in_reach in_cells
 returns c =
-    let s = c.before.before.before.before.before.before.before.before.before in
+    let s = c in
     let a = s.args in
     let u = c.is_unused in
     let d = c.distance_squared in
     rw (
-      sym u.ensures ∙ not-false u.result c.if-not-is_unused.false,
+      sym u.ensures ∙ c.if-not-is_unused.false,
       ap (lt a.f.limit)
           (sym (d.ensures ∙ ap (λ (q : Point3f). squared q a.f.center) c.point_at.ensures)) ∙ c.if-distance_squared-f.false,
     )

@@ -47,7 +47,7 @@ returns-then-refusal-ne0 c =
     let a = start.args in
     let e = early_is a.points.now (a.x ∷ a.y ∷ a.z ∷ []) a.index.now a.words.now a.floats.now spot-outside.ensures
     refusal-of-search.ensures in
-    one_refused a.points.now a.x a.y a.z a.index.now a.words.now a.floats.now e c.if-refusal-ne0.taken
+    one_refused a.points.now a.x a.y a.z a.index.now a.words.now a.floats.now e c.if-refusal-ne0.true
     c.nearest_of.ensures
 
 pub matches-own-requires : goal.matches-own-requires
@@ -59,7 +59,7 @@ matches-own-requires c =
     let e = early_is a.points.now (a.x ∷ a.y ∷ a.z ∷ []) a.index.now a.words.now a.floats.now spot-outside.ensures
     refusal-of-search.ensures in
     let k = accepted a.points.now (a.x ∷ a.y ∷ a.z ∷ []) (length a.index.now) (length a.words.now) (length a.floats.now)
-    (zero_answer a.points.now (a.x ∷ a.y ∷ a.z ∷ []) a.index.now a.words.now a.floats.now e c.if-refusal-ne0.left) in
+    (zero_answer a.points.now (a.x ∷ a.y ∷ a.z ∷ []) a.index.now a.words.now a.floats.now e c.if-refusal-ne0.false) in
     (record { cloud = k.cloud; index_enough = k.index_enough; floats_enough = k.room.floats_enough }, omega (arith, k.room.words_enough))
 
 pub returns-then-not-own : goal.returns-then-not-own
@@ -74,9 +74,9 @@ returns-then-not-own c =
     let a = start.args in
     let e = early_is a.points.now (a.x ∷ a.y ∷ a.z ∷ []) a.index.now a.words.now a.floats.now spot-outside.ensures
     refusal-of-search.ensures in
-    one_foreign a.points.now a.x a.y a.z a.index.now a.words.now a.floats.now e if1.left
-    (clear-u32.ensures ∙ ap (λ (n : ℕ). replicate n 0) matches.kept.1.1.0)
-    (clear-f32.ensures ∙ ap (λ (n : ℕ). replicate n (f32 0)) matches.kept.1.1.1.0) (failed matches.ensures c.if-not-own.taken)
+    one_foreign a.points.now a.x a.y a.z a.index.now a.words.now a.floats.now e if1.false
+    (clear-u32.ensures ∙ ap (λ (n : ℕ). replicate n 0) matches.auto.words)
+    (clear-f32.ensures ∙ ap (λ (n : ℕ). replicate n (f32 0)) matches.auto.floats) (failed matches.ensures c.if-not-own.true)
     c.nearest_of-then-not-own.ensures
 
 pub width_of-width-requires : goal.width_of-width-requires
@@ -89,7 +89,7 @@ width_of-width-requires c =
     let e = early_is a.points.now (a.x ∷ a.y ∷ a.z ∷ []) a.index.now a.words.now a.floats.now spot-outside.ensures
     refusal-of-search.ensures in
     let k = accepted a.points.now (a.x ∷ a.y ∷ a.z ∷ []) (length a.index.now) (length a.words.now) (length a.floats.now)
-    (zero_answer a.points.now (a.x ∷ a.y ∷ a.z ∷ []) a.index.now a.words.now a.floats.now e if1.left) in
+    (zero_answer a.points.now (a.x ∷ a.y ∷ a.z ∷ []) a.index.now a.words.now a.floats.now e if1.false) in
     (k.cloud.some, k.cloud.few)
 
 pub nearest_in-best-requires : goal.nearest_in-best-requires
@@ -103,10 +103,10 @@ nearest_in-best-requires c =
     let e = early_is a.points.now (a.x ∷ a.y ∷ a.z ∷ []) a.index.now a.words.now a.floats.now spot-outside.ensures
     refusal-of-search.ensures in
     let k = accepted a.points.now (a.x ∷ a.y ∷ a.z ∷ []) (length a.index.now) (length a.words.now) (length a.floats.now)
-    (zero_answer a.points.now (a.x ∷ a.y ∷ a.z ∷ []) a.index.now a.words.now a.floats.now e if1.left) in (
-      record { cloud = k.cloud; own = passed matches.ensures c.if-not-own.left },
-      c.width_of_lem.ensures.0,
-      c.width_of_lem.ensures.1,
+    (zero_answer a.points.now (a.x ∷ a.y ∷ a.z ∷ []) a.index.now a.words.now a.floats.now e if1.false) in (
+      record { cloud = k.cloud; own = passed matches.ensures c.if-not-own.false },
+      c.width_of-width.ensures.0,
+      c.width_of-width.ensures.1,
       subst⁻¹ Finite c.point.ensures (one_finite a.x a.y a.z k.near),
     )
 
@@ -123,9 +123,9 @@ returns c =
     let a = start.args in
     let e = early_is a.points.now (a.x ∷ a.y ∷ a.z ∷ []) a.index.now a.words.now a.floats.now spot-outside.ensures
     refusal-of-search.ensures in
-    one_found a.points.now a.x a.y a.z a.index.now a.words.now a.floats.now e if1.left
-    (clear-u32.ensures ∙ ap (λ (n : ℕ). replicate n 0) matches.kept.1.1.0)
-    (clear-f32.ensures ∙ ap (λ (n : ℕ). replicate n (f32 0)) matches.kept.1.1.1.0) (passed matches.ensures if2.left) c.nearest-of3.ensures
+    one_found a.points.now a.x a.y a.z a.index.now a.words.now a.floats.now e if1.false
+    (clear-u32.ensures ∙ ap (λ (n : ℕ). replicate n 0) matches.auto.words)
+    (clear-f32.ensures ∙ ap (λ (n : ℕ). replicate n (f32 0)) matches.auto.floats) (passed matches.ensures if2.false) c.nearest_of-2.ensures
     ((λ i. record {
       distance = c.sqrt-distance.ensures i;
       number = c.nearest_in-best.result.number;

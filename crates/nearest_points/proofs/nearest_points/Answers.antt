@@ -25,7 +25,7 @@ pub returns-then-refusal-ne0 : goal.returns-then-refusal-ne0
 returns-then-refusal-ne0 c = let a = c.args in
     let e = early_is a.points.now a.spots.now a.index.now a.words.now a.floats.now c.first_outside-bad.ensures
     c.refusal_of_search-refusal.ensures in
-    many_refused a.points.now a.spots.now a.index.now a.words.now a.floats.now e a.found.now c.if-refusal-ne0.taken
+    many_refused a.points.now a.spots.now a.index.now a.words.now a.floats.now e a.found.now c.if-refusal-ne0.true
 
 pub matches-own-requires : goal.matches-own-requires
 matches-own-requires c =
@@ -35,7 +35,7 @@ matches-own-requires c =
     let a = start.args in
     let e = early_is a.points.now a.spots.now a.index.now a.words.now a.floats.now first-outside.ensures refusal-of-search.ensures in
     let k = accepted a.points.now a.spots.now (length a.index.now) (length a.words.now) (length a.floats.now)
-    (zero_answer a.points.now a.spots.now a.index.now a.words.now a.floats.now e c.if-refusal-ne0.left) in
+    (zero_answer a.points.now a.spots.now a.index.now a.words.now a.floats.now e c.if-refusal-ne0.false) in
     (record { cloud = k.cloud; index_enough = k.index_enough; floats_enough = k.room.floats_enough }, omega (arith, k.room.words_enough))
 
 pub returns-then-found-spots : goal.returns-then-found-spots
@@ -49,11 +49,11 @@ returns-then-found-spots c =
     let start = c in
     let a = start.args in
     let e = early_is a.points.now a.spots.now a.index.now a.words.now a.floats.now first-outside.ensures refusal-of-search.ensures in
-    many_left a.points.now a.spots.now a.index.now a.words.now a.floats.now e a.found.now if1.left
-    (clear-u32.ensures ∙ ap (λ (n : ℕ). replicate n 0) matches.kept.1.1.0)
-    (clear-f32.ensures ∙ ap (λ (n : ℕ). replicate n (f32 0)) matches.kept.1.1.1.0) 13 (λ z. omega (arith, z)) c.answer_of.ensures
-    (late_short a.points.now a.spots.now a.index.now a.words.now a.floats.now e (length a.found.now) if1.left
-    c.if-found-spots.taken)
+    many_left a.points.now a.spots.now a.index.now a.words.now a.floats.now e a.found.now if1.false
+    (clear-u32.ensures ∙ ap (λ (n : ℕ). replicate n 0) matches.auto.words)
+    (clear-f32.ensures ∙ ap (λ (n : ℕ). replicate n (f32 0)) matches.auto.floats) 13 (λ z. omega (arith, z)) c.answer_of.ensures
+    (late_short a.points.now a.spots.now a.index.now a.words.now a.floats.now e (length a.found.now) if1.false
+    c.if-found-spots.true)
 
 pub returns-then-not-own : goal.returns-then-not-own
 returns-then-not-own c =
@@ -66,11 +66,11 @@ returns-then-not-own c =
     let start = c in
     let a = start.args in
     let e = early_is a.points.now a.spots.now a.index.now a.words.now a.floats.now first-outside.ensures refusal-of-search.ensures in
-    many_left a.points.now a.spots.now a.index.now a.words.now a.floats.now e a.found.now if1.left
-    (clear-u32.ensures ∙ ap (λ (n : ℕ). replicate n 0) matches.kept.1.1.0)
-    (clear-f32.ensures ∙ ap (λ (n : ℕ). replicate n (f32 0)) matches.kept.1.1.1.0) 22 (λ z. omega (arith, z)) c.answer_of-then-not-own.ensures
-    (late_foreign a.points.now a.spots.now a.index.now a.words.now a.floats.now e (length a.found.now) if1.left
-    c.if-found-spots.left (failed matches.ensures c.if-not-own.taken))
+    many_left a.points.now a.spots.now a.index.now a.words.now a.floats.now e a.found.now if1.false
+    (clear-u32.ensures ∙ ap (λ (n : ℕ). replicate n 0) matches.auto.words)
+    (clear-f32.ensures ∙ ap (λ (n : ℕ). replicate n (f32 0)) matches.auto.floats) 22 (λ z. omega (arith, z)) c.answer_of-then-not-own.ensures
+    (late_foreign a.points.now a.spots.now a.index.now a.words.now a.floats.now e (length a.found.now) if1.false
+    c.if-found-spots.false (failed matches.ensures c.if-not-own.true))
 
 pub width_of-width-requires : goal.width_of-width-requires
 width_of-width-requires c =
@@ -81,7 +81,7 @@ width_of-width-requires c =
     let a = start.args in
     let e = early_is a.points.now a.spots.now a.index.now a.words.now a.floats.now first-outside.ensures refusal-of-search.ensures in
     let k = accepted a.points.now a.spots.now (length a.index.now) (length a.words.now) (length a.floats.now)
-    (zero_answer a.points.now a.spots.now a.index.now a.words.now a.floats.now e if1.left) in
+    (zero_answer a.points.now a.spots.now a.index.now a.words.now a.floats.now e if1.false) in
     (k.cloud.some, k.cloud.few)
 
 pub fill-requires : goal.fill-requires
@@ -94,13 +94,13 @@ fill-requires c =
     let a = start.args in
     let e = early_is a.points.now a.spots.now a.index.now a.words.now a.floats.now first-outside.ensures refusal-of-search.ensures in
     let k = accepted a.points.now a.spots.now (length a.index.now) (length a.words.now) (length a.floats.now)
-    (zero_answer a.points.now a.spots.now a.index.now a.words.now a.floats.now e if1.left) in (
+    (zero_answer a.points.now a.spots.now a.index.now a.words.now a.floats.now e if1.false) in (
       (
-        record { cloud = k.cloud; own = passed matches.ensures c.if-not-own.left },
-        c.width_of_lem.ensures.0,
-        c.width_of_lem.ensures.1,
+        record { cloud = k.cloud; own = passed matches.ensures c.if-not-own.false },
+        c.width_of-width.ensures.0,
+        c.width_of-width.ensures.1,
       ),
-      (k.near, c.if-found-spots.left),
+      (k.near, c.if-found-spots.false),
     )
 
 pub returns : goal.returns
@@ -116,8 +116,8 @@ returns c =
     let start = c in
     let a = start.args in
     let e = early_is a.points.now a.spots.now a.index.now a.words.now a.floats.now first-outside.ensures refusal-of-search.ensures in
-    many_found a.points.now a.spots.now a.index.now a.words.now a.floats.now e a.found.now if1.left
-    (clear-u32.ensures ∙ ap (λ (n : ℕ). replicate n 0) matches.kept.1.1.0)
-    (clear-f32.ensures ∙ ap (λ (n : ℕ). replicate n (f32 0)) matches.kept.1.1.1.0) c.answer-of3.ensures
-    (late_none a.points.now a.spots.now a.index.now a.words.now a.floats.now e (length a.found.now) if1.left if2.left
-    (passed matches.ensures if3.left)) c.fill.ensures
+    many_found a.points.now a.spots.now a.index.now a.words.now a.floats.now e a.found.now if1.false
+    (clear-u32.ensures ∙ ap (λ (n : ℕ). replicate n 0) matches.auto.words)
+    (clear-f32.ensures ∙ ap (λ (n : ℕ). replicate n (f32 0)) matches.auto.floats) c.answer_of-2.ensures
+    (late_none a.points.now a.spots.now a.index.now a.words.now a.floats.now e (length a.found.now) if1.false if2.false
+    (passed matches.ensures if3.false)) c.fill.ensures

@@ -17,21 +17,21 @@ use Rattle.nearest_points.proofs.refusal_of_search.Goals as goal
 pub returns-then-size-eq0 : goal.returns-then-size-eq0
 returns-then-size-eq0 c =
     let a = c.args in let p = length a.points.now in let b = first_outside farthest a.points.now in told c.answer_of.ensures
-    (none p a.spots b a.bad a.index a.words a.floats c.if-size-eq0.taken)
+    (none p a.spots b a.bad a.index a.words a.floats c.if-size-eq0.true)
 
 pub returns-then-size-ne0 : goal.returns-then-size-ne0
 returns-then-size-ne0 c = let a = c.args in
     let p = length a.points.now in
     let b = first_outside farthest a.points.now in
-    told c.answer_of-then-size-ne0.ensures (not_threes p a.spots b a.bad a.index a.words a.floats c.if-size-eq0.left c.if-size-ne0.taken)
+    told c.answer_of-then-size-ne0.ensures (not_threes p a.spots b a.bad a.index a.words a.floats c.if-size-eq0.false c.if-size-ne0.true)
 
 pub returns-then-spots-ne0 : goal.returns-then-spots-ne0
 returns-then-spots-ne0 c = let a = c.args in
     let p = length a.points.now in
     let b = first_outside farthest a.points.now in
     told c.answer_of-then-spots-ne0.ensures
-    (spots_not_threes p a.spots b a.bad a.index a.words a.floats c.if-size-eq0.left c.if-size-ne0.left
-    c.if-spots-ne0.taken)
+    (spots_not_threes p a.spots b a.bad a.index a.words a.floats c.if-size-eq0.false c.if-size-ne0.false
+    c.if-spots-ne0.true)
 
 pub returns-then-n-gt4096 : goal.returns-then-n-gt4096
 returns-then-n-gt4096 c =
@@ -41,8 +41,8 @@ returns-then-n-gt4096 c =
     let p = length a.points.now in
     let b = first_outside farthest a.points.now in
     told c.answer_of-then-n-gt4096.ensures
-    (many p a.spots b a.bad a.index a.words a.floats if1.left c.if-size-ne0.left c.if-spots-ne0.left
-    c.if-n-gt4096.taken)
+    (many p a.spots b a.bad a.index a.words a.floats if1.false c.if-size-ne0.false c.if-spots-ne0.false
+    c.if-n-gt4096.true)
 
 pub returns-then-first-n : goal.returns-then-first-n
 returns-then-first-n c =
@@ -54,8 +54,8 @@ returns-then-first-n c =
     let p = length a.points.now in
     let b = first_outside farthest a.points.now in
     told c.answer_of-then-first-n.ensures
-    (ap (refusal 4) c.first_outside-first.ensures ∙ point_out p a.spots b a.bad a.index a.words a.floats if1.left if2.left
-    if3.left c.if-n-gt4096.left (omega (arith, c.if-first-n.taken, c.first_outside-first.ensures)))
+    (ap (refusal 4) c.first_outside-first.ensures ∙ point_out p a.spots b a.bad a.index a.words a.floats if1.false if2.false
+    if3.false c.if-n-gt4096.false (omega (arith, c.if-first-n.true, c.first_outside-first.ensures)))
 
 pub returns-then-bad-spots : goal.returns-then-bad-spots
 returns-then-bad-spots c =
@@ -68,8 +68,8 @@ returns-then-bad-spots c =
     let p = length a.points.now in
     let b = first_outside farthest a.points.now in
     told c.answer_of-then-bad-spots.ensures
-    (spot_out p a.spots b a.bad a.index a.words a.floats if1.left if2.left if3.left if4.left
-    (omega (arith, c.if-first-n.left, c.first_outside-first.ensures)) c.if-bad-spots.taken)
+    (spot_out p a.spots b a.bad a.index a.words a.floats if1.false if2.false if3.false if4.false
+    (omega (arith, c.if-first-n.false, c.first_outside-first.ensures)) c.if-bad-spots.true)
 
 pub returns-then-words-n : goal.returns-then-words-n
 returns-then-words-n c =
@@ -83,8 +83,8 @@ returns-then-words-n c =
     let p = length a.points.now in
     let b = first_outside farthest a.points.now in
     told c.answer_of-then-words-n.ensures
-    (few_words p a.spots b a.bad a.index a.words a.floats if1.left if2.left if3.left if4.left
-    (omega (arith, c.if-first-n.left, first-outside.ensures)) c.if-bad-spots.left c.if-words-n.taken)
+    (few_words p a.spots b a.bad a.index a.words a.floats if1.false if2.false if3.false if4.false
+    (omega (arith, c.if-first-n.false, first-outside.ensures)) c.if-bad-spots.false c.if-words-n.true)
 
 pub returns-then-floats-n : goal.returns-then-floats-n
 returns-then-floats-n c =
@@ -99,8 +99,8 @@ returns-then-floats-n c =
     let p = length a.points.now in
     let b = first_outside farthest a.points.now in
     told c.answer_of-then-floats-n.ensures
-    (few_floats p a.spots b a.bad a.index a.words a.floats if1.left if2.left if3.left if4.left
-    (omega (arith, if5.left, first-outside.ensures)) c.if-bad-spots.left c.if-words-n.left c.if-floats-n.taken)
+    (few_floats p a.spots b a.bad a.index a.words a.floats if1.false if2.false if3.false if4.false
+    (omega (arith, if5.false, first-outside.ensures)) c.if-bad-spots.false c.if-words-n.false c.if-floats-n.true)
 
 pub returns-then-index-n : goal.returns-then-index-n
 returns-then-index-n c =
@@ -116,9 +116,9 @@ returns-then-index-n c =
     let p = length a.points.now in
     let b = first_outside farthest a.points.now in
     told c.answer_of-then-index-n.ensures
-    (short_index p a.spots b a.bad a.index a.words a.floats if1.left if2.left if3.left if4.left
-    (omega (arith, if5.left, first-outside.ensures)) if6.left c.if-words-n.left c.if-floats-n.left
-    c.if-index-n.taken)
+    (short_index p a.spots b a.bad a.index a.words a.floats if1.false if2.false if3.false if4.false
+    (omega (arith, if5.false, first-outside.ensures)) if6.false c.if-words-n.false c.if-floats-n.false
+    c.if-index-n.true)
 
 pub returns : goal.returns
 returns c =
@@ -133,6 +133,6 @@ returns c =
     let a = start.args in
     let p = length a.points.now in
     let b = first_outside farthest a.points.now in
-    told c.answer-of10.ensures
-    (all_passed p a.spots b a.bad a.index a.words a.floats if1.left if2.left if3.left if4.left
-    (omega (arith, if5.left, first-outside.ensures)) if6.left c.if-words-n.left c.if-floats-n.left c.if-index-n.left)
+    told c.answer_of-2.ensures
+    (all_passed p a.spots b a.bad a.index a.words a.floats if1.false if2.false if3.false if4.false
+    (omega (arith, if5.false, first-outside.ensures)) if6.false c.if-words-n.false c.if-floats-n.false c.if-index-n.false)

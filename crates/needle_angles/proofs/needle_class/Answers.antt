@@ -14,7 +14,6 @@ plain least most long h i j k = record {
   most_under = rw (not-false (le most (f32 0x4c800000)) i) tt;
   long_under = rw (not-false (le long (f32 0x4c800000)) j) tt;
   far = rw (not-false (le long (least ⊗ f32 0x4c800000)) k) tt;
-
 }
 
 pub returns-then-not-least : goal.returns-then-not-least
@@ -31,38 +30,38 @@ returns-then-not-long-least c = no_needle _ _ _ _
 
 pub returns-then-most-short : goal.returns-then-most-short
 returns-then-most-short c =
-    let x = c.before in
+    let x = c in
     let a = x.args in
     needle_128 (plain a.least a.most a.long x.if-not-least.false x.if-not-most.false x.if-not-long.false
     x.if-not-long-least.false) (rw c.if-most-short.true tt)
 
 pub returns-then-most-short-2 : goal.returns-then-most-short-2
 returns-then-most-short-2 c =
-    let x = c.before.before in
+    let x = c in
     let a = x.args in
     needle_64 (plain a.least a.most a.long x.if-not-least.false x.if-not-most.false x.if-not-long.false x.if-not-long-least.false)
-    (rw c.if6.true tt)
+    (rw c.if-most-short-2.true tt)
 
 pub returns-then-most-short-3 : goal.returns-then-most-short-3
 returns-then-most-short-3 c =
-    let x = c.before.before.before in
+    let x = c in
     let a = x.args in
     needle_32 (plain a.least a.most a.long x.if-not-least.false x.if-not-most.false x.if-not-long.false x.if-not-long-least.false)
-    (rw c.if7.true tt)
+    (rw c.if-most-short-3.true tt)
 
 pub returns-then-most-short-4 : goal.returns-then-most-short-4
 returns-then-most-short-4 c =
-    let x = c.before.before.before.before in
+    let x = c in
     let a = x.args in
     needle_16 (plain a.least a.most a.long x.if-not-least.false x.if-not-most.false x.if-not-long.false x.if-not-long-least.false)
-    (rw c.if8.true tt)
+    (rw c.if-most-short-4.true tt)
 
 pub returns-then-most-short-5 : goal.returns-then-most-short-5
 returns-then-most-short-5 c =
-    let x = c.before.before.before.before.before in
+    let x = c in
     let a = x.args in
     needle_10 (plain a.least a.most a.long x.if-not-least.false x.if-not-most.false x.if-not-long.false x.if-not-long-least.false)
-    (rw c.if9.true tt)
+    (rw c.if-most-short-5.true tt)
 
 pub returns : goal.returns
 returns c = no_needle _ _ _ _

@@ -11,5 +11,4 @@ returns c = record {
   times_32 = c.needle_limit-times_32.ensures;
   times_64 = c.needle_limit-times_64.ensures;
   times_128 = c.needle_limit-times_128.ensures;
-
 }

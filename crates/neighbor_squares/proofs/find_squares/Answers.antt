@@ -10,51 +10,51 @@ use Rattle.neighbor_squares.proofs.Deciding.{prepared_kept, kept_start, kept_the
 use Rattle.neighbor_squares.proofs.find_squares.Goals as goal
 
 pub loop-tries-init : goal.loop-tries-init
-loop-tries-init c = let s = start_of_tries_after c in
+loop-tries-init c = let s = c in
     (refl, refl, c.tries_after-tries.ensures.1, kept_start s.args.n s.args.w.now s.args.f.now)
 
 pub look_within-kept-requires : goal.look_within-kept-requires
 look_within-kept-requires c = let l = c.loop-tries in
-    prepared_kept (start_of_look_within_arg2 c).requires.0 l.invariant.0 l.invariant.1 l.invariant.3
+    prepared_kept c.requires.0 l.invariant.0 l.invariant.1 l.invariant.3
 
 pub returns-then-kept-eq10 : goal.returns-then-kept-eq10
 returns-then-kept-eq10 c =
-    let look-within = (look_within_of_then1 c).look-within in
-    let loop = (at_loop_of_then1 c).loop in
+    let look-within = c.look_within-kept in
+    let loop = c.loop-tries in
     let q = look-within in
     let l = loop in
-    record { few = q.ensures.few; decided = q.ensures.full c.if-kept-eq10.true; kept = kept_then l.inv.3 q.ensures.kept }
+    record { few = q.ensures.few; decided = q.ensures.full c.if-kept-eq10.true; kept = kept_then l.invariant.3 q.ensures.kept }
 
 pub wider-limit-requires : goal.wider-limit-requires
-wider-limit-requires c = (look_within_of_else1 c).look-within.ensures.few
+wider-limit-requires c = c.look_within-kept.ensures.few
 
 pub tries_after-tries-requires-in-loop-tries : goal.tries_after-tries-requires-in-loop-tries
-tries_after-tries-requires-in-loop-tries c = omega (arith, (in_loop_of_wider c).loop-test.true)
+tries_after-tries-requires-in-loop-tries c = omega (arith, c.loop-tries-test.true)
 
 pub loop-tries-smaller : goal.loop-tries-smaller
-loop-tries-smaller c = omega (arith, (in_loop_of_tries_after2 c).loop-test.true, c.tries_after-tries-in-loop-tries.ensures.0, c.tries_after-tries-in-loop-tries.ensures.1)
+loop-tries-smaller c = omega (arith, c.loop-tries-test.true, c.tries_after-tries-in-loop-tries.ensures.0, c.tries_after-tries-in-loop-tries.ensures.1)
 
 pub loop-tries-preserved : goal.loop-tries-preserved
 loop-tries-preserved c =
-    let look-within = (look_within_of_tries_after2 c).look-within in
-    let loop = (at_loop_of_tries_after2 c).loop in
+    let look-within = c.look_within-kept in
+    let loop = c.loop-tries in
     let l = loop in
     let q = look-within in (
-      q.kept.1.1.1.1.1.1.0 ∙ l.inv.0,
-      q.kept.1.1.1.1.1.1.1.0 ∙ l.inv.1,
+      q.auto.w ∙ l.invariant.0,
+      q.auto.f ∙ l.invariant.1,
       c.tries_after-tries-in-loop-tries.ensures.1,
-      kept_then l.inv.3 q.ensures.kept,
+      kept_then l.invariant.3 q.ensures.kept,
     )
 
 pub look_further-requires : goal.look_further-requires
 look_further-requires c =
     let l = c.loop-tries in
-    let s = start_of_look_further_arg2 c in
-    (prepared_kept s.pre.0 l.invariant.0 l.invariant.1 l.invariant.3, indexed_kept _ s.pre.1 l.invariant.0 l.invariant.3.before)
+    let s = c in
+    (prepared_kept s.requires.0 l.invariant.0 l.invariant.1 l.invariant.3, indexed_kept _ s.requires.1 l.invariant.0 l.invariant.3.before)
 
 pub returns : goal.returns
 returns c =
-    let look-further = (look_further_of_slice_known6 c).look-further in
-    let loop = (at_loop_of_slice_known6 c).loop in
+    let look-further = c.look_further in
+    let loop = c.loop-tries in
     let q = look-further in
-    record { few = q.ensures.few; decided = q.ensures.decided; kept = kept_then loop.inv.3 q.ensures.kept }
+    record { few = q.ensures.few; decided = q.ensures.decided; kept = kept_then loop.invariant.3 q.ensures.kept }

@@ -12,4 +12,4 @@ pub returns-then-not-around : goal.returns-then-not-around
 returns-then-not-around c = λ e. absurd (true_not_false refl e)
 
 pub returns : goal.returns
-returns c = λ e. not-false c.args.around.indexed c.if-not-around.false
+returns c = λ e. c.if-not-around.false

@@ -18,52 +18,52 @@ loop-k-init c = (refl, search rules, search rules, refl, refl, (tt, tt))
 pub overflow_cast-w : goal.overflow_cast-w
 overflow_cast-w c =
     let l = c.loop-k in
-    let s = start_of_shared_slice_known3 c in
+    let s = c in
     omega (arith, c.type_inv.w (4 * s.args.n + l.k))
 
 pub look_at-kept-requires : goal.look_at-kept-requires
 look_at-kept-requires c =
     let l = c.loop-k in
-    let s = start_of_look_at_arg c in (
-      s.pre.0,
-      below_part s.args.n s.args.w.now (4 * s.args.n) s.args.found l.k s.pre.6 c.loop-k-test.true
-          (omega (arith, s.pre.2, s.pre.4)),
-      s.pre.1,
-      s.pre.3,
-      omega (arith, s.pre.4),
-      omega (arith, l.invariant.0, s.pre.5),
+    let s = c in (
+      s.requires.0,
+      below_part s.args.n s.args.w.now (4 * s.args.n) s.args.found l.k s.requires.6 c.loop-k-test.true
+          (omega (arith, s.requires.2, s.requires.4)),
+      s.requires.1,
+      s.requires.3,
+      omega (arith, s.requires.4),
+      omega (arith, l.invariant.0, s.requires.5),
       l.invariant.2,
       l.invariant.5.0,
     )
 
 pub loop-k-preserved : goal.loop-k-preserved
 loop-k-preserved c =
-    let l = (at_loop_of_slice_known2 c).loop in
-    let s = start_of_slice_known2 c in
+    let l = c.loop-k in
+    let s = c in
     let e = c.look_at-kept in (
-      e.auto.f ∙ l.inv.0,
+      e.auto.f ∙ l.invariant.0,
       search rules,
       e.ensures.1,
-      l.inv.3
+      l.invariant.3
           ∙ look_step (within_limit s.args.limit (is_neighbor_cell s.args.around s.args.w.now s.args.n) s.args.points.now s.args.i)
-          s.args.points.now s.args.i s.args.w.now (4 * s.args.n) s.args.found (omega (arith, s.pre.2, s.pre.4)) l.k
+          s.args.points.now s.args.i s.args.w.now (4 * s.args.n) s.args.found (omega (arith, s.requires.2, s.requires.4)) l.k
           (take l.kept (drop s.args.n l.f)) (take e.result (drop s.args.n e.new.f))
-          (in_loop_of_slice_known2 c).loop-test.true e.ensures.0,
-      e.ensures.2 ∙ l.inv.4,
+          c.loop-k-test.true e.ensures.0,
+      e.ensures.2 ∙ l.invariant.4,
       with_ordered (within_limit s.args.limit (is_neighbor_cell s.args.around s.args.w.now s.args.n) s.args.points.now s.args.i)
           s.args.points.now s.args.i _ s.args.n (take l.kept (drop s.args.n l.f))
-          (take e.result (drop s.args.n e.new.f)) s.pre.0
-          (below_part s.args.n s.args.w.now (4 * s.args.n) s.args.found l.k s.pre.6 (in_loop_of_slice_known2 c).loop-test.true
-          (omega (arith, s.pre.2, s.pre.4))) s.pre.7 e.ensures.0 l.inv.5,
+          (take e.result (drop s.args.n e.new.f)) s.requires.0
+          (below_part s.args.n s.args.w.now (4 * s.args.n) s.args.found l.k s.requires.6 c.loop-k-test.true
+          (omega (arith, s.requires.2, s.requires.4))) s.requires.7 e.ensures.0 l.invariant.5,
     )
 
 pub returns : goal.returns
 returns c =
     let l = c.loop-k in
-    let s = start_of_after_loop c in (
+    let s = c in (
       sym (l.invariant.3 ∙ look_end
           (within_limit s.args.limit (is_neighbor_cell s.args.around s.args.w.now s.args.n) s.args.points.now s.args.i)
-          s.args.points.now s.args.i s.args.w.now (4 * s.args.n) s.args.found (omega (arith, s.pre.2, s.pre.4)) l.k
+          s.args.points.now s.args.i s.args.w.now (4 * s.args.n) s.args.found (omega (arith, s.requires.2, s.requires.4)) l.k
           (drop s.args.n l.f) l.auto c.loop-k-test.false l.invariant.2),
       l.invariant.2,
       l.invariant.4,

@@ -24,7 +24,7 @@ returns-then-is_other c =
     let is-other = c.is_other in
     let else1 = c in
     let d = else1 in
-    let s = d.before.before.before.before.before.before.before in
+    let s = d in
     let e = c.insert_least_rising.ensures in
     let o = is-other in
     let q = d.distance_squared-s in (
@@ -32,15 +32,15 @@ returns-then-is_other c =
           ∙ with_one (is_neighbor_cell s.args.around s.args.w.now s.args.n) s.args.points.now s.args.i s.args.j s.args.limit
           (take s.args.kept (drop s.args.n s.args.f.now)) d.point_at-p.result d.point_at-q.result
           q.result d.point_at-p.ensures d.point_at-q.ensures q.ensures o.result o.ensures
-          d.if-not-s-limit.left if2.taken,
+          d.if-not-s-limit.false if2.true,
       omega (arith, e.0),
       e.1.below,
     )
 
 pub returns : goal.returns
 returns c =
-    let d = c.before.before in
-    let s = d.before.before.before.before.before.before.before in
+    let d = c in
+    let s = d in
     let o = c.is_other in
     let q = d.distance_squared-s in (
       with_none (is_neighbor_cell s.args.around s.args.w.now s.args.n) s.args.points.now s.args.i s.args.j s.args.limit

@@ -14,7 +14,7 @@ use Rattle.neighbor_squares.proofs.look_everywhere.Goals as goal
 
 pub loop-j-init : goal.loop-j-init
 loop-j-init c =
-    let s = c.before.before.before in (
+    let s = c in (
       refl,
       search rules,
       search rules,
@@ -27,23 +27,23 @@ loop-j-init c =
 pub tenth-requires : goal.tenth-requires
 tenth-requires c =
     let l = c.loop-j in
-    let s = start_of_tenth_arg c in
-    (s.pre.1, omega (arith, l.invariant.0, s.pre.4))
+    let s = c in
+    (s.requires.1, omega (arith, l.invariant.0, s.requires.4))
 
 pub look_at-kept-requires : goal.look_at-kept-requires
 look_at-kept-requires c =
-    let loop = (at_loop_of_look_at_arg c).loop in
-    let start = start_of_look_at_arg c in
+    let loop = c.loop-j in
+    let start = c in
     let l = loop in
     let s = start in
-    (s.pre.0, c.loop-j-test.true, s.pre.1, s.pre.2, s.pre.3, omega (arith, l.inv.0, s.pre.4), l.inv.2, l.inv.5.0)
+    (s.requires.0, c.loop-j-test.true, s.requires.1, s.requires.2, s.requires.3, omega (arith, l.invariant.0, s.requires.4), l.invariant.2, l.invariant.5.0)
 
 pub loop-j-preserved : goal.loop-j-preserved
 loop-j-preserved c =
-    let t = tenth_of_slice_known2 c in
-    let l = t.loop in
-    let s = t.before.before.before.before.before.before.before in
-    let inside = t.loop-test.taken in
+    let t = c in
+    let l = t.loop-j in
+    let s = t in
+    let inside = t.loop-j-test.true in
     let e = c.look_at-kept in
     let near = is_neighbor_cell s.args.around s.args.w.now s.args.n in
     let kept = take l.kept (drop s.args.n l.f) in
@@ -51,22 +51,22 @@ loop-j-preserved c =
     e.ensures.0
     ∙ ap (λ (limit : Float). with_square (within_limit limit near s.args.points.now s.args.i) s.args.points.now s.args.i l.j kept)
     t.tenth.ensures
-    ∙ with_tenth near s.args.points.now s.args.i l.j s.args.n l.f l.kept s.pre.0 inside s.pre.5
-    (omega (arith, l.inv.0, s.pre.4)) l.inv.2 l.inv.5 in (
-      e.auto.f ∙ l.inv.0,
+    ∙ with_tenth near s.args.points.now s.args.i l.j s.args.n l.f l.kept s.requires.0 inside s.requires.5
+    (omega (arith, l.invariant.0, s.requires.4)) l.invariant.2 l.invariant.5 in (
+      e.auto.f ∙ l.invariant.0,
       search rules,
       e.ensures.1,
-      l.inv.3 ∙ all_step near s.args.points.now s.args.i s.args.n l.j kept
+      l.invariant.3 ∙ all_step near s.args.points.now s.args.i s.args.n l.j kept
           (take e.result (drop s.args.n e.new.f)) inside next,
-      e.ensures.2 ∙ l.inv.4,
+      e.ensures.2 ∙ l.invariant.4,
       with_ordered near s.args.points.now s.args.i l.j s.args.n kept (take e.result (drop s.args.n e.new.f))
-          s.pre.0 inside s.pre.5 next l.inv.5,
+          s.requires.0 inside s.requires.5 next l.invariant.5,
     )
 
 pub returns : goal.returns
 returns c =
     let l = c.loop-j in
-    let s = start_of_after_loop c in (
+    let s = c in (
       sym (l.invariant.3 ∙ all_end (is_neighbor_cell s.args.around s.args.w.now s.args.n) s.args.points.now s.args.i s.args.n l.j
           (drop s.args.n l.f) l.auto c.loop-j-test.false l.invariant.2),
       l.invariant.2,

@@ -8,7 +8,7 @@ use Rattle.neighbor_squares.proofs.Deciding.{found_in_range}
 use Rattle.neighbor_squares.proofs.look_in_range.Goals as goal
 
 pub point_at-place-requires : goal.point_at-place-requires
-point_at-place-requires c = let s = c.before.before.before in omega (arith, s.requires.0.inside, s.requires.0.hashed.linked.ready.points_long)
+point_at-place-requires c = let s = c in omega (arith, s.requires.0.inside, s.requires.0.hashed.linked.ready.points_long)
 
 pub limit_of-limit-requires : goal.limit_of-limit-requires
 limit_of-limit-requires c =
@@ -29,7 +29,7 @@ least_squares-requires c =
       r.few,
       g.ensures.most,
       r.points_long,
-      omega (arith, r.work_long, g.kept.1.0),
+      omega (arith, r.work_long, g.auto.w),
       s.requires.0.room,
       g.ensures.gathers.below,
       r.numbers,
@@ -47,6 +47,6 @@ returns c =
     let g = gather in
     let q = c.least_squares in
     found_in_range s.args.around s.args.grid s.args.points.now s.args.n s.args.i bounds_of.result limit_of.result s.args.w.now
-    g.last.1.0 s.args.f.now q.new.f s.args.hash p.result g.result q.result
-    s.requires.0 s.requires.1 s.requires.2 g.kept.1.0 p.ensures bounds_of.ensures limit_of.ensures g.ensures q.ensures.0 q.ensures.1
+    g.new.w s.args.f.now q.new.f s.args.hash p.result g.result q.result
+    s.requires.0 s.requires.1 s.requires.2 g.auto.w p.ensures bounds_of.ensures limit_of.ensures g.ensures q.ensures.0 q.ensures.1
     q.ensures.2

@@ -8,7 +8,7 @@ use Rattle.neighbor_squares.proofs.Deciding.{looked}
 use Rattle.neighbor_squares.proofs.look_within.Goals as goal
 
 pub point_at-place-requires : goal.point_at-place-requires
-point_at-place-requires c = let s = c.before.before.before in omega (arith, s.requires.inside, s.requires.hashed.linked.ready.points_long)
+point_at-place-requires c = let s = c in omega (arith, s.requires.inside, s.requires.hashed.linked.ready.points_long)
 
 pub gather_within-found-requires : goal.gather_within-found-requires
 gather_within-found-requires c =
@@ -29,7 +29,7 @@ least_squares-requires c =
       r.few,
       g.ensures.most,
       r.points_long,
-      omega (arith, r.work_long, g.kept.1.0),
+      omega (arith, r.work_long, g.auto.w),
       s.requires.room,
       g.ensures.surrounds.below,
       r.numbers,
@@ -44,6 +44,6 @@ returns c =
     let p = point_at_lem in
     let g = gather-within in
     let q = c.least_squares in
-    looked s.args.around s.args.points.now s.args.n s.args.i s.args.limit s.args.w.now g.last.1.0 s.args.f.now
+    looked s.args.around s.args.points.now s.args.n s.args.i s.args.limit s.args.w.now g.new.w s.args.f.now
     q.new.f s.args.hash p.result g.result q.result
     s.requires q.auto.f p.ensures g.ensures q.ensures.0 q.ensures.1 q.ensures.2

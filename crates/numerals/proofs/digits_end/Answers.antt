@@ -8,12 +8,11 @@ use borrow.Author.Rules.{rules}
 use lib.ListN.{drop}
 use Rattle.numerals.specs.Format.{digits, starts_digit}
 use Rattle.numerals.proofs.Bytes.{digits_step, digits_end, digit_inside}
-use Rattle.numerals.proofs.digits_end.Invariants.{decreases-loop-i, invariant-loop-i}
 use Rattle.numerals.proofs.digits_end.Goals.{In-loop-i}
 use Rattle.numerals.proofs.digits_end.Goals as goal
 
 -- a digit stands at i where the loop goes on
-met : (c : In-loop-i invariant-loop-i decreases-loop-i) → starts_digit (drop c.loop-i.i c.args.s.now) ≡ true
+met : (c : In-loop-i) → starts_digit (drop c.loop-i.i c.args.s.now) ≡ true
 met c = sym c.is_digit.ensures ∙ c.loop-i-test.true
 
 pub overflow_add-i : goal.overflow_add-i

@@ -8,12 +8,11 @@ use borrow.Author.Rules.{rules}
 use lib.ListN.{take, drop}
 use Rattle.numerals.specs.Format.{digits, digits_value}
 use Rattle.numerals.proofs.Bytes.{Digit, next_digit, grow, small}
-use Rattle.numerals.proofs.whole_of.Invariants.{decreases-loop-i, invariant-loop-i}
 use Rattle.numerals.proofs.whole_of.Goals.{After-shared_slice_known-1, In-loop-i}
 use Rattle.numerals.proofs.whole_of.Goals as goal
 
 -- the digit at i, and what follows of it
-digit : (c : In-loop-i invariant-loop-i decreases-loop-i) → Digit c.args.s.now c.loop-i.i c.args.end c.loop-i.v
+digit : (c : In-loop-i) → Digit c.args.s.now c.loop-i.i c.args.end c.loop-i.v
 digit c = next_digit _ _ _ _ c.loop-i-test.true c.loop-i.invariant.2
 
 pub loop-i-init : goal.loop-i-init
@@ -23,7 +22,7 @@ pub bounds-s-i : goal.bounds-s-i
 bounds-s-i c = (digit c.before).inside
 
 -- five digits at most came before i
-v_small : (c : After-shared_slice_known-1 invariant-loop-i decreases-loop-i) → c.loop-i.v < 100000
+v_small : (c : After-shared_slice_known-1) → c.loop-i.v < 100000
 v_small c =
     small _ (c.loop-i.i - c.args.at) c.loop-i.invariant.4
     (let f = c.requires.few in omega arith)

@@ -15,19 +15,19 @@ overflow_cast-next c = let a = c.args in omega (arith, c.type_inv.words (6 * a.n
 
 pub loop-next-init : goal.loop-next-init
 loop-next-init c =
-    let s = c.before.before in
+    let s = c in
     let a = s.args in
     let low = s.requires.4.heads a.x s.requires.2 in
     (refl, low, omega arith, walk_start a.n a.count a.x a.y a.words.now s.requires.2)
 
 pub offer_with-met-requires : goal.offer_with-met-requires
 offer_with-met-requires c =
-    let l = c.loop-next in let s = c.before.before.before.before.before in
+    let l = c.loop-next in let s = c in
     (s.requires.0, s.requires.1, omega arith, omega (arith, s.requires.3, l.invariant.0))
 
 pub overflow_add-met : goal.overflow_add-met
 overflow_add-met c =
-    let s = c.before.before.before.before.before.before.before.before in
+    let s = c in
     let a = s.args in
     let l = c.loop-next in
     let o = c.offer_with-met in
@@ -37,7 +37,7 @@ overflow_add-met c =
 
 pub bounds-words-n-in-loop-next : goal.bounds-words-n-in-loop-next
 bounds-words-n-in-loop-next c =
-    let s = c.before.before.before.before.before.before.before.before.before in let l = c.loop-next in let
+    let s = c in let l = c.loop-next in let
     o = c.offer_with-met in omega (arith, s.requires.0, s.requires.1, s.requires.3, l.invariant.0, l.invariant.1, o.auto)
 
 pub overflow_cast-next-in-loop-next : goal.overflow_cast-next-in-loop-next
@@ -47,7 +47,7 @@ overflow_cast-next-in-loop-next c =
 
 pub loop-next-smaller : goal.loop-next-smaller
 loop-next-smaller c =
-    let s = c.before.before.before.before.before.before.before.before.before in
+    let s = c in
     let a = s.args in
     let l = c.loop-next in
     let o = c.offer_with-met in
@@ -59,7 +59,7 @@ loop-next-smaller c =
 
 pub loop-next-preserved : goal.loop-next-preserved
 loop-next-preserved c =
-    let s = c.before.before.before.before.before.before.before.before.before in
+    let s = c in
     let a = s.args in
     let l = c.loop-next in
     let o = c.offer_with-met in

@@ -34,9 +34,9 @@ place_all-found-requires c =
     let t = c.plant in (
       p.0,
       p.1,
-      omega (arith, p.3, w.kept.0, v.kept.1.1.0, t.auto.words),
-      start_bound a.n a.count p.1 a.words.now w.last.0
-          v.last.1.1.0 t.new.words w.ensures.0 w.ensures.1 v.ensures t.ensures,
+      omega (arith, p.3, w.auto.words, v.auto.words, t.auto.words),
+      start_bound a.n a.count p.1 a.words.now w.new.words
+          v.new.words t.new.words w.ensures.0 w.ensures.1 v.ensures t.ensures,
     )
 
 pub returns-then-not-ok : goal.returns-then-not-ok
@@ -52,11 +52,11 @@ returns-then-not-ok c =
     let t = plant in
     let s = c.place_all-found in
     λ fs told. ordered_no a.n a.count fs told.many s.result.seeds s.new.words a.order.now s.result.ok
-    (not-true s.result.ok c.if-not-ok.true)
-    (s.ensures.finds (λ k. get_or w.last.0 k 0) fs told.many told.different
-    (start_faces a.n a.count p.1 a.words.now w.last.0 v.last.1.1.0 t.last.1.1.0 w.ensures.0 w.ensures.1 v.ensures
+    (c.if-not-ok.true)
+    (s.ensures.finds (λ k. get_or w.new.words k 0) fs told.many told.different
+    (start_faces a.n a.count p.1 a.words.now w.new.words v.new.words t.new.words w.ensures.0 w.ensures.1 v.ensures
     t.ensures fs told)
-    (start_kept a.n a.count p.1 a.words.now w.last.0 v.last.1.1.0 t.last.1.1.0 w.ensures.0 w.ensures.1 v.ensures
+    (start_kept a.n a.count p.1 a.words.now w.new.words v.new.words t.new.words w.ensures.0 w.ensures.1 v.ensures
     t.ensures fs told))
 
 pub returns : goal.returns
@@ -74,10 +74,10 @@ returns c =
     let t = plant in
     let s = place-all in
     let o = c.copy_order in
-    λ fs told. ordered_yes a.n a.count fs told.many s.result.seeds s.last.1.1.0 a.order.now o.new.order
-    (omega (arith, p.1, p.3, w.kept.0, v.kept.1.1.0, t.kept.1.1.0, s.kept.1.1.0)) s.result.ok (not-false s.result.ok if1.left)
-    (s.ensures.finds (λ k. get_or w.last.0 k 0) fs told.many told.different
-    (start_faces a.n a.count p.1 a.words.now w.last.0 v.last.1.1.0 t.last.1.1.0 w.ensures.0 w.ensures.1 v.ensures
+    λ fs told. ordered_yes a.n a.count fs told.many s.result.seeds s.new.words a.order.now o.new.order
+    (omega (arith, p.1, p.3, w.auto.words, v.auto.words, t.auto.words, s.auto.words)) s.result.ok (not-false s.result.ok if1.false)
+    (s.ensures.finds (λ k. get_or w.new.words k 0) fs told.many told.different
+    (start_faces a.n a.count p.1 a.words.now w.new.words v.new.words t.new.words w.ensures.0 w.ensures.1 v.ensures
     t.ensures fs told)
-    (start_kept a.n a.count p.1 a.words.now w.last.0 v.last.1.1.0 t.last.1.1.0 w.ensures.0 w.ensures.1 v.ensures
+    (start_kept a.n a.count p.1 a.words.now w.new.words v.new.words t.new.words w.ensures.0 w.ensures.1 v.ensures
     t.ensures fs told)) o.ensures

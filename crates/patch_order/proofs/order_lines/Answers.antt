@@ -45,7 +45,7 @@ order_faces-ordered-requires c =
     let else2 = c in
     let if1 = c.if-order-count in
     let start = c in
-    between_looks _ _ _ start.args.words.now start.requires (few else2) _ store-faces.ensures start.args.order.now if1.left
+    between_looks _ _ _ start.args.words.now start.requires (few else2) _ store-faces.ensures start.args.order.now if1.false
 
 pub returns-then-ordered : goal.returns-then-ordered
 returns-then-ordered c =
@@ -54,7 +54,7 @@ returns-then-ordered c =
     let else2 = c in
     let if1 = c.if-order-count in
     let start = c in
-    found_order _ _ _ start.args.words.now start.requires (few else2) _ store-faces.ensures start.args.order.now if1.left _ _ _
+    found_order _ _ _ start.args.words.now start.requires (few else2) _ store-faces.ensures start.args.order.now if1.false _ _ _
     order-faces.ensures c.if-ordered.true _ refl
 
 pub returns-else-ordered : goal.returns-else-ordered
@@ -64,5 +64,5 @@ returns-else-ordered c =
     let else2 = c in
     let if1 = c.if-order-count in
     let start = c in
-    found_none _ _ _ start.args.words.now start.requires (few else2) _ store-faces.ensures start.args.order.now if1.left _ _ _
+    found_none _ _ _ start.args.words.now start.requires (few else2) _ store-faces.ensures start.args.order.now if1.false _ _ _
     order-faces.ensures c.if-ordered.false _ c.refused-else-ordered.ensures

@@ -44,7 +44,7 @@ returns c =
     let start = c in
     let g = lines_good else1 in
     let o = order-lines in
-    let same : length o.last.1.1.1.1.0 ≡ length start.args.words.now = omega arith in
+    let same : length o.new.words ≡ length start.args.words.now = omega arith in
     whole_last start.args.bytes.now _ _ start.args.words.now start.args.floats.now g.faces g.lines _
-    (first_is _ _ _ g _ _ _ first-answer.ensures) if2.left _ _ _ _ o.ensures
+    (first_is _ _ _ g _ _ _ first-answer.ensures) if2.false _ _ _ _ o.ensures
     (clear-u32.ensures ∙ ap (λ (n : ℕ). replicate n 0) same) c.clear_f32.ensures

@@ -16,7 +16,7 @@ returns-then-not-is_pivotable c =
     let a = c in
     let t = c.is_pivotable in (
       pivot_not (floats_of a.args.s a.args.points.now) a.args.radius (used_in_scene a.args.s a.args.w.now) a.args.s.n
-          (edge a.args.a a.args.b) (sym t.ensures ∙ not-true t.result c.if-not-is_pivotable.true),
+          (edge a.args.a a.args.b) (sym t.ensures ∙ c.if-not-is_pivotable.true),
       kept_self a.args.s a.args.w.now,
     )
 
@@ -38,6 +38,6 @@ returns c =
     let t = is-pivotable in (
       f.ensures.0
           ∙ pivot_is (floats_of a.args.s a.args.points.now) a.args.radius (used_in_scene a.args.s a.args.w.now) a.args.s.n
-          (edge a.args.a a.args.b) (sym t.ensures ∙ not-false t.result if1.left),
+          (edge a.args.a a.args.b) (sym t.ensures ∙ not-false t.result if1.false),
       f.ensures.1,
     )

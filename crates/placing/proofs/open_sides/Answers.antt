@@ -17,7 +17,7 @@ returns-then-not-open_side c =
     around_first a.n a.count a.a a.b a.c (opens a.ua a.ub) (opens a.ub a.uc) (opens a.uc a.ua) start.requires.1 a.words.now
     o.new.words
     (opens_as a.n a.count a.a a.b a.words.now o.new.words (opens a.ua a.ub) o.result false
-    (not-true o.result c.if-not-open_side.true) o.ensures)
+    (c.if-not-open_side.true) o.ensures)
 
 pub open_side-requires-2 : goal.open_side-requires-2
 open_side-requires-2 c =
@@ -30,9 +30,9 @@ open_side-requires-2 c =
       p.1,
       p.3,
       p.4,
-      omega (arith, p.5, o.kept.1.1.0),
-      bound_same a.n (3 * a.count) (omega (arith, p.1)) a.words.now o.last.1.1.0
-          (front_same a.n a.count a.words.now o.last.1.1.0 o.ensures.outside) p.6,
+      omega (arith, p.5, o.auto.words),
+      bound_same a.n (3 * a.count) (omega (arith, p.1)) a.words.now o.new.words
+          (front_same a.n a.count a.words.now o.new.words o.ensures.outside) p.6,
     )
 
 pub returns-then-not-open_side-2 : goal.returns-then-not-open_side-2
@@ -44,11 +44,11 @@ returns-then-not-open_side-2 c =
     let o = open-side in
     let q = c.open_side-2 in
     around_second a.n a.count a.a a.b a.c (opens a.ua a.ub) (opens a.ub a.uc) (opens a.uc a.ua) start.requires.1
-    a.words.now o.last.1.1.0 q.new.words
-    (opens_as a.n a.count a.a a.b a.words.now o.last.1.1.0 (opens a.ua a.ub) o.result true (not-false o.result if1.left)
+    a.words.now o.new.words q.new.words
+    (opens_as a.n a.count a.a a.b a.words.now o.new.words (opens a.ua a.ub) o.result true (not-false o.result if1.false)
     o.ensures)
-    (opens_as a.n a.count a.b a.c o.last.1.1.0 q.new.words (opens a.ub a.uc) q.result false
-    (not-true q.result c.if2.true) q.ensures)
+    (opens_as a.n a.count a.b a.c o.new.words q.new.words (opens a.ub a.uc) q.result false
+    (c.if-not-open_side-2.true) q.ensures)
 
 pub open_side-requires-3 : goal.open_side-requires-3
 open_side-requires-3 c =
@@ -59,20 +59,20 @@ open_side-requires-3 c =
     let a = start.args in
     let o = open-side in
     let q = open-side2 in
-    let one = bound_same a.n (3 * a.count) (omega (arith, p.1)) a.words.now o.last.1.1.0
-    (front_same a.n a.count a.words.now o.last.1.1.0 o.ensures.outside) p.6 in (
+    let one = bound_same a.n (3 * a.count) (omega (arith, p.1)) a.words.now o.new.words
+    (front_same a.n a.count a.words.now o.new.words o.ensures.outside) p.6 in (
       p.0,
       p.1,
       p.4,
       p.2,
-      omega (arith, p.5, o.kept.1.1.0, q.kept.1.1.0),
-      bound_same a.n (3 * a.count) (omega (arith, p.1)) o.last.1.1.0
-          q.last.1.1.0 (front_same a.n a.count o.last.1.1.0 q.last.1.1.0 q.ensures.outside) one,
+      omega (arith, p.5, o.auto.words, q.auto.words),
+      bound_same a.n (3 * a.count) (omega (arith, p.1)) o.new.words
+          q.new.words (front_same a.n a.count o.new.words q.new.words q.ensures.outside) one,
     )
 
 pub returns : goal.returns
 returns c =
-    let if2 = c.if2 in
+    let if2 = c.if-not-open_side-2 in
     let open-side2 = c.open_side-2 in
     let if1 = c.if-not-open_side in
     let open-side = c.open_side in
@@ -82,10 +82,10 @@ returns c =
     let q = open-side2 in
     let s = c.open_side-3 in
     around_third a.n a.count a.a a.b a.c (opens a.ua a.ub) (opens a.ub a.uc) (opens a.uc a.ua) start.requires.1 a.words.now
-    o.last.1.1.0 q.last.1.1.0
-    (opens_as a.n a.count a.a a.b a.words.now o.last.1.1.0 (opens a.ua a.ub) o.result true (not-false o.result if1.left)
+    o.new.words q.new.words
+    (opens_as a.n a.count a.a a.b a.words.now o.new.words (opens a.ua a.ub) o.result true (not-false o.result if1.false)
     o.ensures)
     s.new.words s.result
-    (opens_as a.n a.count a.b a.c o.last.1.1.0 q.last.1.1.0 (opens a.ub a.uc) q.result true
-    (not-false q.result if2.left) q.ensures)
+    (opens_as a.n a.count a.b a.c o.new.words q.new.words (opens a.ub a.uc) q.result true
+    (not-false q.result if2.false) q.ensures)
     s.ensures

@@ -132,7 +132,7 @@ returns-then-not-may_place c =
     let start = c in
     let a = start.args in
     place_unfit a.n a.count a.i start.requires.1 start.requires.2 a.words.now start.requires.4 a.shared
-    (sym c.may_place.ensures ∙ not-true c.may_place.result c.if-not-may_place.true)
+    (sym c.may_place.ensures ∙ c.if-not-may_place.true)
 
 pub overflow_cast-a : goal.overflow_cast-a
 overflow_cast-a c =
@@ -183,9 +183,9 @@ open_sides-requires c =
       p.0,
       p.1,
       p.2,
-      omega (arith, start.requires.3, r.kept.1.1.0, m.auto.words),
+      omega (arith, start.requires.3, r.auto.words, m.auto.words),
       marked_bound a.n a.count a.i
-          start.requires.1 start.requires.2 a.words.now start.requires.4 r.last.1.1.0 m.new.words r.ensures m.ensures,
+          start.requires.1 start.requires.2 a.words.now start.requires.4 r.new.words m.new.words r.ensures m.ensures,
     )
 
 pub returns : goal.returns
@@ -199,6 +199,6 @@ returns c =
     let r = renew in
     let m = reach in
     let o = c.open_sides in
-    place_done a.n a.count a.i start.requires.1 start.requires.2 a.words.now start.requires.4 a.shared r.last.1.1.0 o.new.words
-    o.result (sym may-place.ensures ∙ not-false may-place.result if1.left) r.ensures (omega (arith, start.requires.3, r.kept.1.1.0))
-    m.last.1.0 m.ensures o.ensures
+    place_done a.n a.count a.i start.requires.1 start.requires.2 a.words.now start.requires.4 a.shared r.new.words o.new.words
+    o.result (sym may-place.ensures ∙ not-false may-place.result if1.false) r.ensures (omega (arith, start.requires.3, r.auto.words))
+    m.new.words m.ensures o.ensures

@@ -14,15 +14,15 @@ loop-at-init c = (search rules, search rules, refl, leads_start _ _ refl)
 
 pub faces_over-laid-requires : goal.faces_over-laid-requires
 faces_over-laid-requires c =
-    let s = start_of_faces_over_arg c in
-    (s.pre.0, s.pre.1, search rules, search rules)
+    let s = c in
+    (s.requires.0, s.requires.1, search rules, search rules)
 
 pub loop-at-preserved : goal.loop-at-preserved
 loop-at-preserved c =
-    let f = c.before.before in
-    let t = f.before.before in
+    let f = c in
+    let t = f in
     let l = t.loop-at in
-    let s = t.before.before.before.before.before.before in
+    let s = t in
     let a = s.args in (
       search rules,
       f.faces_over-laid.ensures.most,
@@ -35,7 +35,7 @@ loop-at-preserved c =
 pub returns : goal.returns
 returns c =
     let l = c.loop-at in
-    let s = start_of_after_loop c in
+    let s = c in
     let a = s.args in
-    leads_end l.invariant.3 (at_end a.points.now a.radius a.i a.w.now a.listed s.pre.1.lists.words_enough l.at c.loop-at-test.false)
+    leads_end l.invariant.3 (at_end a.points.now a.radius a.i a.w.now a.listed s.requires.1.lists.words_enough l.at c.loop-at-test.false)
     l.invariant.1

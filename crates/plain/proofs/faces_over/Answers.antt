@@ -16,7 +16,7 @@ returns-then-count-ge-MAX_TRIANGLES c = lays_full _ _ (omega arith) _ (omega ari
 
 pub overflow_cast-a : goal.overflow_cast-a
 overflow_cast-a c =
-    let s = start_of_shared_slice_known4 c in
+    let s = c in
     omega (arith, c.type_inv.w s.args.at)
 
 pub loop-k-init : goal.loop-k-init
@@ -27,9 +27,9 @@ overflow_cast-w c = omega (arith, c.type_inv.w c.loop-k.k)
 
 pub try_face-laid-requires : goal.try_face-laid-requires
 try_face-laid-requires c =
-    let t = c.before.before.before in
+    let t = c in
     let l = t.loop-k in
-    let s = t.before.before.before.before.before.before.before.before.before in
+    let s = t in
     let g = s.requires.1.lists in (
       s.requires.1.ready,
       s.requires.0,
@@ -43,10 +43,10 @@ try_face-laid-requires c =
 
 pub loop-k-preserved : goal.loop-k-preserved
 loop-k-preserved c =
-    let f = c.before.before in
-    let t = f.before.before.before.before in
+    let f = c in
+    let t = f in
     let l = t.loop-k in
-    let s = t.before.before.before.before.before.before.before.before.before in
+    let s = t in
     let a = s.args in (
       search rules,
       f.try_face-laid.ensures.most,
@@ -61,8 +61,8 @@ loop-k-preserved c =
 pub returns : goal.returns
 returns c =
     let l = c.loop-k in
-    let s = start_of_after_loop c in
+    let s = c in
     let a = s.args in
     leads_end l.invariant.5
-    (over_end a.points.now a.radius a.i a.w.now a.listed s.pre.1.lists.words_enough (get_or a.w.now a.at 0) l.k
+    (over_end a.points.now a.radius a.i a.w.now a.listed s.requires.1.lists.words_enough (get_or a.w.now a.at 0) l.k
     c.loop-k-test.false) l.invariant.1

@@ -15,7 +15,7 @@ use Rattle.plain.proofs.simple_triangulate.Goals as goal
 
 pub loop-i-init : goal.loop-i-init
 loop-i-init c =
-    let a = (start_of_limits_of c).args in (
+    let a = c.args in (
       search rules,
       refl,
       search rules,
@@ -30,18 +30,18 @@ loop-i-init c =
 
 pub loop-i-preserved : goal.loop-i-preserved
 loop-i-preserved c =
-    let f = (faces_at_of_is_either c).faces-at in
-    let l = (at_loop_of_is_either c).loop in
-    let a = (start_of_is_either c).args in (
+    let f = c.faces_at-step in
+    let l = c.loop-i in
+    let a = c.args in (
       search rules,
       search rules,
       f.ensures.0.most,
       search rules,
       search rules,
       search rules,
-      l.inv.6,
-      leads_step l.inv.7 (of_more a.points.now a.radius l.i _ (in_loop_of_is_either c).loop-test.true) f.ensures.0,
-      track_step a.points.now a.radius l.inv.8 (in_loop_of_is_either c).loop-test.true l.inv.2 f.ensures.0 f.ensures.1
+      l.invariant.6,
+      leads_step l.invariant.7 (of_more a.points.now a.radius l.i _ c.loop-i-test.true) f.ensures.0,
+      track_step a.points.now a.radius l.invariant.8 c.loop-i-test.true l.invariant.2 f.ensures.0 f.ensures.1
           c.is_either-judged.ensures,
     )
 
@@ -49,6 +49,6 @@ pub returns : goal.returns
 unfolding plain_faces plain_reached
 returns c =
     let l = c.loop-i in
-    let a = (start_of_after_loop c).args in
+    let a = c.args in
     let e = lays_whole (leads_end l.invariant.7 (of_none a.points.now a.radius l.i _ c.loop-i-test.false) l.invariant.2) in
     (e.0, e.1, track_end a.points.now a.radius l.invariant.8 c.loop-i-test.false)

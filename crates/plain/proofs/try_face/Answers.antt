@@ -16,16 +16,16 @@ is_sound-requires c = let s = c in
 
 pub returns-then-not-is_sound : goal.returns-then-not-is_sound
 returns-then-not-is_sound c =
-    let p = c.before.before in
+    let p = c in
     let a = p.args in
     rw (valid_is a.points.now a.radius a.i a.a a.b p.point_at-p1.ensures p.point_at-p2.ensures
-    p.point_at-p3.ensures c.is_sound.ensures ∙ not-true _ c.if-not-is_sound.true) (lays_none _ _ (omega arith))
+    p.point_at-p3.ensures c.is_sound.ensures ∙ c.if-not-is_sound.true) (lays_none _ _ (omega arith))
 
 pub returns : goal.returns
 returns c =
     let e = c in
-    let p = e.before.before in
+    let p = e in
     let a = p.args in
     rw (valid_is a.points.now a.radius a.i a.a a.b p.point_at-p1.ensures p.point_at-p2.ensures
-    p.point_at-p3.ensures e.is_sound.ensures ∙ not-false _ e.if-not-is_sound.left)
+    p.point_at-p3.ensures e.is_sound.ensures ∙ e.if-not-is_sound.false)
     (lays_one _ _ _ _ (omega arith) c.put_face.ensures)

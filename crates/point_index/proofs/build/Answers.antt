@@ -35,15 +35,15 @@ pub slice_bounds-put_bits-end : goal.slice_bounds-put_bits-end
 slice_bounds-put_bits-end c =
     let order-points = c.order_points-end in
     let start = c in
-    end_fits start.args.points.now start.args.index.now order-points.last.1.0 start.args.floats.now order-points.last.1.1.0
-    order-points.result start.requires order-points.ensures order-points.kept.1.0 order-points.kept.1.1.0
+    end_fits start.args.points.now start.args.index.now order-points.new.order start.args.floats.now order-points.new.floats
+    order-points.result start.requires order-points.ensures order-points.auto.order order-points.auto.floats
 
 pub slice_bounds-put_bits-end-2 : goal.slice_bounds-put_bits-end-2
 slice_bounds-put_bits-end-2 c =
     let order-points = c.order_points-end in
     let start = c in
-    sym (boxes_count start.args.points.now start.args.index.now order-points.last.1.0 start.args.floats.now order-points.last.1.1.0
-    order-points.result start.requires order-points.ensures order-points.kept.1.0 order-points.kept.1.1.0)
+    sym (boxes_count start.args.points.now start.args.index.now order-points.new.order start.args.floats.now order-points.new.floats
+    order-points.result start.requires order-points.ensures order-points.auto.order order-points.auto.floats)
 
 pub put_bits-requires : goal.put_bits-requires
 put_bits-requires c =
@@ -51,13 +51,13 @@ put_bits-requires c =
     let start = c in
     omega (
       arith,
-      boxes_count start.args.points.now start.args.index.now order-points.last.1.0 start.args.floats.now
-          order-points.last.1.1.0 order-points.result start.requires order-points.ensures order-points.kept.1.0 order-points.kept.1.1.0,
-      ordered_size start.args.points.now start.args.index.now order-points.last.1.0 start.args.floats.now order-points.last.1.1.0
-          order-points.result start.requires order-points.ensures order-points.kept.1.0 order-points.kept.1.1.0,
+      boxes_count start.args.points.now start.args.index.now order-points.new.order start.args.floats.now
+          order-points.new.floats order-points.result start.requires order-points.ensures order-points.auto.order order-points.auto.floats,
+      ordered_size start.args.points.now start.args.index.now order-points.new.order start.args.floats.now order-points.new.floats
+          order-points.result start.requires order-points.ensures order-points.auto.order order-points.auto.floats,
       index_fits start.args.points.now
-          start.args.index.now order-points.last.1.0 start.args.floats.now order-points.last.1.1.0 order-points.result start.requires
-          order-points.ensures order-points.kept.1.0 order-points.kept.1.1.0,
+          start.args.index.now order-points.new.order start.args.floats.now order-points.new.floats order-points.result start.requires
+          order-points.ensures order-points.auto.order order-points.auto.floats,
       start.requires.index_enough,
     )
 
@@ -67,8 +67,8 @@ overflow_add-n c =
     let start = c in
     omega (
       arith,
-      index_fits start.args.points.now start.args.index.now order-points.last.1.0 start.args.floats.now
-          order-points.last.1.1.0 order-points.result start.requires order-points.ensures order-points.kept.1.0 order-points.kept.1.1.0,
+      index_fits start.args.points.now start.args.index.now order-points.new.order start.args.floats.now
+          order-points.new.floats order-points.result start.requires order-points.ensures order-points.auto.order order-points.auto.floats,
       start.requires.cloud.few,
     )
 
@@ -76,14 +76,14 @@ pub clear_between-requires : goal.clear_between-requires
 clear_between-requires c =
     let order-points = c.order_points-end in
     let start = c in (
-      index_fits start.args.points.now start.args.index.now order-points.last.1.0 start.args.floats.now order-points.last.1.1.0
-          order-points.result start.requires order-points.ensures order-points.kept.1.0 order-points.kept.1.1.0,
+      index_fits start.args.points.now start.args.index.now order-points.new.order start.args.floats.now order-points.new.floats
+          order-points.result start.requires order-points.ensures order-points.auto.order order-points.auto.floats,
       omega (
         arith,
         c.put_bits.auto.index,
-        ordered_size start.args.points.now start.args.index.now order-points.last.1.0
-            start.args.floats.now order-points.last.1.1.0 order-points.result start.requires order-points.ensures order-points.kept.1.0
-            order-points.kept.1.1.0,
+        ordered_size start.args.points.now start.args.index.now order-points.new.order
+            start.args.floats.now order-points.new.floats order-points.result start.requires order-points.ensures order-points.auto.order
+            order-points.auto.floats,
         start.requires.index_enough,
       ),
     )
@@ -93,15 +93,15 @@ shape_of-index c =
     let put-bits = c.put_bits in
     let order-points = c.order_points-end in
     let start = c in
-    c.clear_between.auto.index ∙ put-bits.kept.1.0 ∙ ordered_size start.args.points.now start.args.index.now
-    order-points.last.1.0 start.args.floats.now order-points.last.1.1.0 order-points.result start.requires order-points.ensures
-    order-points.kept.1.0 order-points.kept.1.1.0
+    c.clear_between.auto.index ∙ put-bits.auto.index ∙ ordered_size start.args.points.now start.args.index.now
+    order-points.new.order start.args.floats.now order-points.new.floats order-points.result start.requires order-points.ensures
+    order-points.auto.order order-points.auto.floats
 
 pub returns : goal.returns
 returns c =
     let put-bits = c.put_bits in
     let order-points = c.order_points-end in
     let start = c in
-    built_end start.args.points.now start.args.index.now order-points.last.1.0 start.args.floats.now order-points.last.1.1.0
-    order-points.result start.requires order-points.ensures order-points.kept.1.0 order-points.kept.1.1.0 put-bits.last.1.0
+    built_end start.args.points.now start.args.index.now order-points.new.order start.args.floats.now order-points.new.floats
+    order-points.result start.requires order-points.ensures order-points.auto.order order-points.auto.floats put-bits.new.index
     c.clear_between.new.index put-bits.ensures c.clear_between.ensures

@@ -26,7 +26,7 @@ returns c =
     let if1 = c.if-refusal-ne0 in
     let refusal-of-index = c.refusal_of_index-refusal in
     let start = c in
-    let e : length build.last.1.1.0 ≡ length start.args.floats.now = build.kept.1.1.0 in builds_passed start.args.points.now
-    start.args.index.now start.args.words.now start.args.floats.now _ refusal-of-index.ensures if1.left build.last.1.0
-    clear-u32.last.0 c.clear_f32.new.w build.ensures clear-u32.ensures
+    let e : length build.new.floats ≡ length start.args.floats.now = build.auto.floats in builds_passed start.args.points.now
+    start.args.index.now start.args.words.now start.args.floats.now _ refusal-of-index.ensures if1.false build.new.index
+    clear-u32.new.w c.clear_f32.new.w build.ensures clear-u32.ensures
     (c.clear_f32.ensures ∙ ap (λ (n : ℕ). replicate n (f32 0)) e)

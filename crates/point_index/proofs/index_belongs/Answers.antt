@@ -29,8 +29,8 @@ returns c =
     let if1 = c.if-refusal-ne0 in
     let refusal-of-index = c.refusal_of_index-refusal in
     let start = c in
-    let e : length matches.last.1.1.1.0 ≡ length start.args.floats.now = matches.kept.1.1.1.0 in let w : length
-    matches.last.1.1.0 ≡ length start.args.words.now = matches.kept.1.1.0 in tells_passed start.args.points.now start.args.index.now
-    start.args.words.now start.args.floats.now _ refusal-of-index.ensures if1.left matches.result clear-u32.last.0
+    let e : length matches.new.floats ≡ length start.args.floats.now = matches.auto.floats in let w : length
+    matches.new.words ≡ length start.args.words.now = matches.auto.words in tells_passed start.args.points.now start.args.index.now
+    start.args.words.now start.args.floats.now _ refusal-of-index.ensures if1.false matches.result clear-u32.new.w
     c.clear_f32.new.w matches.ensures (clear-u32.ensures ∙ ap (λ (n : ℕ). replicate n 0) w)
     (c.clear_f32.ensures ∙ ap (λ (n : ℕ). replicate n (f32 0)) e)

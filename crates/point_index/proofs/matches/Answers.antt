@@ -12,10 +12,10 @@ pub same_front-requires : goal.same_front-requires
 same_front-requires c =
     let build = c.build in
     let start = c in
-    (start.requires.0.index_enough, omega (arith, start.requires.1, build.kept.1.0))
+    (start.requires.0.index_enough, omega (arith, start.requires.1, build.auto.index))
 
 pub returns : goal.returns
 returns c =
     let build = c.build in
     let start = c in
-    matches_end start.args.points.now start.args.index.now start.args.words.now build.last.1.0 build.ensures c.same_front.ensures
+    matches_end start.args.points.now start.args.index.now start.args.words.now build.new.index build.ensures c.same_front.ensures

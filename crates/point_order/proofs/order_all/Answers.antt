@@ -20,9 +20,9 @@ order_along-requires-2 c =
     let order-along = c.order_along in
     let start = c in (
       lit≤ tt,
-      as_long start.requires.0 start.requires.2 order-along.kept.1.1.1.0 order-along.kept.1.1.1.1.1.0
-          order-along.kept.1.1.1.1.1.1.0,
-      omega (arith, start.requires.2, order-along.kept.1.1.1.1.0),
+      as_long start.requires.0 start.requires.2 order-along.auto.work order-along.auto.counts
+          order-along.auto.floats,
+      omega (arith, start.requires.2, order-along.auto.keys),
     )
 
 pub order_along-requires-3 : goal.order_along-requires-3
@@ -31,11 +31,11 @@ order_along-requires-3 c =
     let order-along = c.order_along in
     let start = c in (
       lit≤ tt,
-      as_long start.requires.0 start.requires.3 (order-along2.kept.1.1.1.0 ∙ order-along.kept.1.1.1.0)
-          (order-along2.kept.1.1.1.1.1.0 ∙ order-along.kept.1.1.1.1.1.0)
-          (order-along2.kept.1.1.1.1.1.1.0 ∙ order-along.kept.1.1.1.1.1.1.0),
+      as_long start.requires.0 start.requires.3 (order-along2.auto.work ∙ order-along.auto.work)
+          (order-along2.auto.counts ∙ order-along.auto.counts)
+          (order-along2.auto.floats ∙ order-along.auto.floats),
       omega
-          (arith, start.requires.3, order-along.kept.1.1.1.1.0, order-along2.kept.1.1.1.1.0),
+          (arith, start.requires.3, order-along.auto.keys, order-along2.auto.keys),
     )
 
 pub number_order-requires : goal.number_order-requires
@@ -48,9 +48,9 @@ number_order-requires c =
       arith,
       start.requires.0.count,
       start.requires.0.cloud.few,
-      order-along.kept.1.1.1.1.0,
-      order-along2.kept.1.1.1.1.0,
-      order-along3.kept.1.1.1.1.0,
+      order-along.auto.keys,
+      order-along2.auto.keys,
+      order-along3.auto.keys,
     )
 
 pub split-requires : goal.split-requires
@@ -62,14 +62,14 @@ split-requires c =
     let shared-slice-known = c.type_inv.points in
     let start = c in
     let p = start.args.points.now in
-    start_ready number-order.last.0 start.requires.0 shared-slice-known.given order-along.last.1.1.0 order-along2.last.1.1.0
-    order-along3.last.1.1.0
-    (number-order.ensures ∙ ap (up_from 0) (order-along3.kept.1.1.1.1.0 ∙ order-along2.kept.1.1.1.1.0 ∙ order-along.kept.1.1.1.1.0))
+    start_ready number-order.new.order start.requires.0 shared-slice-known.given order-along.new.list order-along2.new.list
+    order-along3.new.list
+    (number-order.ensures ∙ ap (up_from 0) (order-along3.auto.keys ∙ order-along2.auto.keys ∙ order-along.auto.keys))
     (order-along.ensures ∙ ap (λ (n : ℕ). sorted_by (precedes p 0) (up_from 0 n)) start.requires.1)
     (order-along2.ensures ∙ ap (λ (n : ℕ). sorted_by (precedes p 1) (up_from 0 n)) start.requires.2)
     (order-along3.ensures ∙ ap (λ (n : ℕ). sorted_by (precedes p 2) (up_from 0 n)) start.requires.3)
-    (order-along3.kept.1.1.1.0 ∙ order-along2.kept.1.1.1.0 ∙ order-along.kept.1.1.1.0)
-    (order-along3.kept.1.1.1.1.1.1.0 ∙ order-along2.kept.1.1.1.1.1.1.0 ∙ order-along.kept.1.1.1.1.1.1.0)
+    (order-along3.auto.work ∙ order-along2.auto.work ∙ order-along.auto.work)
+    (order-along3.auto.floats ∙ order-along2.auto.floats ∙ order-along.auto.floats)
 
 pub shape_of-order : goal.shape_of-order
 shape_of-order c =
@@ -78,25 +78,25 @@ shape_of-order c =
     let order-along3 = c.order_along-3 in
     let order-along2 = c.order_along-2 in
     let order-along = c.order_along in
-    split.kept.1.0 ∙ number-order.kept.0 ∙ order-along3.kept.1.1.1.1.0 ∙ order-along2.kept.1.1.1.1.0 ∙ order-along.kept.1.1.1.1.0
+    split.auto.order ∙ number-order.auto.order ∙ order-along3.auto.keys ∙ order-along2.auto.keys ∙ order-along.auto.keys
 
 pub shape_of-x : goal.shape_of-x
 shape_of-x c =
     let split = c.split in
     let order-along = c.order_along in
-    split.kept.1.1.0 ∙ order-along.kept.1.1.0
+    split.auto.x ∙ order-along.auto.list
 
 pub shape_of-y : goal.shape_of-y
 shape_of-y c =
     let split = c.split in
     let order-along2 = c.order_along-2 in
-    split.kept.1.1.1.0 ∙ order-along2.kept.1.1.0
+    split.auto.y ∙ order-along2.auto.list
 
 pub shape_of-z : goal.shape_of-z
 shape_of-z c =
     let split = c.split in
     let order-along3 = c.order_along-3 in
-    split.kept.1.1.1.1.0 ∙ order-along3.kept.1.1.0
+    split.auto.z ∙ order-along3.auto.list
 
 pub shape_of-work : goal.shape_of-work
 shape_of-work c =
@@ -104,14 +104,14 @@ shape_of-work c =
     let order-along3 = c.order_along-3 in
     let order-along2 = c.order_along-2 in
     let order-along = c.order_along in
-    split.kept.1.1.1.1.1.0 ∙ order-along3.kept.1.1.1.0 ∙ order-along2.kept.1.1.1.0 ∙ order-along.kept.1.1.1.0
+    split.auto.work ∙ order-along3.auto.work ∙ order-along2.auto.work ∙ order-along.auto.work
 
 pub shape_of-counts : goal.shape_of-counts
 shape_of-counts c =
     let order-along3 = c.order_along-3 in
     let order-along2 = c.order_along-2 in
     let order-along = c.order_along in
-    order-along3.kept.1.1.1.1.1.0 ∙ order-along2.kept.1.1.1.1.1.0 ∙ order-along.kept.1.1.1.1.1.0
+    order-along3.auto.counts ∙ order-along2.auto.counts ∙ order-along.auto.counts
 
 pub shape_of-floats : goal.shape_of-floats
 shape_of-floats c =
@@ -119,8 +119,8 @@ shape_of-floats c =
     let order-along3 = c.order_along-3 in
     let order-along2 = c.order_along-2 in
     let order-along = c.order_along in
-    split.kept.1.1.1.1.1.1.0 ∙ order-along3.kept.1.1.1.1.1.1.0 ∙ order-along2.kept.1.1.1.1.1.1.0
-    ∙ order-along.kept.1.1.1.1.1.1.0
+    split.auto.boxes ∙ order-along3.auto.floats ∙ order-along2.auto.floats
+    ∙ order-along.auto.floats
 
 pub returns : goal.returns
 returns c =
@@ -130,6 +130,6 @@ returns c =
     let order-along2 = c.order_along-2 in
     let order-along = c.order_along in
     let start = c in
-    ordered_all number-order.last.0 split.last.1.0 _ split.last.1.1.1.1.1.1.0 _ start.requires.0
-    (number-order.ensures ∙ ap (up_from 0) (order-along3.kept.1.1.1.1.0 ∙ order-along2.kept.1.1.1.1.0 ∙ order-along.kept.1.1.1.1.0))
+    ordered_all number-order.new.order split.new.order _ split.new.boxes _ start.requires.0
+    (number-order.ensures ∙ ap (up_from 0) (order-along3.auto.keys ∙ order-along2.auto.keys ∙ order-along.auto.keys))
     split.ensures

@@ -26,7 +26,7 @@ returns-then-rises c =
     let guess = c.guess in
     let shared-slice-known = c.type_inv.points in
     let start = c in
-    guessed start.requires.1 shared-slice-known.given _ start.requires.0 guess.last.1.1.0 guess.kept.1.1.0
+    guessed start.requires.1 shared-slice-known.given _ start.requires.0 guess.new.list guess.auto.list
     (c.rises.ensures c.if-rises.true)
 
 pub number_order-requires : goal.number_order-requires
@@ -34,7 +34,7 @@ number_order-requires c =
     let guess = c.guess in
     let start = c in
     let a = start.requires.1 in
-    omega (arith, a.count, a.cloud.few, guess.kept.1.1.0)
+    omega (arith, a.count, a.cloud.few, guess.auto.list)
 
 pub sort-requires : goal.sort-requires
 sort-requires c =
@@ -42,11 +42,11 @@ sort-requires c =
     let guess = c.guess in
     let start = c in
     let a = start.requires.1 in
-    let g = guess.kept.1.1.0 in (
+    let g = guess.auto.list in (
       start.requires.0,
-      omega (arith, number-order.kept.0, g, a.floats_enough),
+      omega (arith, number-order.auto.order, g, a.floats_enough),
       subst⁻¹ Small number-order.ensures
-          (up_small 0 (length guess.last.1.1.0) (omega (arith, g, a.count, a.cloud.few))),
+          (up_small 0 (length guess.new.list) (omega (arith, g, a.count, a.cloud.few))),
     )
 
 pub returns : goal.returns
@@ -55,4 +55,4 @@ returns c =
     let number-order = c.number_order in
     let guess = c.guess in
     let start = c in
-    sort.ensures ∙ ap (sorted_by (precedes start.args.points.now start.args.axis)) (number-order.ensures ∙ ap (up_from 0) guess.kept.1.1.0)
+    sort.ensures ∙ ap (sorted_by (precedes start.args.points.now start.args.axis)) (number-order.ensures ∙ ap (up_from 0) guess.auto.list)

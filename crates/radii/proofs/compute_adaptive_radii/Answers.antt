@@ -29,12 +29,12 @@ returns-then-count-eq0 c =
     let start = c in
     let s = start in
     let m = measure in
-    let u : List Float = m.last.1.1.1.1.1.1.0 in (
+    let u : List Float = m.new.f in (
       subst (λ (xs : List Float). RadiiListed xs (record { list = replicate 17 (f32 0); count = 0 }))
           (radii_none s.args.config u
           (densities_from s.args.config s.args.grid s.args.points.now s.args.n (step_of s.args.n) 0 (sample_count s.args.n))
           (ap (λ (k : ℕ). take k u) (sym c.if-count-eq0.true) ∙ m.ensures.0) ∙ radii_on s.args.config s.args.grid s.args.points.now s.args.n
-          if1.left) listed_none,
+          if1.false) listed_none,
       m.ensures.2,
       m.ensures.3,
     )
@@ -47,12 +47,12 @@ returns c =
     let start = c in
     let s = start in
     let m = measure in
-    let u : List Float = m.last.1.1.1.1.1.1.0 in (
+    let u : List Float = m.new.f in (
       subst (λ (xs : List Float). RadiiListed xs c.choose.result)
           (radii_some s.args.config u
           (densities_from s.args.config s.args.grid s.args.points.now s.args.n (step_of s.args.n) 0 (sample_count s.args.n)) m.result
-          (omega (arith, if2.left)) (omega (arith, m.ensures.1, m.kept.1.1.1.1.1.1.0, s.requires.room)) m.ensures.0 ∙ radii_on s.args.config
-          s.args.grid s.args.points.now s.args.n if1.left) c.choose.ensures,
+          (omega (arith, if2.false)) (omega (arith, m.ensures.1, m.auto.f, s.requires.room)) m.ensures.0 ∙ radii_on s.args.config
+          s.args.grid s.args.points.now s.args.n if1.false) c.choose.ensures,
       m.ensures.2,
       m.ensures.3,
     )

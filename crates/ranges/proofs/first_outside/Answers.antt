@@ -15,15 +15,15 @@ loop-at-init c = (search rules, leading_start _ _ _)
 pub returns-then-not-in_range : goal.returns-then-not-in_range
 unfolding first_outside
 returns-then-not-in_range c =
-    let s = c.before.before.before.before.before.before in
+    let s = c in
     let l = c.loop-at in
-    let e = leading_found _ _ s.args.values.now l.at _ c.in_range_lem.ensures l.invariant.1 (not-true _ c.if-not-in_range.true) in
+    let e = leading_found _ _ s.args.values.now l.at _ c.in_range.ensures l.invariant.1 (c.if-not-in_range.true) in
     sym (ap (λ (k : ℕ). k / 3) e)
 
 pub loop-at-preserved : goal.loop-at-preserved
 loop-at-preserved c =
     let l = c.loop-at in
-    (search rules, leading_passed _ _ _ l.at _ c.in_range_lem.ensures l.invariant.1 (not-false _ c.if-not-in_range.false))
+    (search rules, leading_passed _ _ _ l.at _ c.in_range.ensures l.invariant.1 (c.if-not-in_range.false))
 
 pub returns : goal.returns
 unfolding first_outside

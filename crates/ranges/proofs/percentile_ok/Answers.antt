@@ -5,4 +5,4 @@ use Rattle.ranges.proofs.percentile_ok.Goals as goal
 
 pub returns : goal.returns
 unfolding percentile_inside
-returns c = c.in_range_lem.ensures
+returns c = c.in_range.ensures

@@ -29,7 +29,7 @@ returns c =
     let start = c in
     let found = find in
     let a = start.args in
-    taken _ _ _ _ _ _ _ refusal-of-reconstruct.ensures _ _ _ _ if1.left
+    taken _ _ _ _ _ _ _ refusal-of-reconstruct.ensures _ _ _ _ if1.false
     (c.deliver.ensures _ _ _ _ _ (reason_is a.settings a.points.now) found.ensures)
-    (clear-u32.ensures ∙ ap (λ (k : ℕ). replicate k 0) found.kept.1.1.1.0)
-    (clear-f32.ensures ∙ ap (λ (k : ℕ). replicate k (f32 0)) found.kept.1.1.1.1.0)
+    (clear-u32.ensures ∙ ap (λ (k : ℕ). replicate k 0) found.auto.words)
+    (clear-f32.ensures ∙ ap (λ (k : ℕ). replicate k (f32 0)) found.auto.floats)

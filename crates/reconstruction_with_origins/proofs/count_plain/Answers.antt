@@ -7,4 +7,4 @@ pub returns : goal.returns
 returns c =
     let find-plain = c.find_plain in
     let start = c in
-    without_room _ _ _ _ _ find-plain.last.1.1.1.0 start.args.faces.now find-plain.ensures
+    without_room _ _ _ _ _ find-plain.new.faces start.args.faces.now find-plain.ensures

@@ -18,8 +18,8 @@ returns-then-radii-ne0 c =
     let survey = c.survey-known in
     let start = c in
     let e = survey.ensures in
-    for_laid _ _ _ _ _ _ e.2 _ if1.taken
-    (finds_laid _ _ _ _ _ _ _ e.0 start.requires.settled start.requires.sized e.2 if1.taken find-pivoting.ensures)
+    for_laid _ _ _ _ _ _ e.2 _ if1.true
+    (finds_laid _ _ _ _ _ _ _ e.0 start.requires.settled start.requires.sized e.2 if1.true find-pivoting.ensures)
 
 pub count_plain-requires : goal.count_plain-requires
 count_plain-requires c =
@@ -29,10 +29,10 @@ count_plain-requires c =
     let z = start.requires.sized in
     let k = start.requires.floats_enough in (
       z.few,
-      omega (arith, z.words_enough, survey.kept.1.1.0),
-      omega (arith, k, survey.kept.1.1.1.0),
+      omega (arith, z.words_enough, survey.auto.words),
+      omega (arith, k, survey.auto.floats),
       listed_none _ _ survey.ensures.2
-          if1.left,
+          if1.false,
     )
 
 pub returns-then-turned : goal.returns-then-turned
@@ -42,7 +42,7 @@ returns-then-turned c =
     let if1 = c.if-radii-ne0 in
     let survey = c.survey-known in
     let e = survey.ensures in
-    for_counted _ _ _ _ _ _ e.2 _ if2.taken if1.left (finds_plain _ _ _ _ [] _ [] e.0 e.2 if1.left count-plain.ensures.0)
+    for_counted _ _ _ _ _ _ e.2 _ if2.true if1.false (finds_plain _ _ _ _ [] _ [] e.0 e.2 if1.false count-plain.ensures.0)
     count-plain.ensures.1
 
 pub find_plain-requires : goal.find_plain-requires
@@ -53,10 +53,10 @@ find_plain-requires c =
     let z = start.requires.sized in
     let k = start.requires.floats_enough in (
       z.few,
-      omega (arith, z.words_enough, survey.kept.1.1.0),
-      omega (arith, k, survey.kept.1.1.1.0),
+      omega (arith, z.words_enough, survey.auto.words),
+      omega (arith, k, survey.auto.floats),
       listed_none _ _ survey.ensures.2
-          if1.left,
+          if1.false,
     )
 
 pub returns : goal.returns
@@ -66,4 +66,4 @@ returns c =
     let if1 = c.if-radii-ne0 in
     let survey = c.survey-known in
     let e = survey.ensures in
-    for_plain _ _ _ _ _ _ e.2 _ if2.left (finds_plain _ _ _ _ _ _ _ e.0 e.2 if1.left find-plain.ensures)
+    for_plain _ _ _ _ _ _ e.2 _ if2.false (finds_plain _ _ _ _ _ _ _ e.0 e.2 if1.false find-plain.ensures)

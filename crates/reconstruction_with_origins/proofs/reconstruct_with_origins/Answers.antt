@@ -27,8 +27,8 @@ deliver-patch-requires c =
     let start = c in
     let f = find in
     let ready = ready_of start.args.settings start.args.points.now start.args.normals.now start.args.words.now start.args.floats.now
-    (ap (λ (q : Refusal). q.answer) (sym refusal-of-reconstruct.ensures) ∙ if1.left) in
-    held_of _ _ _ _ _ _ f.ensures clear-u32.last.0 (omega (arith, clear-u32.kept.0, f.kept.1.1.1.1.0, ready.sized.words_enough))
+    (ap (λ (q : Refusal). q.answer) (sym refusal-of-reconstruct.ensures) ∙ if1.false) in
+    held_of _ _ _ _ _ _ f.ensures clear-u32.new.w (omega (arith, clear-u32.auto.w, f.auto.words, ready.sized.words_enough))
 
 pub returns : goal.returns
 returns c =
@@ -41,7 +41,7 @@ returns c =
     let f = find in
     let w = clear-u32 in
     let d = deliver in
-    taken _ _ _ _ _ _ _ _ _ refusal-of-reconstruct.ensures _ _ _ _ _ if1.left
-    (d.ensures _ _ _ f.ensures refl (zeros_again w.last.0 (length f.last.1.1.1.1.0) w.ensures))
-    (c.clear_u32-2.ensures ∙ ap (λ (k : ℕ). replicate k 0) (d.kept.1.1.1.1.1.0 ∙ w.kept.0 ∙ f.kept.1.1.1.1.0))
-    (clear-f32.ensures ∙ ap (λ (k : ℕ). replicate k (f32 0)) f.kept.1.1.1.1.1.0)
+    taken _ _ _ _ _ _ _ _ _ refusal-of-reconstruct.ensures _ _ _ _ _ if1.false
+    (d.ensures _ _ _ f.ensures refl (zeros_again w.new.w (length f.new.words) w.ensures))
+    (c.clear_u32-2.ensures ∙ ap (λ (k : ℕ). replicate k 0) (d.auto.words ∙ w.auto.w ∙ f.auto.words))
+    (clear-f32.ensures ∙ ap (λ (k : ℕ). replicate k (f32 0)) f.auto.floats)

@@ -13,14 +13,14 @@ returns-then-not-to_p-radius c =
     let a = c.args in
     let d = c.sqrt-to_p in
     score_far a.s a.radius a.top a.a (root a.b) (root a.c) (root a.cross ⊗ half)
-    (rw (← d.ensures) (not-true (le d.result a.radius) c.if-not-to_p-radius.true))
+    (rw (← d.ensures) (c.if-not-to_p-radius.true))
 
 pub returns-then-not-to_q-radius : goal.returns-then-not-to_q-radius
 returns-then-not-to_q-radius c =
     let a = c.args in
     let e = c.sqrt-to_q in
     score_far_too a.s a.radius a.top a.a (root a.b) (root a.c) (root a.cross ⊗ half)
-    (rw (← e.ensures) (not-true (le e.result a.radius) c.if-not-to_q-radius.true))
+    (rw (← e.ensures) (c.if-not-to_q-radius.true))
 
 pub returns : goal.returns
 returns c =
@@ -28,6 +28,6 @@ returns c =
     let d = c.sqrt-to_p in
     let e = c.sqrt-to_q in
     score_near_lem a.s a.radius a.top a.a (root a.b) (root a.c) (root a.cross ⊗ half)
-    (rw (← d.ensures) (not-false (le d.result a.radius) c.if-not-to_p-radius.false))
-    (rw (← e.ensures) (not-false (le e.result a.radius) c.if-not-to_q-radius.false))
+    (rw (← d.ensures) (c.if-not-to_p-radius.false))
+    (rw (← e.ensures) (c.if-not-to_q-radius.false))
     (rw (← d.ensures, ← e.ensures, ← c.sqrt.ensures) c.score_from.ensures)

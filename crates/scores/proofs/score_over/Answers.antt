@@ -7,7 +7,7 @@ use Rattle.scores.proofs.score_over.Goals as goal
 
 pub returns-then-is_thin : goal.returns-then-is_thin
 returns-then-is_thin c =
-    let n = c.before.before.before.before.before in
+    let n = c in
     let a = n.args in
     over_thin a.s a.radius a.top a.side.p a.side.q a.t n.requires.1
     (rw (
@@ -21,7 +21,7 @@ returns-then-is_thin c =
 
 pub returns : goal.returns
 returns c =
-    let n = c.before.before.before.before.before.before in
+    let n = c in
     let a = n.args in
     over_found a.s a.radius a.top a.side.p a.side.q a.t
     (rw (
@@ -31,4 +31,4 @@ returns c =
       ← c.distance_squared-to_q.ensures,
       ← c.distance_squared-to_p.ensures,
     )
-    c.score_near_lem.ensures)
+    c.score_near.ensures)

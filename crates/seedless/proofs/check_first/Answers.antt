@@ -48,7 +48,7 @@ search_found-rest-requires c =
     let gather-within = c.gather_within-found in
     let start = c in
     let g = gather-within in
-    let held = held_kept g.last.1.0 start.requires.0 g.kept.1.0 in (
+    let held = held_kept g.new.w start.requires.0 g.auto.w in (
       held,
       below_listed held.work_long g.ensures.most g.ensures.surrounds.below,
       start.requires.2,
@@ -59,7 +59,7 @@ pub shape_of-w-then-rest-eq0 : goal.shape_of-w-then-rest-eq0
 shape_of-w-then-rest-eq0 c =
     let search-found = c.search_found-rest in
     let gather-within = c.gather_within-found in
-    search-found.kept.1.1.0 ∙ gather-within.kept.1.0
+    search-found.auto.w ∙ gather-within.auto.w
 
 pub returns-then-rest-eq0 : goal.returns-then-rest-eq0
 returns-then-rest-eq0 c =
@@ -72,7 +72,7 @@ pub shape_of-w : goal.shape_of-w
 shape_of-w c =
     let search-found = c.search_found-rest in
     let gather-within = c.gather_within-found in
-    search-found.kept.1.1.0 ∙ gather-within.kept.1.0
+    search-found.auto.w ∙ gather-within.auto.w
 
 pub returns : goal.returns
 returns c =
@@ -84,7 +84,7 @@ returns c =
     let g = gather-within in
     let f = search-found in
     let ne = c.if-rest-eq0.false in
-    let near = subst (λ (q : Point3f). NearPlace a.points.now a.p.scene.n q a.p.limits.far a.w.now g.last.1.0 g.result)
+    let near = subst (λ (q : Point3f). NearPlace a.points.now a.p.scene.n q a.p.limits.far a.w.now g.new.w g.result)
     point_at_lem.ensures g.ensures in
     let kept = near_kept {s = a.p.scene} near in (
       λ _. seedless_from a.lo a.i g.result (record { numbers = start.requires.1.linked.ready.numbers; limits = start.requires.3 }) kept

@@ -15,55 +15,55 @@ loop-i-init c = exhaust_start c.requires.0 c.requires.1
 
 pub search_unused-remaining-requires : goal.search_unused-remaining-requires
 search_unused-remaining-requires c = let l = c.loop-i in
-    (l.invariant.held, l.invariant.hashed, c.loop-i-test.true, (start_of_search_unused_arg c).requires.2)
+    (l.invariant.held, l.invariant.hashed, c.loop-i-test.true, c.requires.2)
 
 pub raise_budget-rest-requires : goal.raise_budget-rest-requires
 raise_budget-rest-requires c =
-    let loop-test = (in_loop_of_raise_budget_arg c).loop-test in
-    let loop = (at_loop_of_raise_budget_arg c).loop in
-    let start = start_of_raise_budget_arg c in
+    let loop-test = c.loop-i-test in
+    let loop = c.loop-i in
+    let start = c in
     let l = loop in
     let p = c.search_unused-remaining in
     let v = p.new.w in (
-      held_kept v l.inv.held p.auto.w,
-      hashed_search {s = start.args.p.scene} v l.inv.hashed p.auto.w p.ensures.1,
-      loop-test.taken,
+      held_kept v l.invariant.held p.auto.w,
+      hashed_search {s = start.args.p.scene} v l.invariant.hashed p.auto.w p.ensures.1,
+      loop-test.true,
     )
 
 pub points_left-requires : goal.points_left-requires
 points_left-requires c =
-    let loop-test = (in_loop_of_slice_known3 c).loop-test in
-    let loop = (at_loop_of_slice_known3 c).loop in
-    (loop-test.taken, loop.inv.held.few)
+    let loop-test = c.loop-i-test in
+    let loop = c.loop-i in
+    (loop-test.true, loop.invariant.held.few)
 
 pub is_enough-requires : goal.is_enough-requires
 is_enough-requires c = c.points_left.ensures
 
 pub shape_of-w-then-not-is_enough : goal.shape_of-w-then-not-is_enough
 shape_of-w-then-not-is_enough c =
-    let raise-budget = (raise_budget_of_then1 c).raise-budget in
-    let search-unused = (search_unused_of_then1 c).search-unused in
-    let loop = (at_loop_of_then1 c).loop in
-    raise-budget.kept.1.1.0 ∙ search-unused.kept.1.1.0 ∙ loop.inv.same
+    let raise-budget = c.raise_budget-rest in
+    let search-unused = c.search_unused-remaining in
+    let loop = c.loop-i in
+    raise-budget.auto.w ∙ search-unused.auto.w ∙ loop.invariant.same
 
 pub returns-then-not-is_enough : goal.returns-then-not-is_enough
 returns-then-not-is_enough c =
-    let raise-budget = (raise_budget_of_then1 c).raise-budget in
-    let search-unused = (search_unused_of_then1 c).search-unused in
-    let loop = (at_loop_of_then1 c).loop in
-    (λ h. absurd (subst T (sym h) tt), kept_on (kept_on loop.inv.kept search-unused.ensures.1) raise-budget.ensures.1)
+    let raise-budget = c.raise_budget-rest in
+    let search-unused = c.search_unused-remaining in
+    let loop = c.loop-i in
+    (λ h. absurd (subst T (sym h) tt), kept_on (kept_on loop.invariant.kept search-unused.ensures.1) raise-budget.ensures.1)
 
 pub loop-i-preserved : goal.loop-i-preserved
 loop-i-preserved c =
-    let raise-budget = (raise_budget_of_else1 c).raise-budget in
-    let search-unused = (search_unused_of_else1 c).search-unused in
-    let loop-test = (in_loop_of_else1 c).loop-test in
-    let loop = (at_loop_of_else1 c).loop in
+    let raise-budget = c.raise_budget-rest in
+    let search-unused = c.search_unused-remaining in
+    let loop-test = c.loop-i-test in
+    let loop = c.loop-i in
     let p = search-unused in
     let e = c.is_enough in
     let g = raise-budget in
-    exhaust_step g.last.1.1.0 loop.inv loop-test.taken (kept_on p.ensures.1 g.ensures.1) (g.kept.1.1.0 ∙ p.kept.1.1.0)
-    (p.ensures.0 (g.ensures.0 (e.ensures (not-false e.result c.if-not-is_enough.false))))
+    exhaust_step g.new.w loop.invariant loop-test.true (kept_on p.ensures.1 g.ensures.1) (g.auto.w ∙ p.auto.w)
+    (p.ensures.0 (g.ensures.0 (e.ensures (c.if-not-is_enough.false))))
 
 pub shape_of-w : goal.shape_of-w
 shape_of-w c = c.loop-i.invariant.same

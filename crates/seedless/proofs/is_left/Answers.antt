@@ -5,7 +5,7 @@ use borrow.Author.Rules.{rules}
 use Rattle.seedless.proofs.is_left.Goals as goal
 
 pub returns-then-not-is_other : goal.returns-then-not-is_other
-returns-then-not-is_other c = let o = c.is_other in rw (sym o.ensures ∙ not-true o.result c.if-not-is_other.true)
+returns-then-not-is_other c = let o = c.is_other in rw (sym o.ensures ∙ c.if-not-is_other.true)
 
 pub returns : goal.returns
-returns c = let o = c.is_other in rw (sym o.ensures ∙ not-false o.result c.if-not-is_other.false) c.is_unused.ensures
+returns c = let o = c.is_other in rw (sym o.ensures ∙ c.if-not-is_other.false) c.is_unused.ensures

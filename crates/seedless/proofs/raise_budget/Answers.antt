@@ -40,5 +40,5 @@ returns c =
     let gather-within = c.gather_within-found in
     let if2 = c.if-budget-eq0 in
     let start = c in
-    let ne = if2.left in
+    let ne = if2.false in
     (λ _. omega arith, near_kept {s = start.args.p.scene} gather-within.ensures)

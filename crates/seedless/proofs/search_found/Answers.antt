@@ -14,7 +14,7 @@ search_pairs-requires c =
     let g = start.requires in
     let q = c.range_of-all.ensures.in_range_lem in
     record {
-      held = held_kept o.last.1.1.0 (held_kept l.last.1.0 g.0 l.kept.1.0) o.kept.1.1.0;
+      held = held_kept o.new.w (held_kept l.new.w g.0 l.auto.w) o.auto.w;
       inside = g.2;
       judged = g.3;
       first_in = q;

@@ -21,7 +21,7 @@ pub returns-then-not-is_unused : goal.returns-then-not-is_unused
 returns-then-not-is_unused c =
     let start = c in
     let u = c.is_unused in
-    (λ _ free. absurd (true_not_false free (sym u.ensures ∙ not-true u.result c.if-not-is_unused.true)), kept_self start.args.p.scene start.args.w.now)
+    (λ _ free. absurd (true_not_false free (sym u.ensures ∙ c.if-not-is_unused.true)), kept_self start.args.p.scene start.args.w.now)
 
 pub gather_within-found-requires : goal.gather_within-found-requires
 gather_within-found-requires c =
@@ -51,7 +51,7 @@ returns c =
     let p = point_at_lem in
     let g = gather-within in
     let f = c.search_found in
-    let near = subst (λ (q : Point3f). NearPlace a.points.now a.p.scene.n q a.p.limits.far a.w.now g.last.1.0 g.result) p.ensures
+    let near = subst (λ (q : Point3f). NearPlace a.points.now a.p.scene.n q a.p.limits.far a.w.now g.new.w g.result) p.ensures
     g.ensures in
     let kept = near_kept {s = a.p.scene} near in (
       λ h _. seedless_from 0 a.i g.result (record { numbers = start.requires.1.linked.ready.numbers; limits = start.requires.3 }) kept

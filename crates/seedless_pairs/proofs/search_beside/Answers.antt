@@ -14,12 +14,12 @@ loop-m-init c = λ x h k. absurd (omega arith)
 
 pub listed_point-k-requires : goal.listed_point-k-requires
 listed_point-k-requires c =
-    let a = c.before.before.before.before in
+    let a = c in
     (a.requires.0.few, a.requires.0.work_long, a.requires.1, c.loop-m-test.true)
 
 pub price_of-price-requires : goal.price_of-price-requires
 price_of-price-requires c =
-    let a = c.before.before.before.before.before in
+    let a = c in
     (a.requires.0.points_long, a.requires.2, a.requires.3, c.listed_point-k.ensures.1, a.requires.4)
 
 pub returns-then-price-eq0 : goal.returns-then-price-eq0
@@ -31,7 +31,7 @@ returns-then-left-price c = λ h. absurd (omega arith)
 pub loop-m-preserved : goal.loop-m-preserved
 loop-m-preserved c =
     let t = c.price_of-price in
-    let p = c.before.before.before in
+    let p = c in
     let a = p.args in
     let ne = c.if-price-eq0.false in
     below_next p.loop-m.invariant

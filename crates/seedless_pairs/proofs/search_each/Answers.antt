@@ -27,7 +27,7 @@ returns-then-left-eq0 c = λ h. absurd (omega arith)
 
 pub loop-m-preserved : goal.loop-m-preserved
 loop-m-preserved c =
-    let p = c.before.before.before in
+    let p = c in
     let l = p.loop-m in
     let a = p.args in
     let ne = c.if-left-eq0.false in

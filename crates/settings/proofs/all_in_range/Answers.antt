@@ -23,13 +23,13 @@ unfolding list_inside
 returns-then-not-in_range c =
     let l = c.loop-k in
     let s = c.args in
-    let e = leading_found _ _ _ l.k _ c.in_range_lem.ensures l.invariant.3 (not-true _ c.if-not-in_range.true) in
+    let e = leading_found _ _ _ l.k _ c.in_range.ensures l.invariant.3 (c.if-not-in_range.true) in
     rw (le-leb s.count 8 l.invariant.2, lt-leb s.count (leading s.lo s.hi s.t3) (omega arith))
 
 pub loop-k-preserved : goal.loop-k-preserved
 loop-k-preserved c =
     let l = c.loop-k in
-    (search rules, search rules, search rules, leading_passed _ _ _ l.k _ c.in_range_lem.ensures l.invariant.3 (not-false _ c.if-not-in_range.false))
+    (search rules, search rules, search rules, leading_passed _ _ _ l.k _ c.in_range.ensures l.invariant.3 (c.if-not-in_range.false))
 
 pub returns : goal.returns
 unfolding list_inside

@@ -16,10 +16,10 @@ returns c =
     let a = c.args in
     let same = c.is_same in
     let n = c.are_numbers in
-    let k = n.ensures (not-false n.result c.if-not-are_numbers.false) in
+    let k = n.ensures (c.if-not-are_numbers.false) in
     rw (c.max-2.ensures, c.max.ensures)
     (angles_bounded a.a a.b a.c
-    (same.ensures (not-false same.result c.if-not-is_same.false))
+    (same.ensures (c.if-not-is_same.false))
     c.angle-x.ensures
     c.angle-y.ensures
     c.angle-z.ensures k.0 k.1 k.2 c.least-forward.ensures

@@ -17,7 +17,7 @@ pub returns : goal.returns
 returns c =
     let a = c.args in
     let four = f32 0x40800000 in λ h. (
-      le_left a.x four (rw (not-false (le a.x four) c.if-not-x.false) tt),
-      le_left a.y four (rw (not-false (le a.y four) c.if-not-y.false) tt),
+      le_left a.x four (rw (c.if-not-x.false) tt),
+      le_left a.y four (rw (c.if-not-y.false) tt),
       le_left a.z four (rw h tt),
     )

@@ -16,8 +16,8 @@ returns c =
     let x = c.is_positive in
     let y = c.is_positive-2 in
     λ h. (
-      x.ensures (not-false x.result c.if-not-is_positive.false),
+      x.ensures (c.if-not-is_positive.false),
       y.ensures
-          (not-false y.result c.if2.false),
+          (c.if-not-is_positive-2.false),
       c.is_positive-3.ensures h,
     )

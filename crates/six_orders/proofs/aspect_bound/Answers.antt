@@ -13,11 +13,11 @@ returns-then-not-are_positive-2 c = rw no_number (no_aspect_bound _ _ _ _)
 
 pub returns : goal.returns
 returns c =
-    let s = c.before.before.before.before.before.before in
+    let s = c in
     let a = s.args in
     let p = s.requires in
     let x = c.are_positive in
     let y = c.are_positive-2 in
     aspects_bounded a.a a.b a.c a.area p.0 p.1 p.2 c.least-half.ensures
-    c.least-product.ensures (x.ensures (not-false x.result c.if-not-are_positive.false))
-    (y.ensures (not-false y.result c.if2.false))
+    c.least-product.ensures (x.ensures (c.if-not-are_positive.false))
+    (y.ensures (c.if-not-are_positive-2.false))

@@ -10,4 +10,4 @@ pub returns-then-b-c : goal.returns-then-b-c
 returns-then-b-c c = λ h. second_below (c.is_low_by-then-b-c.ensures h)
 
 pub returns : goal.returns
-returns c = λ h. third_below (c.is-low-by4.ensures h)
+returns c = λ h. third_below (c.is_low_by-2.ensures h)

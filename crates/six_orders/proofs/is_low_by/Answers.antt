@@ -17,24 +17,24 @@ pub returns-then-not-are_positive : goal.returns-then-not-are_positive
 returns-then-not-are_positive c = λ h. absurd (subst T (sym h) tt)
 
 pub aspect_bound-aspect-requires : goal.aspect_bound-aspect-requires
-aspect_bound-aspect-requires c = let p = c.are_positive in p.ensures (not-false p.result c.if-not-are_positive.false)
+aspect_bound-aspect-requires c = let p = c.are_positive in p.ensures (c.if-not-are_positive.false)
 
 pub returns-then-not-aspect : goal.returns-then-not-aspect
 returns-then-not-aspect c = λ h. absurd (subst T (sym h) tt)
 
 pub edge_bound-requires : goal.edge_bound-requires
-edge_bound-requires c = let p = c.are_positive in p.ensures (not-false p.result c.if-not-are_positive.false)
+edge_bound-requires c = let p = c.are_positive in p.ensures (c.if-not-are_positive.false)
 
 pub returns : goal.returns
 returns c =
     let a = c.args in
     let t = c.aspect_bound-aspect in
     let p = c.are_positive in
-    let k = p.ensures (not-false p.result c.if-not-are_positive.false) in
+    let k = p.ensures (c.if-not-are_positive.false) in
     let m = c.angle_bound in
     let e = c.edge_bound in λ h.
     all_below_lem a.a a.b a.c m.result t.result e.result a.area a.threshold
-    (rw (not-false (lt (f32 0) a.threshold) c.if-not-threshold.false) tt) m.ensures
+    (rw (c.if-not-threshold.false) tt) m.ensures
     (t.ensures.longer a.a a.b a.c (as_long a.a k.0) (as_long a.b k.1) (as_long a.c k.2))
-    (le_left t.result (f32 0x40800000) (rw (not-false (le t.result (f32 0x40800000)) c.if-not-aspect.false) tt)) e.ensures
+    (le_left t.result (f32 0x40800000) (rw (c.if-not-aspect.false) tt)) e.ensures
     (rw (← c.score.ensures, h) tt)

@@ -16,17 +16,17 @@ pub returns-then-not-are_positive : goal.returns-then-not-are_positive
 returns-then-not-are_positive c = λ h. absurd (subst T (sym h) tt)
 
 pub aspect_bound-aspect-requires : goal.aspect_bound-aspect-requires
-aspect_bound-aspect-requires c = let p = c.are_positive in p.ensures (not-false p.result c.if-not-are_positive.false)
+aspect_bound-aspect-requires c = let p = c.are_positive in p.ensures (c.if-not-are_positive.false)
 
 pub returns-then-not-aspect : goal.returns-then-not-aspect
 returns-then-not-aspect c = λ h. absurd (subst T (sym h) tt)
 
 pub returns : goal.returns
 returns c =
-    let p = c.before.before.before.before.before in
+    let p = c in
     let t = c.aspect_bound-aspect in
     let a = p.args in λ h.
-    all_below_from (rw (not-false (lt (f32 0) a.threshold) p.if-not-threshold.false) tt)
-    (p.are_positive.ensures (not-false p.are_positive.result c.if-not-are_positive.false)) t.ensures
-    (le_left t.result (f32 0x40800000) (rw (not-false (le t.result (f32 0x40800000)) c.if-not-aspect.false) tt)) c.edge_from.ensures
+    all_below_from (rw (p.if-not-threshold.false) tt)
+    (p.are_positive.ensures (c.if-not-are_positive.false)) t.ensures
+    (le_left t.result (f32 0x40800000) (rw (c.if-not-aspect.false) tt)) c.edge_from.ensures
     (rw (← c.score.ensures, h) tt)

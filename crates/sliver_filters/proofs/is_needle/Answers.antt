@@ -10,4 +10,4 @@ pub returns-then-b-c : goal.returns-then-b-c
 returns-then-b-c c = λ h. slivers_turned (slivers_swapped (c.is_needle_along-then-b-c.ensures h))
 
 pub returns : goal.returns
-returns c = λ h. slivers_swapped (c.is-needle-along4.ensures h)
+returns c = λ h. slivers_swapped (c.is_needle_along-2.ensures h)

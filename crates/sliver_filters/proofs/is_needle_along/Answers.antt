@@ -10,7 +10,7 @@ returns-then-not-a-min c = λ h. absurd (subst T (sym h) tt)
 
 pub returns : goal.returns
 returns c =
-    let n = c.before.before in
+    let n = c in
     let a = n.args in
     λ h.
     needles_along a.l a.a a.b a.c a.cross n.joined-others.ensures n.needle_class-class.ensures c.class_limit-limit.ensures

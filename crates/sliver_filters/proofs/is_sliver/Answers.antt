@@ -13,4 +13,4 @@ pub returns-then-a-b : goal.returns-then-a-b
 returns-then-a-b c = λ h. slivers_turned (c.is_sliver_along-then-a-b.ensures h)
 
 pub returns : goal.returns
-returns c = λ h. slivers_swapped (c.is-sliver-along4.ensures h)
+returns c = λ h. slivers_swapped (c.is_sliver_along-2.ensures h)

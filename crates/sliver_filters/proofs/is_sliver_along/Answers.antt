@@ -18,5 +18,5 @@ returns c =
     let p = c.is_narrow in
     let a = c.args in
     λ h.
-    slivers_along a.l a.a a.b a.c a.cross (p.ensures (not-false p.result c.if-not-is_narrow.false))
-    (t.ensures (not-false t.result c.if2.false)) (c.is_thin_within.ensures h)
+    slivers_along a.l a.a a.b a.c a.cross (p.ensures (c.if-not-is_narrow.false))
+    (t.ensures (c.if-not-is_narrow-2.false)) (c.is_thin_within.ensures h)

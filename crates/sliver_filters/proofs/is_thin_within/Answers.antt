@@ -19,11 +19,11 @@ returns-then-not-c c = λ h. absurd (subst T (sym h) tt)
 
 pub returns : goal.returns
 returns c =
-    let x = c.before.before in
-    let s = x.before.before.before.before.before.before in
+    let x = c in
+    let s = x in
     λ h.
     thin_within s.args.a s.args.b s.args.c s.args.cross s.args.limit (f32 0x21800000) c.max-most.ensures
-    (rw (not-false (le s.args.a.hi (f32 0x4c800000)) x.if-not-a.false) tt)
-    (rw (not-false (le s.args.b.hi (f32 0x4c800000)) x.if-not-b.false) tt)
-    (rw (not-false (le s.args.c.hi (f32 0x4c800000)) x.if-not-c.false) tt)
+    (rw (x.if-not-a.false) tt)
+    (rw (x.if-not-b.false) tt)
+    (rw (x.if-not-c.false) tt)
     (c.is_thin.ensures h)

@@ -17,8 +17,8 @@ returns-then-not-cosine-2 c = rw no_number (no_angle_limit _)
 
 pub returns : goal.returns
 returns c =
-    let s = c.before.before.before in
+    let s = c in
     let κ = s.args.cosine in
     rw c.sqrt-s.ensures
-    (angle_limit_is κ (subst T (sym s.well_formed.0.1) tt) (rw (not-false (le (f32 0x3f000000) κ) c.if-not-cosine.false) tt)
-    (rw (not-false (lt κ (f32 0x3f800000)) c.if2.false) tt))
+    (angle_limit_is κ (subst T (sym s.well_formed.0.1) tt) (rw (c.if-not-cosine.false) tt)
+    (rw (c.if-not-cosine-2.false) tt))

@@ -18,9 +18,7 @@ sound : (c : After-side_for-side) → HashSound (record {
       c.least_corner-least.result;
   scale = c.scale_for-scale.result;
   side = c.side_for-side.result;
-
 }) c.args.n
-
 sound c = record {
   some = c.side_for-side.ensures.0;
   few = c.side_for-side.ensures.1;
@@ -28,7 +26,6 @@ sound c = record {
   positive = c.scale_for-scale.ensures.0;
   scale_finite = c.scale_for-scale.ensures.1;
   corner = c.least_corner-least.ensures;
-
 }
 
 pub link_points-requires : goal.link_points-requires
@@ -45,16 +42,14 @@ heading : (c : After-link_points) → Heading (record {
       c.least_corner-least.result;
   scale = c.scale_for-scale.result;
   side = c.side_for-side.result;
-
 }) c.args.points.now c.args.n c.link_points.new.w
-
 heading c =
     let clear-heads = c.clear_heads in
     let after-side-for = c in
     let start = c in
     let e = clear-heads in
     record {
-      ready = ready_same _ _ _ _ (c.link_points.auto.w ∙ e.kept.0) start.requires;
+      ready = ready_same _ _ _ _ (c.link_points.auto.w ∙ e.auto.w) start.requires;
       sound = sound after-side-for;
       chained = c.link_points.ensures.0;
     }
@@ -64,7 +59,7 @@ order_points-requires c = heading c.before.before.before
 
 pub returns : goal.returns
 returns c =
-    let o = c.before.before in
+    let o = c in
     let l = o.before.before.before.before in
     let e = l.clear_heads in
     let n = l.args.n in

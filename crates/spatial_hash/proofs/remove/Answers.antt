@@ -61,7 +61,7 @@ leave_row-requires c =
 
 pub returns : goal.returns
 returns c =
-    let l = c.before.before in
+    let l = c in
     let p = l.before.before in
     let a = p.before.before in
     let s = start_at a in

@@ -7,7 +7,7 @@ use Rattle.stl_file.proofs.read_stl.Goals as goal
 pub returns-then-bytes-lt84 : goal.returns-then-bytes-lt84
 returns-then-bytes-lt84 c =
     let start = c in
-    no_head start.args.bytes.now start.args.corners.now _ c.not_read_lem.ensures c.if-bytes-lt84.true
+    no_head start.args.bytes.now start.args.corners.now _ c.not_read.ensures c.if-bytes-lt84.true
 
 pub returns-then-bytes-n : goal.returns-then-bytes-n
 returns-then-bytes-n c =
@@ -19,7 +19,7 @@ pub returns-then-corners-n : goal.returns-then-corners-n
 returns-then-corners-n c =
     let if1 = c.if-bytes-lt84 in
     let start = c in
-    no_room_lem start.args.bytes.now start.args.corners.now _ if1.left _ c.word_at-n.ensures c.if-bytes-n.false
+    no_room_lem start.args.bytes.now start.args.corners.now _ if1.false _ c.word_at-n.ensures c.if-bytes-n.false
     c.not_read-then-corners-n.ensures c.if-corners-n.true
 
 pub returns : goal.returns
@@ -29,5 +29,5 @@ returns c =
     let word_at = c.word_at-n in
     let if1 = c.if-bytes-lt84 in
     let start = c in
-    got start.args.bytes.now start.args.corners.now _ if1.left _ word_at.ensures if2.left _ if3.left refl
+    got start.args.bytes.now start.args.corners.now _ if1.false _ word_at.ensures if2.false _ if3.false refl
     c.read_facets.ensures

@@ -31,7 +31,7 @@ returns-then-bad-points c =
     let if1 = c.if-points-ne0 in
     let shared-slice-known = c.type_inv.points in
     let start = c in
-    outside start.args.points.now start.args.faces.now start.args.bytes.now _ shared-slice-known.given if1.left if2.left
+    outside start.args.points.now start.args.faces.now start.args.bytes.now _ shared-slice-known.given if1.false if2.false
     c.if-n-gt1000000.false _ c.first_outside-bad.ensures c.not_written-then-bad-points.ensures c.if-bad-points.true
 
 pub returns-then-not-names_points : goal.returns-then-not-names_points
@@ -42,7 +42,7 @@ returns-then-not-names_points c =
     let if1 = c.if-points-ne0 in
     let shared-slice-known = c.type_inv.points in
     let start = c in
-    missing start.args.points.now start.args.faces.now start.args.bytes.now _ shared-slice-known.given if1.left if2.left if3.left _
+    missing start.args.points.now start.args.faces.now start.args.bytes.now _ shared-slice-known.given if1.false if2.false if3.false _
     first-outside.ensures c.if-bad-points.false _ c.names_points.ensures c.not_written-then-not-names_points.ensures
     c.if-not-names_points.true
 
@@ -55,8 +55,8 @@ returns-then-bytes-n c =
     let if1 = c.if-points-ne0 in
     let shared-slice-known = c.type_inv.points in
     let start = c in
-    short start.args.points.now start.args.faces.now start.args.bytes.now _ shared-slice-known.given if1.left if2.left if3.left _
-    first-outside.ensures if4.left _ c.names_points.ensures c.if-not-names_points.false c.not_written-then-bytes-n.ensures
+    short start.args.points.now start.args.faces.now start.args.bytes.now _ shared-slice-known.given if1.false if2.false if3.false _
+    first-outside.ensures if4.false _ c.names_points.ensures c.if-not-names_points.false c.not_written-then-bytes-n.ensures
     c.if-bytes-n.true
 
 pub put_file-requires : goal.put_file-requires
@@ -69,10 +69,10 @@ put_file-requires c =
     let shared-slice-known = c.type_inv.points in
     let start = c in (
       c.if-bytes-n.false,
-      if3.left,
+      if3.false,
       names start.args.points.now start.args.faces.now start.args.bytes.now
-          (record { answer = 0; detail = 0; length = 0 }) shared-slice-known.given if1.left if2.left if3.left _ first-outside.ensures
-          if4.left _
+          (record { answer = 0; detail = 0; length = 0 }) shared-slice-known.given if1.false if2.false if3.false _ first-outside.ensures
+          if4.false _
           c.names_points.ensures c.if-not-names_points.false,
     )
 
@@ -88,5 +88,5 @@ returns c =
     let if1 = c.if-points-ne0 in
     let shared-slice-known = c.type_inv.points in
     let start = c in
-    written start.args.points.now start.args.faces.now start.args.bytes.now _ shared-slice-known.given if1.left if2.left if3.left _
-    first-outside.ensures if4.left _ names-points.ensures if5.left _ if6.left refl c.put_file.ensures
+    written start.args.points.now start.args.faces.now start.args.bytes.now _ shared-slice-known.given if1.false if2.false if3.false _
+    first-outside.ensures if4.false _ names-points.ensures if5.false _ if6.false refl c.put_file.ensures

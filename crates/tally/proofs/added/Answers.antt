@@ -10,7 +10,7 @@ use Rattle.tally.proofs.added.Goals as goal
 
 pub returns-then-not-is_sound : goal.returns-then-not-is_sound
 unfolding added_to
-returns-then-not-is_sound c = rw (← c.is_sound.ensures, not-true c.is_sound.result c.if-not-is_sound.true)
+returns-then-not-is_sound c = rw (← c.is_sound.ensures, c.if-not-is_sound.true)
 
 pub returns-then-not-is_enterable : goal.returns-then-not-is_enterable
 unfolding added_to
@@ -20,7 +20,7 @@ returns-then-not-is_enterable c =
       not-false c.is_sound.result
           c.if-not-is_sound.false,
       ← c.is_enterable.ensures,
-      not-true c.is_enterable.result c.if-not-is_enterable.true,
+      c.if-not-is_enterable.true,
     )
 
 pub returns-then-tally-ge-MAX_PATCHES : goal.returns-then-tally-ge-MAX_PATCHES
@@ -30,7 +30,7 @@ returns-then-tally-ge-MAX_PATCHES c =
     let is-sound = c.is_sound in
     rw (
       ← is-sound.ensures,
-      not-false is-sound.result if1.left,
+      not-false is-sound.result if1.false,
       ← c.is_enterable.ensures,
       not-false
           c.is_enterable.result c.if-not-is_enterable.false,
@@ -43,8 +43,8 @@ summed-requires c =
     let is-enterable = c.is_enterable in
     let if1 = c.if-not-is_sound in
     let is-sound = c.is_sound in (
-      record { sums = (sound_told _ (sym is-sound.ensures ∙ not-false is-sound.result if1.left)).sums; more = c.if-tally-ge-MAX_PATCHES.false },
-      enterable_told _ (sym is-enterable.ensures ∙ not-false is-enterable.result if2.left),
+      record { sums = (sound_told _ (sym is-sound.ensures ∙ not-false is-sound.result if1.false)).sums; more = c.if-tally-ge-MAX_PATCHES.false },
+      enterable_told _ (sym is-enterable.ensures ∙ not-false is-enterable.result if2.false),
     )
 
 pub returns-then-tally-eq0 : goal.returns-then-tally-eq0
@@ -56,9 +56,9 @@ returns-then-tally-eq0 c =
     let is-sound = c.is_sound in
     rw (
       ← is-sound.ensures,
-      not-false is-sound.result if1.left,
+      not-false is-sound.result if1.false,
       ← is-enterable.ensures,
-      not-false is-enterable.result if2.left,
+      not-false is-enterable.result if2.false,
       lt-ltb _ _
           c.if-tally-ge-MAX_PATCHES.false,
       eq-eqb _ _ c.if-tally-eq0.true,
@@ -71,9 +71,9 @@ summed-requires-2 c =
     let is-enterable = c.is_enterable in
     let if1 = c.if-not-is_sound in
     let is-sound = c.is_sound in (
-      record { sums = (sound_told _ (sym is-sound.ensures ∙ not-false is-sound.result if1.left)).sums; more = if3.left },
+      record { sums = (sound_told _ (sym is-sound.ensures ∙ not-false is-sound.result if1.false)).sums; more = if3.false },
       enterable_told _
-          (sym is-enterable.ensures ∙ not-false is-enterable.result if2.left),
+          (sym is-enterable.ensures ∙ not-false is-enterable.result if2.false),
     )
 
 pub returns : goal.returns
@@ -86,11 +86,11 @@ returns c =
     let is-sound = c.is_sound in
     rw (
       ← is-sound.ensures,
-      not-false is-sound.result if1.left,
+      not-false is-sound.result if1.false,
       ← is-enterable.ensures,
-      not-false is-enterable.result if2.left,
+      not-false is-enterable.result if2.false,
       lt-ltb _ _
-          if3.left,
+          if3.false,
       ne_eqb _ _ c.if-tally-eq0.false,
       ← c.best_of.ensures,
       ← c.worst_of.ensures,

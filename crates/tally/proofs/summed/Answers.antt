@@ -23,4 +23,4 @@ overflow_add-result-3 c =
 pub returns : goal.returns
 unfolding summed
 returns c =
-    rw (c.wide-faces.ensures.0, c.wide.ensures.0, c.wide3.ensures.0)
+    rw (c.wide-faces.ensures.0, c.wide.ensures.0, c.wide-2.ensures.0)

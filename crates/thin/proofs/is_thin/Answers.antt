@@ -16,12 +16,12 @@ returns-then-not-is_plain c = λ h. absurd (subst T (sym h) tt)
 
 pub returns : goal.returns
 returns c =
-    let plain = c.before.before in
-    let s = plain.before.before in
+    let plain = c in
+    let s = plain in
     λ h.
     thin_up_to s.args.a s.args.b s.args.c s.args.cross s.args.limit (subst T (sym s.well_formed.0.1) tt) (subst T (sym s.well_formed.1.0.1) tt)
     (subst T (sym s.well_formed.1.1.0.1) tt)
     (subst T (sym s.well_formed.1.1.1.0.1) tt) (subst T (sym s.well_formed.1.1.1.1.0.1) tt)
-    (rw (not-false (le (f32 0x35800000) s.args.limit) plain.if-not-limit.false) tt)
-    (rw (← plain.is_plain.ensures, not-false plain.is_plain.result c.if-not-is_plain.false) tt)
+    (rw (plain.if-not-limit.false) tt)
+    (rw (← plain.is_plain.ensures, c.if-not-is_plain.false) tt)
     (rw (← c.spread.ensures, h) tt)

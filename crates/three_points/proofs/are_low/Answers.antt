@@ -22,4 +22,4 @@ returns c =
     λ h.
     low_all a.s a.a a.b a.c a.p a.q a.t cross-squared.ensures cross-squared2.ensures cross-squared3.ensures max.ensures
     max2.ensures c.sqrt.ensures
-    (rw (← m.ensures, not-false m.result c.if-not-are_at_most.false) tt) (c.is_low.ensures h)
+    (rw (← m.ensures, c.if-not-are_at_most.false) tt) (c.is_low.ensures h)

@@ -9,7 +9,7 @@ use Rattle.three_points.proofs.is_accepted.Goals as goal
 pub returns-then-score_bound-s : goal.returns-then-score_bound-s
 returns-then-score_bound-s c =
     let a = c.args in
-    sym (shape_low a.s a.radius c.score_bound_lem.ensures c.if-score_bound-s.true a.a a.b a.c a.area
+    sym (shape_low a.s a.radius c.score_bound.ensures c.if-score_bound-s.true a.a a.b a.c a.area
     c.shape_of-shape.ensures)
 
 pub quality_of-q-requires : goal.quality_of-q-requires

@@ -103,5 +103,5 @@ returns c =
     measured_seedless p.result q.result t.result distance.ensures distance2.ensures distance3.ensures
     area_of.ensures area-of2.ensures c.area_of-3.ensures
     a.s a.points.now a.radius a.i a.j a.k p.ensures q.ensures t.ensures
-    (x.ensures (not-false x.result if6.left)) (y.ensures (not-false y.result c.if7.false))
-    (z.ensures (not-false z.result c.if8.false))
+    (x.ensures (not-false x.result if6.false)) (y.ensures (c.if-not-are_refused-2.false))
+    (z.ensures (c.if-not-are_refused-3.false))

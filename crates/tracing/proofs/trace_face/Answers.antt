@@ -10,13 +10,13 @@ returns-then-first-eq0 c =
     let put_word = c.put_word in
     let if1 = c.if-first-eq0 in
     let word_at = c.word_at-first in
-    trace_seed _ _ _ _ _ _ word_at.ensures _ _ _ if1.taken put_word.ensures put-word2.ensures c.put-word3.ensures
+    trace_seed _ _ _ _ _ _ word_at.ensures _ _ _ if1.true put_word.ensures put-word2.ensures c.put_word-then-first-eq0-2.ensures
 
 pub overflow_sub-result : goal.overflow_sub-result
 overflow_sub-result c =
     let later = c.later-last in
     let if1 = c.if-first-eq0 in
-    omega (arith, later.ensures, if1.left)
+    omega (arith, later.ensures, if1.false)
 
 pub returns : goal.returns
 returns c =
@@ -24,4 +24,4 @@ returns c =
     let word-at2 = c.word_at in
     let if1 = c.if-first-eq0 in
     let word_at = c.word_at-first in
-    trace_other _ _ _ _ _ _ word_at.ensures _ _ _ if1.left word-at2.ensures later.ensures c.put-word4.ensures
+    trace_other _ _ _ _ _ _ word_at.ensures _ _ _ if1.false word-at2.ensures later.ensures c.put_word-2.ensures

@@ -19,25 +19,25 @@ loop-k-init c = (
 
 pub bounds-origins-k-in-loop-k : goal.bounds-origins-k-in-loop-k
 bounds-origins-k-in-loop-k c =
-    let loop-test = (in_loop_of_place_of c).loop-test in
-    let loop = (at_loop_of_place_of c).loop in
-    let start = start_of_place_of c in
-    simp length-set (omega (arith, loop.inv.1, loop-test.taken, start.pre.2))
+    let loop-test = c.loop-k-test in
+    let loop = c.loop-k in
+    let start = c in
+    simp length-set (omega (arith, loop.invariant.1, loop-test.true, start.requires.2))
 
 pub loop-k-preserved : goal.loop-k-preserved
 loop-k-preserved c = (
   search rules,
   simp length-set (search rules),
-  c.trace_face-parent.auto.words ∙ (at_loop_of_place_of c).loop.invariant.2,
+  c.trace_face-parent.auto.words ∙ c.loop-k.invariant.2,
   tracing_step
-      (take (start_of_place_of c).args.radii (start_of_place_of c).args.marks) (start_of_place_of c).args.faces.now (start_of_place_of c).args.count
-      (start_of_place_of c).args.words.now (start_of_place_of c).args.origins.now _ _ (at_loop_of_place_of c).loop.origins
-      (at_loop_of_place_of c).loop.k _ _ (in_loop_of_place_of c).loop-test.true c.trace_face-parent.ensures.0
-      c.trace_face-parent.ensures.1 c.place_of-place.ensures (at_loop_of_place_of c).loop.invariant.3,
+      (take c.args.radii c.args.marks) c.args.faces.now c.args.count
+      c.args.words.now c.args.origins.now _ _ c.loop-k.origins
+      c.loop-k.k _ _ c.loop-k-test.true c.trace_face-parent.ensures.0
+      c.trace_face-parent.ensures.1 c.place_of-place.ensures c.loop-k.invariant.3,
 )
 
 pub returns : goal.returns
 returns c =
-    let start = start_of_after_loop c in
+    let start = c in
     tracing_end (take start.args.radii start.args.marks) start.args.faces.now start.args.count start.args.words.now
     start.args.origins.now _ _ _ c.loop-k-test.false c.loop-k.invariant.3

@@ -16,21 +16,21 @@ point_at-first-requires c =
 
 pub point_at-second-requires : goal.point_at-second-requires
 point_at-second-requires c =
-    let b = c.before in
+    let b = c in
     let a = b.args in
     (judged_inside a.points.now a.normals.now a.settings a.i a.j a.k _ b.refusal_of_judging-refusal.ensures b.if-refusal-ne0.false).1
 
 pub point_at-third-requires : goal.point_at-third-requires
 point_at-third-requires c =
-    let b = c.before.before in
+    let b = c in
     let a = b.args in
     (judged_inside a.points.now a.normals.now a.settings a.i a.j a.k _ b.refusal_of_judging-refusal.ensures b.if-refusal-ne0.false).2
 
 pub returns : goal.returns
 unfolding verdict_at
 returns c =
-    let p = c.before.before.before.before in
-    let b = p.before in
+    let p = c in
+    let b = p in
     let a = b.args in
     judged_told a.points.now a.normals.now a.settings a.i a.j a.k _ b.refusal_of_judging-refusal.ensures b.if-refusal-ne0.false _
     (rw (

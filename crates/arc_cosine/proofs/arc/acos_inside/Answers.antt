@@ -10,12 +10,12 @@ returns-then-m c = rw (← c.abs-m.ensures, c.if-m.true) no_number
 
 pub returns-then-m-2 : goal.returns-then-m-2
 unfolding acos_inside
-returns-then-m-2 c = rw (← c.abs-m.ensures, c.if-m.false, c.if2.true)
+returns-then-m-2 c = rw (← c.abs-m.ensures, c.if-m.false, c.if-m-2.true)
 
 pub returns-then-m-3 : goal.returns-then-m-3
 unfolding acos_inside
 returns-then-m-3 c =
-    rw (← c.abs-m.ensures, c.if-m.false, c.if2.false, c.if3.true)
+    rw (← c.abs-m.ensures, c.if-m.false, c.if-m-2.false, c.if-m-3.true)
     c.acos_middle.ensures
 
 pub returns-then-v : goal.returns-then-v
@@ -24,8 +24,8 @@ returns-then-v c =
     rw (
       ← c.abs-m.ensures,
       c.if-m.false,
-      c.if2.false,
-      c.if3.false,
+      c.if-m-2.false,
+      c.if-m-3.false,
       c.if-v.true,
     ) c.acos_low.ensures
 
@@ -35,7 +35,7 @@ returns-else-v c =
     rw (
       ← c.abs-m.ensures,
       c.if-m.false,
-      c.if2.false,
-      c.if3.false,
+      c.if-m-2.false,
+      c.if-m-3.false,
       c.if-v.false,
     ) c.acos_high.ensures

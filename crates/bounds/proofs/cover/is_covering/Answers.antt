@@ -4,11 +4,11 @@ use Rattle.bounds.proofs.cover.is_covering.Goals as goal
 
 pub returns-then-lo-v-2 : goal.returns-then-lo-v-2
 unfolding is_covering
-returns-then-lo-v-2 c = rw (c.if-lo-v.true, c.if-v-hi.true, c.if3.true)
+returns-then-lo-v-2 c = rw (c.if-lo-v.true, c.if-v-hi.true, c.if-lo-v-2.true)
 
 pub returns-else-lo-v-2 : goal.returns-else-lo-v-2
 unfolding is_covering
-returns-else-lo-v-2 c = rw (c.if-lo-v.true, c.if-v-hi.true, c.if3.false)
+returns-else-lo-v-2 c = rw (c.if-lo-v.true, c.if-v-hi.true, c.if-lo-v-2.false)
 
 pub returns-else-v-hi : goal.returns-else-v-hi
 unfolding is_covering

@@ -5,5 +5,5 @@ use Rattle.cell_bounds.proofs.axis.interval.Goals as goal
 
 pub returns : goal.returns
 returns c =
-    let s = c.before.before in holding_on s.args.size s.args.least s.args.range s.args.cell _ _ c.lower_end-lo.ensures
+    let s = c in holding_on s.args.size s.args.least s.args.range s.args.cell _ _ c.lower_end-lo.ensures
     c.upper_end-hi.ensures

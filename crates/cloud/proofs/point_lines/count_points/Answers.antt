@@ -11,12 +11,11 @@ use Rattle.cloud_lines.specs.declared.line.Point.{Point}
 use Rattle.cloud.proofs.Lines.{Counting, counting_start, counting_end, counting_wrong, counting_next}
 use Rattle.cloud_lines.proofs.Bare.{skipped, skipped_not}
 use Rattle.cloud_lines.proofs.Shorter.{point_shorter}
-use Rattle.cloud.proofs.point_lines.count_points.Invariants.{decreases-loop-at, invariant-loop-at}
 use Rattle.cloud.proofs.point_lines.count_points.Goals.{Else-next-eq0}
 use Rattle.cloud.proofs.point_lines.count_points.Goals as goal
 
 -- the line that was skipped
-line : (c : Else-next-eq0 invariant-loop-at decreases-loop-at) → (p : Point)
+line : (c : Else-next-eq0) → (p : Point)
     × (point_fields (drop c.loop-at.at c.args.s.now)
     ≡ parsed p (drop c.skip_point-next.result c.args.s.now))
 line c =

@@ -5,6 +5,6 @@ use Rattle.cloud.proofs.point_lines.store_points.Goals as goal
 
 pub returns : goal.returns
 returns c =
-    let start = c.before.before.before.before.before.before.before.before.before.before in
+    let start = c in
     carried_all start.args.s.now start.args.from start.args.count start.args.points.now start.args.normals.now start.requires _ _ _
     c.store_lines.ensures

@@ -15,7 +15,7 @@ use Rattle.cloud_lines.proofs.line.field_at.Goals as goal
 -- the number that was read
 read : (c : In-Number-2) → number (drop c.args.at c.args.s.now)
     ≡ parsed c.value.given.0.0 (drop c.value.given.0.1.0 c.args.s.now)
-read c = number_got c.args.s.now _ _ _ _ c.number_at_lem.ensures c.value.given.1
+read c = number_got c.args.s.now _ _ _ _ c.number_at.ensures c.value.given.1
 
 pub overflow_add-result : goal.overflow_add-result
 overflow_add-result c =
@@ -39,5 +39,5 @@ returns-else-byte_is c = let e = read c.before.before.before in (rw (e, sym c.by
 pub returns-in-Malformed : goal.returns-in-Malformed
 unfolding number_means number_end field then
 returns-in-Malformed c =
-    let e = number_not c.args.s.now _ _ c.number_at_lem.ensures c.enum_told.given.1 in
+    let e = number_not c.args.s.now _ _ c.number_at.ensures c.enum_told.given.1 in
     (rw e, omega arith)

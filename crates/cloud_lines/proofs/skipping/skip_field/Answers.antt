@@ -16,7 +16,7 @@ returns-then-next-eq0 c =
 
 pub overflow_add-result : goal.overflow_add-result
 overflow_add-result c =
-    let b = c.before.before in
+    let b = c in
     let a = b.args in
     let h = starts_inside a.end a.s.now b.skip_number-next.result (sym c.byte_is.ensures ∙ c.if-byte_is.true) in
     omega arith
@@ -24,7 +24,7 @@ overflow_add-result c =
 pub returns-then-byte_is : goal.returns-then-byte_is
 unfolding field
 returns-then-byte_is c =
-    let b = c.before.before in
+    let b = c in
     let a = b.args in
     then_some a.s.now _ (number (drop a.at a.s.now)) _ b.skip_number-next.ensures _ b.if-next-eq0.false
     (λ v. ended a.end a.s.now b.skip_number-next.result v (sym c.byte_is.ensures ∙ c.if-byte_is.true))
@@ -32,7 +32,7 @@ returns-then-byte_is c =
 pub returns-else-byte_is : goal.returns-else-byte_is
 unfolding field
 returns-else-byte_is c =
-    let b = c.before.before in
+    let b = c in
     let a = b.args in
     then_some a.s.now _ (number (drop a.at a.s.now)) _ b.skip_number-next.ensures _ b.if-next-eq0.false
     (λ v. not_ended a.end a.s.now b.skip_number-next.result v (sym c.byte_is.ensures ∙ c.if-byte_is.false))

@@ -15,7 +15,7 @@ returns-then-middle-eq0 c =
 pub returns : goal.returns
 unfolding point_fields
 returns c =
-    let b = c.before in
+    let b = c in
     let a = b.args in
     let s = a.s.now in
     let middle = b.skip_triple-middle.result in

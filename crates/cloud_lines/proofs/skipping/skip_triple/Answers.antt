@@ -14,7 +14,7 @@ returns-then-second-eq0 c =
 pub returns-then-third-eq0 : goal.returns-then-third-eq0
 unfolding triple
 returns-then-third-eq0 c =
-    let b = c.before.before in
+    let b = c in
     let a = b.args in
     let s = a.s.now in
     let second = b.skip_field-second.result in
@@ -24,7 +24,7 @@ returns-then-third-eq0 c =
 pub returns : goal.returns
 unfolding triple
 returns c =
-    let b = c.before.before.before in
+    let b = c in
     let a = b.args in
     let s = a.s.now in
     let second = b.skip_field-second.result in

@@ -81,7 +81,7 @@ returns-then-exponent-lt150 c = part _ _ _ c.if-exponent-lt127.false c.if-negati
 
 pub returns-then-exponent-lt159 : goal.returns-then-exponent-lt159
 returns-then-exponent-lt159 c =
-    let s = c.before.before.before.before.before in
+    let s = c in
     unmoved s.args.exponent s.args.fraction s.requires c.if-exponent-lt159.true ∙ whole _ _ _ c.if-exponent-lt150.false c.if-negative.false c.if-exponent-lt159.true
 
 pub returns-then-exponent-lt255 : goal.returns-then-exponent-lt255

@@ -9,20 +9,20 @@ use Rattle.spatial_hash.specs.Inner.Near.{HashedAll}
 use Rattle.estimate.proofs.nearest.least_distance.Goals as goal
 
 pub loop-tries-init : goal.loop-tries-init
-loop-tries-init c = let s = c.before.before.before in (s.requires.1, refl, search rules)
+loop-tries-init c = let s = c in (s.requires.1, refl, search rules)
 
 pub returns-then-s-limit : goal.returns-then-s-limit
 returns-then-s-limit c =
-    let r = (look_within_of_sqrt c).look-within.ensures in
+    let r = c.look_within-s.ensures in
     (c.sqrt.ensures ∙ r.decides (subst T (sym c.if-s-limit.true) tt), r.hashed)
 
 pub loop-tries-preserved : goal.loop-tries-preserved
 loop-tries-preserved c =
-    let l = (look_within_of_wider c).look-within in
+    let l = c.look_within-s in
     (l.ensures.hashed, search rules, search rules)
 
 pub returns : goal.returns
 returns c =
     let l = c.look_within-least in
-    let top = (infinity_of_sqrt2 c).infinity in
+    let top = c.infinity-everywhere in
     (c.sqrt-2.ensures ∙ l.ensures.decides (subst (λ (x : Float). T (le l.result x)) (sym top.ensures) l.ensures.number), l.ensures.hashed)

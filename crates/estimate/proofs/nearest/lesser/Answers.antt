@@ -8,7 +8,7 @@ use Rattle.estimate.proofs.nearest.lesser.Goals.{After-distance_squared-e}
 use Rattle.estimate.proofs.nearest.lesser.Goals as goal
 
 pub returns-then-i-j : goal.returns-then-i-j
-returns-then-i-j c = let s = c.before.before in lesser_self s.args.points.now s.args.i s.args.j s.args.s c.if-i-j.true
+returns-then-i-j c = let s = c in lesser_self s.args.points.now s.args.i s.args.j s.args.s c.if-i-j.true
 
 -- of two points the squared distance decides
 two : (c : After-distance_squared-e)

@@ -30,5 +30,5 @@ returns c =
     let s = start in
     let p = point_at_lem in
     let g = gather-within in
-    looked s.args.hash s.args.points.now s.args.n s.args.i s.args.limit s.args.w.now g.last.1.0 p.result g.result
-    c.least_square.result s.requires.0 s.requires.1 g.kept.1.0 p.ensures g.ensures c.least_square.ensures
+    looked s.args.hash s.args.points.now s.args.n s.args.i s.args.limit s.args.w.now g.new.w p.result g.result
+    c.least_square.result s.requires.0 s.requires.1 g.auto.w p.ensures g.ensures c.least_square.ensures

@@ -12,7 +12,7 @@ use Rattle.face_lines.proofs.line.line_at.Goals as goal
 -- the numbers that were read
 a_read : (c : In-Number-2) → point_number 44 (drop c.args.at c.args.s.now)
     ≡ parsed c.a.given.0.0 (drop c.a.given.0.1.0 c.args.s.now)
-a_read c = number_got c.args.s.now _ _ _ _ c.number_at_lem.ensures c.a.given.1
+a_read c = number_got c.args.s.now _ _ _ _ c.number_at.ensures c.a.given.1
 
 b_read : (c : In-Number-number_at-3) → point_number 44 (drop c.a.given.0.1.0 c.args.s.now)
     ≡ parsed c.b.given.0.0 (drop c.b.given.0.1.0 c.args.s.now)
@@ -24,7 +24,7 @@ c_read c = number_got c.args.s.now _ _ _ _ c.number_at-3.ensures c.c.given.1
 
 pub returns-in_default : goal.returns-in_default
 unfolding line_means line then
-returns-in_default c = rw (number_not c.args.s.now _ _ c.number_at_lem.ensures c.enum_told.given.1)
+returns-in_default c = rw (number_not c.args.s.now _ _ c.number_at.ensures c.enum_told.given.1)
 
 pub returns-in_default-number_at : goal.returns-in_default-number_at
 unfolding line_means line then

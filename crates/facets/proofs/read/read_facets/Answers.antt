@@ -16,16 +16,16 @@ loop-i-init c = (refl, search rules, lay_none (corners_of c.args.bytes.now) 0 c.
 
 pub loop-i-preserved : goal.loop-i-preserved
 loop-i-preserved c =
-    let v = (read_vertex_of_slice_known4 c).read_vertex in
-    let w = (read_vertex2_of_slice_known4 c).read-vertex2 in
-    let x = c.read-vertex3 in
-    let l = (at_loop_of_slice_known4 c).loop in
-    let bytes = (start_of_slice_known4 c).args.bytes.now in (
-      x.auto.corners ∙ w.kept.1.1.0 ∙ v.kept.1.1.0 ∙ l.inv.0,
+    let v = c.read_vertex in
+    let w = c.read_vertex-in-loop-i in
+    let x = c.read_vertex-in-loop-i-2 in
+    let l = c.loop-i in
+    let bytes = c.args.bytes.now in (
+      x.auto.corners ∙ w.auto.corners ∙ v.auto.corners ∙ l.invariant.0,
       search rules,
       lay_more (corners_of bytes) 9 (nine_length bytes) 0
-          (start_of_slice_known4 c).args.corners.now l.corners x.new.corners l.i (9 * l.i) l.inv.2 (omega arith)
-          (read_nine bytes l.i l.corners v.last.1.1.0 w.last.1.1.0 x.new.corners (9 * l.i) v.ensures w.ensures x.ensures),
+          c.args.corners.now l.corners x.new.corners l.i (9 * l.i) l.invariant.2 (omega arith)
+          (read_nine bytes l.i l.corners v.new.corners w.new.corners x.new.corners (9 * l.i) v.ensures w.ensures x.ensures),
     )
 
 pub shape_of-corners : goal.shape_of-corners
@@ -33,5 +33,5 @@ shape_of-corners c = c.loop-i.invariant.0
 
 pub returns : goal.returns
 returns c =
-    let start = start_of_after_loop c in
+    let start = c in
     lay_all_lem (corners_of start.args.bytes.now) 0 start.args.corners.now _ _ _ c.loop-i.invariant.1 c.loop-i-test.false c.loop-i.invariant.2

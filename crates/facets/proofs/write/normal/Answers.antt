@@ -17,4 +17,4 @@ returns c =
     let cross = c.cross-v in
     let difference2 = c.difference-2 in
     let difference = c.difference in
-    normal_some _ _ _ _ _ _ _ difference.ensures difference2.ensures cross.ensures magnitude.ensures _ if1.left c.point-2.ensures
+    normal_some _ _ _ _ _ _ _ difference.ensures difference2.ensures cross.ensures magnitude.ensures _ if1.false c.point-2.ensures

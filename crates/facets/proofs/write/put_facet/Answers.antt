@@ -19,7 +19,7 @@ shape_of-out c =
     let l = c.put_vertex-4.new.out in
     let at = start.args.at in
     length-set (set l (at + 48) 0) (at + 49) 0 ∙ length-set l
-    (at + 48) 0 ∙ c.put_vertex-4.auto.out ∙ put-vertex3.kept.0 ∙ put-vertex2.kept.0 ∙ put_vertex.kept.0
+    (at + 48) 0 ∙ c.put_vertex-4.auto.out ∙ put-vertex3.auto.out ∙ put-vertex2.auto.out ∙ put_vertex.auto.out
 
 pub returns : goal.returns
 returns c =

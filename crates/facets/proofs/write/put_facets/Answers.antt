@@ -24,39 +24,39 @@ overflow_cast-faces c = omega (arith, c.type_inv.faces (3 * c.loop-i.i))
 
 pub point_at-p-requires : goal.point_at-p-requires
 point_at-p-requires c =
-    let start = start_of_shared_slice_known3 c in
-    start.pre.2.known (3 * c.loop-i.i) (let h = c.loop-i-test.true in let p = start.pre.1 in omega arith)
+    let start = c in
+    start.requires.2.known (3 * c.loop-i.i) (let h = c.loop-i-test.true in let p = start.requires.1 in omega arith)
 
 pub overflow_cast-faces-in-loop-i : goal.overflow_cast-faces-in-loop-i
-overflow_cast-faces-in-loop-i c = omega (arith, c.type_inv.faces (3 * (at_loop_of_shared_slice_known4 c).loop.i + 1))
+overflow_cast-faces-in-loop-i c = omega (arith, c.type_inv.faces (3 * c.loop-i.i + 1))
 
 pub point_at-q-requires : goal.point_at-q-requires
 point_at-q-requires c =
-    let loop = (at_loop_of_shared_slice_known4 c).loop in
-    let start = start_of_shared_slice_known4 c in
-    start.pre.2.known (3 * loop.i + 1) (let h = c.loop-i-test.true in let p = start.pre.1 in omega arith)
+    let loop = c.loop-i in
+    let start = c in
+    start.requires.2.known (3 * loop.i + 1) (let h = c.loop-i-test.true in let p = start.requires.1 in omega arith)
 
 pub overflow_cast-faces-in-loop-i-2 : goal.overflow_cast-faces-in-loop-i-2
-overflow_cast-faces-in-loop-i-2 c = omega (arith, c.type_inv.faces (3 * (at_loop_of_shared_slice_known5 c).loop.i + 2))
+overflow_cast-faces-in-loop-i-2 c = omega (arith, c.type_inv.faces (3 * c.loop-i.i + 2))
 
 pub point_at-r-requires : goal.point_at-r-requires
 point_at-r-requires c =
-    let loop-test = (in_loop_of_shared_slice_known5 c).loop-test in
-    let loop = (at_loop_of_shared_slice_known5 c).loop in
-    let start = start_of_shared_slice_known5 c in
-    start.pre.2.known (3 * loop.i + 2) (let h = loop-test.taken in let p = start.pre.1 in omega arith)
+    let loop-test = c.loop-i-test in
+    let loop = c.loop-i in
+    let start = c in
+    start.requires.2.known (3 * loop.i + 2) (let h = loop-test.true in let p = start.requires.1 in omega arith)
 
 pub loop-i-preserved : goal.loop-i-preserved
 loop-i-preserved c =
     let f = c.put_facet in
-    let l = (at_loop_of_slice_known2 c).loop in
-    let corner = corner_at (start_of_slice_known2 c).args.points.now (start_of_slice_known2 c).args.faces.now in (
-      f.auto.out ∙ l.inv.0,
+    let l = c.loop-i in
+    let corner = corner_at c.args.points.now c.args.faces.now in (
+      f.auto.out ∙ l.invariant.0,
       search rules,
       lay_more (facet_of corner) 50 (λ i. facet_length (corner (3 * i)) (corner (3 * i + 1)) (corner (3 * i + 2))) 84
-          (start_of_slice_known2 c).args.out.now l.out f.new.out l.i (84 + 50 * l.i) l.inv.2 refl
-          (facet_of_lem corner l.i _ _ _ l.out f.new.out (84 + 50 * l.i) (point_at_of_slice_known2 c).point_at.ensures
-          (point_at2_of_slice_known2 c).point-at2.ensures (point_at3_of_slice_known2 c).point-at3.ensures f.ensures),
+          c.args.out.now l.out f.new.out l.i (84 + 50 * l.i) l.invariant.2 refl
+          (facet_of_lem corner l.i _ _ _ l.out f.new.out (84 + 50 * l.i) c.point_at-p.ensures
+          c.point_at-q.ensures c.point_at-r.ensures f.ensures),
     )
 
 pub shape_of-out : goal.shape_of-out
@@ -64,6 +64,6 @@ shape_of-out c = c.loop-i.invariant.0
 
 pub returns : goal.returns
 returns c =
-    let start = start_of_after_loop c in
+    let start = c in
     lay_all_lem (facet_of (corner_at start.args.points.now start.args.faces.now)) 84 start.args.out.now _ _ _ c.loop-i.invariant.1
     c.loop-i-test.false c.loop-i.invariant.2

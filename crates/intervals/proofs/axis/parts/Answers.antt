@@ -5,4 +5,4 @@ use Rattle.intervals.proofs.axis.parts.Goals as goal
 
 pub returns : goal.returns
 returns c =
-    let o = c.before.before.before.before in parts_held _ _ _ _ _ _ _ _ o.products-first.ensures o.products-second.ensures
+    let o = c in parts_held _ _ _ _ _ _ _ _ o.products-first.ensures o.products-second.ensures

@@ -47,7 +47,7 @@ returns c =
     let q = point-at2 in
     let p = point_at_lem in (
       c.best_of.ensures ∙ ap pivot_found
-          (best_around a.s a.points.now a.radius f.result a.w.now g.last.1.1.0 g.result a.a a.b p.ensures q.ensures
+          (best_around a.s a.points.now a.radius f.result a.w.now g.new.w g.result a.a a.b p.ensures q.ensures
           m.ensures f.ensures g.ensures),
       g.ensures.kept,
     )

@@ -15,7 +15,7 @@ use Rattle.pivot.proofs.State.{test_kept}
 use Rattle.pivot.proofs.candidates.score_ahead.Goals as goal
 
 pub score_of-requires : goal.score_of-requires
-score_of-requires c = let n = c.before.before in (n.requires.0, n.requires.2, n.requires.3, n.requires.4)
+score_of-requires c = let n = c in (n.requires.0, n.requires.2, n.requires.3, n.requires.4)
 
 pub is_ahead-requires : goal.is_ahead-requires
 is_ahead-requires c = let n = c in

@@ -25,7 +25,7 @@ returns-then-k-o-2 c =
     let a = c.args in
     unscored (floats_of a.s a.points.now) a.o.radius (used_in_scene a.s a.w.now) (edge a.o.a a.o.b) a.k a.top
     (not_met (floats_of a.s a.points.now) a.o.radius (used_in_scene a.s a.w.now) (edge a.o.a a.o.b) a.k
-    (rw (ne_eqb a.k a.o.a c.if-k-o.false, eq-eqb a.k a.o.b c.if2.true)))
+    (rw (ne_eqb a.k a.o.a c.if-k-o.false, eq-eqb a.k a.o.b c.if-k-o-2.true)))
 
 pub returns-then-not-is_unused : goal.returns-then-not-is_unused
 returns-then-not-is_unused c =
@@ -34,8 +34,8 @@ returns-then-not-is_unused c =
     let a = start.args in
     unscored (floats_of a.s a.points.now) a.o.radius (used_in_scene a.s a.w.now) (edge a.o.a a.o.b) a.k a.top
     (not_met (floats_of a.s a.points.now) a.o.radius (used_in_scene a.s a.w.now) (edge a.o.a a.o.b) a.k
-    (rw (ne_eqb a.k a.o.a if1.left, ne_eqb a.k a.o.b c.if2.false)
-    (sym c.is_unused.ensures ∙ not-true c.is_unused.result c.if-not-is_unused.true)))
+    (rw (ne_eqb a.k a.o.a if1.false, ne_eqb a.k a.o.b c.if-k-o-2.false)
+    (sym c.is_unused.ensures ∙ c.if-not-is_unused.true)))
 
 pub score_over-requires : goal.score_over-requires
 score_over-requires c =
@@ -46,7 +46,7 @@ score_over-requires c =
 pub returns : goal.returns
 unfolding floats_of
 returns c =
-    let if2 = c.if2 in
+    let if2 = c.if-k-o-2 in
     let if1 = c.if-k-o in
     let start = c in
     let n = start in
@@ -56,4 +56,4 @@ returns c =
     ∙ ap (λ (o : Option Float). score_found (at_least a.top o))
     (over_at a.s a.points.now a.o.radius a.o.a a.o.b a.k n.requires.2 c.point_at-t.ensures
     ∙ met (floats_of a.s a.points.now) a.o.radius (used_in_scene a.s a.w.now) (edge a.o.a a.o.b) a.k
-    (rw (ne_eqb a.k a.o.a if1.left, ne_eqb a.k a.o.b if2.left) (sym u.ensures ∙ not-false u.result c.if-not-is_unused.false)))
+    (rw (ne_eqb a.k a.o.a if1.false, ne_eqb a.k a.o.b if2.false) (sym u.ensures ∙ c.if-not-is_unused.false)))

@@ -12,7 +12,6 @@ returns-then-x c = λ e. record {
   long = holds c.if-edge-b.true;
   x_above = holds c.if-x.true;
   area_above = holds e;
-
 }
 
 pub returns-else-x : goal.returns-else-x

@@ -9,12 +9,12 @@ use Rattle.plain.proofs.acceptance.is_sound.Goals as goal
 
 pub is_sound_long-requires : goal.is_sound_long-requires
 is_sound_long-requires c =
-    let x = c.before.before in
+    let x = c in
     let h = x.requires in
-    (h.0, h.1, h.2, x.cross_squared-s.ensures, holds c.if-s.true, holds c.if2.true)
+    (h.0, h.1, h.2, x.cross_squared-s.ensures, holds c.if-s.true, holds c.if-s-2.true)
 
 pub returns-then-s-3 : goal.returns-then-s-3
 returns-then-s-3 c =
-    let x = c.before.before in
+    let x = c in
     let a = x.args in
-    sym (thin_unsound a.p1 a.p2 a.p3 a.radius (subst (λ (v : Float). T (le v thin)) x.cross_squared-s.ensures (holds c.if3.true)))
+    sym (thin_unsound a.p1 a.p2 a.p3 a.radius (subst (λ (v : Float). T (le v thin)) x.cross_squared-s.ensures (holds c.if-s-3.true)))

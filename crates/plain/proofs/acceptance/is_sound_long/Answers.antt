@@ -8,7 +8,7 @@ use Rattle.plain.proofs.acceptance.is_sound_long.Goals as goal
 
 pub returns-then-is_narrow : goal.returns-then-is_narrow
 returns-then-is_narrow c =
-    let g = c.before.before in
+    let g = c in
     let a = g.args in
     let h = g.requires in
     sym (narrow_given a.p1 a.p2 a.p3 _ _ a.radius h.1 h.2 g.distance_squared-edge.ensures h.3 h.0.widest_is

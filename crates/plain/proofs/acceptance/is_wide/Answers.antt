@@ -7,7 +7,7 @@ use Rattle.plain.proofs.acceptance.is_wide.Goals as goal
 pub returns-then-e-2 : goal.returns-then-e-2
 unfolding fourfold
 returns-then-e-2 c =
-    let if7 = c.if7 in
+    let if7 = c.if-x-2 in
     let if6 = c.if-e in
     let if5 = c.if-d in
     let if4 = c.if-x in
@@ -15,30 +15,30 @@ returns-then-e-2 c =
     let if2 = c.if-e-d in
     let if1 = c.if-s-z in
     λ e. record {
-      long = holds if1.taken;
-      out = holds if2.taken;
-      short = holds if3.taken;
-      x_above = holds if4.taken;
-      area_above = holds if5.taken;
-      beyond_above = holds if6.taken;
-      x_fits = holds if7.taken;
-      area_fits = holds c.if8.true;
+      long = holds if1.true;
+      out = holds if2.true;
+      short = holds if3.true;
+      x_above = holds if4.true;
+      area_above = holds if5.true;
+      beyond_above = holds if6.true;
+      x_fits = holds if7.true;
+      area_fits = holds c.if-d-2.true;
       edge_fits = holds c.if-edge.true;
-      beyond_fits = holds c.if10.true;
+      beyond_fits = holds c.if-e-2.true;
       apart = holds e;
     }
 
 pub returns-else-e-2 : goal.returns-else-e-2
-returns-else-e-2 c = λ e. never (sym c.if10.false ∙ e)
+returns-else-e-2 c = λ e. never (sym c.if-e-2.false ∙ e)
 
 pub returns-else-edge : goal.returns-else-edge
 returns-else-edge c = λ e. never (sym c.if-edge.false ∙ e)
 
 pub returns-else-d-2 : goal.returns-else-d-2
-returns-else-d-2 c = λ e. never (sym c.if8.false ∙ e)
+returns-else-d-2 c = λ e. never (sym c.if-d-2.false ∙ e)
 
 pub returns-else-x-2 : goal.returns-else-x-2
-returns-else-x-2 c = λ e. never (sym c.if7.false ∙ e)
+returns-else-x-2 c = λ e. never (sym c.if-x-2.false ∙ e)
 
 pub returns-else-e : goal.returns-else-e
 returns-else-e c = λ e. never (sym c.if-e.false ∙ e)

@@ -6,8 +6,8 @@ use Rattle.plain.proofs.near.add_candidate.Goals as goal
 
 pub returns-then-s-limits : goal.returns-then-s-limits
 returns-then-s-limits c =
-    let d = c.before.before in
-    let s = d.before.before.before.before.before.before in
+    let d = c in
+    let s = d in
     let a = s.args in
     adds_none a.points.now a.radius a.i a.j a.w.now a.lengths.now a.count
     (far_none a.points.now a.radius a.i a.j s.requires.1 d.point_at-p.ensures d.point_at-q.ensures
@@ -15,9 +15,9 @@ returns-then-s-limits c =
 
 pub returns-then-d-limits : goal.returns-then-d-limits
 returns-then-d-limits c =
-    let q = c.before.before in
-    let d = q.before.before.before in
-    let s = d.before.before.before.before.before.before in
+    let q = c in
+    let d = q in
+    let s = d in
     let a = s.args in
     adds_one a.points.now a.radius a.i a.j a.w.now a.lengths.now a.count q.sqrt-d.result
     (near_is a.points.now a.radius a.i a.j s.requires.1 d.point_at-p.ensures d.point_at-q.ensures
@@ -27,9 +27,9 @@ returns-then-d-limits c =
 
 pub returns : goal.returns
 returns c =
-    let q = c.before.before in
-    let d = q.before.before.before in
-    let s = d.before.before.before.before.before.before in
+    let q = c in
+    let d = q in
+    let s = d in
     let a = s.args in
     adds_none a.points.now a.radius a.i a.j a.w.now a.lengths.now a.count
     (near_is a.points.now a.radius a.i a.j s.requires.1 d.point_at-p.ensures d.point_at-q.ensures

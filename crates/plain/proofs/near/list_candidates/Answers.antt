@@ -26,27 +26,27 @@ loop-j-init c =
 
 pub loop-j-preserved : goal.loop-j-preserved
 loop-j-preserved c =
-    let t = add_candidate_of_slice_known4 c in
-    let l = t.loop in
-    let h = t.loop-test.taken in
-    let s = t.before.before.before.before.before.before.before.before in
-    let n : s.args.i ≤ length l.w = omega (arith, l.inv.2, s.pre.2) in
-    let m : s.args.i ≤ length l.lengths = omega (arith, l.inv.3, s.pre.3) in
-    let e = t.add-candidate.ensures in (
+    let t = c in
+    let l = t.loop-j in
+    let h = t.loop-j-test.true in
+    let s = t in
+    let n : s.args.i ≤ length l.w = omega (arith, l.invariant.2, s.requires.2) in
+    let m : s.args.i ≤ length l.lengths = omega (arith, l.invariant.3, s.requires.3) in
+    let e = t.add_candidate-count.ensures in (
       search rules,
-      count_step e h l.inv.1 n m,
+      count_step e h l.invariant.1 n m,
       search rules,
       search rules,
-      lists_step e h l.inv.1 n m l.inv.4,
-      all_step e h l.inv.1 n m _ l.inv.5,
+      lists_step e h l.invariant.1 n m l.invariant.4,
+      all_step e h l.invariant.1 n m _ l.invariant.5,
     )
 
 pub returns : goal.returns
 returns c =
     let l = c.loop-j in
-    let s = start_of_after_loop c in
+    let s = c in
     record {
-      ready = s.pre.0;
+      ready = s.requires.0;
       few = omega (arith, l.invariant.0, l.invariant.1);
       lists = l.invariant.4;
       all = sym (append-nil _) ∙ ap (λ (r : List _). take l.count l.w ++ r)

@@ -13,7 +13,7 @@ use Rattle.radii.proofs.Distances.{nearest_is}
 use Rattle.radii.proofs.nearest.find_nearest.Goals as goal
 
 pub point_at-requires : goal.point_at-requires
-point_at-requires c = let s = c.before.before.before in omega (arith, s.requires.0, s.requires.2.linked.ready.points_long)
+point_at-requires c = let s = c in omega (arith, s.requires.0, s.requires.2.linked.ready.points_long)
 
 pub clear_tenth-requires : goal.clear_tenth-requires
 clear_tenth-requires c = let s = c in
@@ -24,7 +24,7 @@ find_squares-kept-requires c =
     let clear-tenth = c.clear_tenth in
     let start = c in
     let s = start in
-    (record { inside = s.requires.0; room = omega (arith, s.requires.1, clear-tenth.kept.0); hashed = s.requires.2 }, s.requires.3)
+    (record { inside = s.requires.0; room = omega (arith, s.requires.1, clear-tenth.auto.f); hashed = s.requires.2 }, s.requires.3)
 
 pub take_roots-requires : goal.take_roots-requires
 take_roots-requires c =
@@ -33,7 +33,7 @@ take_roots-requires c =
     let start = c in
     let s = start in
     let q = find-squares in
-    omega (arith, s.requires.1, clear-tenth.kept.0, q.ensures.few, q.kept.1.1.1.1.1.1.1.1.0)
+    omega (arith, s.requires.1, clear-tenth.auto.f, q.ensures.few, q.auto.f)
 
 pub returns : goal.returns
 returns c =
@@ -44,7 +44,7 @@ returns c =
     let start = c in
     let s = start in
     let q = find-squares in
-    let u = q.last.1.1.1.1.1.1.1.0 in
+    let u = q.new.w in
     let t = c.take_roots.ensures in
     let k = q.ensures.kept in
     let is : around-of.result ≡ around_of s.args.config s.args.grid _ = around-of.ensures ∙ ap (around_of s.args.config s.args.grid)
@@ -53,7 +53,7 @@ returns c =
           ∙ ap (map root) (q.ensures.decided ∙ ap
           (λ (a : Around). least_squares (is_neighbor_cell a u s.args.n) s.args.points.now s.args.i (up_from 0 s.args.n)) is)
           ∙ nearest_is s.args.config s.args.grid s.args.points.now s.args.n s.args.i u s.requires.0 s.requires.2.linked.ready.numbers
-          (indexed_kept u s.requires.3 q.kept.1.1.1.1.1.1.1.0 k.before),
+          (indexed_kept u s.requires.3 q.auto.w k.before),
       q.ensures.few,
       t.1 ∙ k.front ∙ clear-tenth.ensures,
       k.before,

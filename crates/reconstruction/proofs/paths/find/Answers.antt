@@ -11,8 +11,8 @@ find_plain-requires c =
     let z = start.requires.sized in
     let k = start.requires.floats_enough in (
       z.few,
-      omega (arith, z.words_enough, survey.kept.1.1.0),
-      omega (arith, k, survey.kept.1.1.1.0),
+      omega (arith, z.words_enough, survey.auto.words),
+      omega (arith, k, survey.auto.floats),
       listed_none _ _ survey.ensures.2
           c.if-radii-eq0.true,
     )
@@ -22,7 +22,7 @@ returns-then-radii-eq0 c =
     let find-plain = c.find_plain in
     let if1 = c.if-radii-eq0 in
     let survey = c.survey-known in
-    finds_plain _ _ _ _ _ _ _ survey.ensures.0 survey.ensures.2 if1.taken find-plain.ensures
+    finds_plain _ _ _ _ _ _ _ survey.ensures.0 survey.ensures.2 if1.true find-plain.ensures
 
 pub find_pivoting-requires : goal.find_pivoting-requires
 find_pivoting-requires c = let e = c.survey-known.ensures in
@@ -35,4 +35,4 @@ returns c =
     let if1 = c.if-radii-eq0 in
     let survey = c.survey-known in
     let start = c in
-    finds_laid _ _ _ _ _ _ _ survey.ensures.0 start.requires.settled start.requires.sized survey.ensures.2 if1.left find-pivoting.ensures
+    finds_laid _ _ _ _ _ _ _ survey.ensures.0 start.requires.settled start.requires.sized survey.ensures.2 if1.false find-pivoting.ensures

@@ -42,128 +42,128 @@ is_unused-requires c = let l = c.loop-i in (l.invariant.0.held.work_long, l.inva
 
 pub loop-i-preserved-then-not-is_unused : goal.loop-i-preserved-then-not-is_unused
 loop-i-preserved-then-not-is_unused c =
-    let loop-test = (in_loop_of_then2 c).loop-test in
-    let loop = (at_loop_of_then2 c).loop in
-    let start = start_of_then2 c in
+    let loop-test = c.loop-i-test in
+    let loop = c.loop-i in
+    let start = c in
     let u = c.is_unused in
     let l = loop in
     let a = start.args in
-    let used = sym u.ensures ∙ not-true u.result c.if-not-is_unused.true in (
-      seek_used l.inv.0 loop-test.taken c.if-left-eq0.false used,
-      omega (arith, l.inv.1),
-      seedless_used (used_in_scene a.p.scene a.w.now) l.inv.2 (unused_back {s = a.p.scene} l.i l.inv.0.kept used),
+    let used = sym u.ensures ∙ c.if-not-is_unused.true in (
+      seek_used l.invariant.0 loop-test.true c.if-left-eq0.false used,
+      omega (arith, l.invariant.1),
+      seedless_used (used_in_scene a.p.scene a.w.now) l.invariant.2 (unused_back {s = a.p.scene} l.i l.invariant.0.kept used),
     )
 
 pub ask_early-asked-requires : goal.ask_early-asked-requires
 ask_early-asked-requires c =
-    let loop-test = (in_loop_of_ask_early_arg c).loop-test in
-    let loop = (at_loop_of_ask_early_arg c).loop in
+    let loop-test = c.loop-i-test in
+    let loop = c.loop-i in
     let l = loop in
-    (l.inv.0.held, l.inv.0.hashed, loop-test.taken)
+    (l.invariant.0.held, l.invariant.0.hashed, loop-test.true)
 
 pub shape_of-w-then-is_known_by : goal.shape_of-w-then-is_known_by
 shape_of-w-then-is_known_by c =
-    let ask-early = (ask_early_of_nothing_more2 c).ask-early in
-    let loop = (at_loop_of_nothing_more2 c).loop in
-    ask-early.kept.1.1.0 ∙ loop.inv.0.same
+    let ask-early = c.ask_early-asked in
+    let loop = c.loop-i in
+    ask-early.auto.w ∙ loop.invariant.0.same
 
 pub returns-then-is_known_by : goal.returns-then-is_known_by
 returns-then-is_known_by c =
-    let ask-early = (ask_early_of_nothing_more2 c).ask-early in
-    let loop = (at_loop_of_nothing_more2 c).loop in
-    let start = start_of_nothing_more2 c in
+    let ask-early = c.ask_early-asked in
+    let loop = c.loop-i in
+    let start = c in
     let a = start.args in
     let l = loop in
     let e = ask-early in
     let k = c.is_known_by.ensures c.if-is_known_by.true in
-    let upto = nothing_back {s = a.p.scene} a.points.now a.largest l.inv.0.kept (e.ensures.0 k.0) in (
+    let upto = nothing_back {s = a.p.scene} a.points.now a.largest l.invariant.0.kept (e.ensures.0 k.0) in (
       c.nothing_more-then-is_known_by.ensures.0 ∙ sym (ap seed_found (told_nothing a.p.scene a.points.now (used_in_scene a.p.scene a.w.now) k.1 upto)),
       λ _. upto,
-      kept_on l.inv.0.kept e.ensures.1,
+      kept_on l.invariant.0.kept e.ensures.1,
     )
 
 pub try_first-first-requires : goal.try_first-first-requires
 try_first-first-requires c =
-    let ask-early = (ask_early_of_try_first_arg c).ask-early in
-    let if2 = (else2_of_try_first_arg c).if2 in
-    let is-unused = (is_unused_of_try_first_arg c).is-unused in
-    let loop-test = (in_loop_of_try_first_arg c).loop-test in
-    let loop = (at_loop_of_try_first_arg c).loop in
-    let start = start_of_try_first_arg c in
+    let ask-early = c.ask_early-asked in
+    let if2 = c.if-not-is_unused in
+    let is-unused = c.is_unused in
+    let loop-test = c.loop-i-test in
+    let loop = c.loop-i in
+    let start = c in
     let a = start.args in
     let u = is-unused in
     let l = loop in
     let e = ask-early in
-    let q = seek_kept l.inv.0 e.last.1.1.0 e.ensures.1 e.kept.1.1.0 in
-    let free = unused_back {s = a.p.scene} l.i l.inv.0.kept (sym u.ensures ∙ not-false u.result if2.left) in (
-      record { held = q.held; indexed = q.indexed; hashed = q.hashed; limiting = start.pre.3; inside = loop-test.taken },
-      before_kept {p = a.p} {w = a.w.now} (record { between = l.inv.2; order = l.inv.1; free = free }) q.kept,
+    let q = seek_kept l.invariant.0 e.new.w e.ensures.1 e.auto.w in
+    let free = unused_back {s = a.p.scene} l.i l.invariant.0.kept (sym u.ensures ∙ not-false u.result if2.false) in (
+      record { held = q.held; indexed = q.indexed; hashed = q.hashed; limiting = start.requires.3; inside = loop-test.true },
+      before_kept {p = a.p} {w = a.w.now} (record { between = l.invariant.2; order = l.invariant.1; free = free }) q.kept,
     )
 
 pub shape_of-w-in-Triangle : goal.shape_of-w-in-Triangle
 shape_of-w-in-Triangle c =
-    let try-first = (try_first_of_known_told c).try-first in
-    let ask-early = (ask_early_of_known_told c).ask-early in
-    let loop = (at_loop_of_known_told c).loop in
-    try-first.kept.1.1.0 ∙ ask-early.kept.1.1.0 ∙ loop.inv.0.same
+    let try-first = c.try_first-first in
+    let ask-early = c.ask_early-asked in
+    let loop = c.loop-i in
+    try-first.auto.w ∙ ask-early.auto.w ∙ loop.invariant.0.same
 
 pub returns-in-Triangle : goal.returns-in-Triangle
 returns-in-Triangle c =
-    let try-first = (try_first_of_known_told c).try-first in
-    let ask-early = (ask_early_of_known_told c).ask-early in
-    let if2 = (else2_of_known_told c).if2 in
-    let is-unused = (is_unused_of_known_told c).is-unused in
-    let if1 = (else1_of_known_told c).if1 in
-    let loop-test = (in_loop_of_known_told c).loop-test in
-    let loop = (at_loop_of_known_told c).loop in
-    let start = start_of_known_told c in
+    let try-first = c.try_first-first in
+    let ask-early = c.ask_early-asked in
+    let if2 = c.if-not-is_unused in
+    let is-unused = c.is_unused in
+    let if1 = c.if-left-eq0 in
+    let loop-test = c.loop-i-test in
+    let loop = c.loop-i in
+    let start = c in
     let a = start.args in
     let u = is-unused in
     let l = loop in
     let e = ask-early in
-    let q = seek_kept l.inv.0 e.last.1.1.0 e.ensures.1 e.kept.1.1.0 in
+    let q = seek_kept l.invariant.0 e.new.w e.ensures.1 e.auto.w in
     let f = try-first in
-    let free = unused_kept {s = a.p.scene} l.i e.ensures.1 (sym u.ensures ∙ not-false u.result if2.left) in (
-      seek_hit q loop-test.taken if1.left free f.ensures.0.same c.found.given.1,
+    let free = unused_kept {s = a.p.scene} l.i e.ensures.1 (sym u.ensures ∙ not-false u.result if2.false) in (
+      seek_hit q loop-test.true if1.false free f.ensures.0.same c.found.given.1,
       λ h. absurd (true_not_false h refl),
       kept_on q.kept f.ensures.1,
     )
 
 pub known_from-lo-requires : goal.known_from-lo-requires
 known_from-lo-requires c =
-    let loop-test = (in_loop_of_enum_told c).loop-test in
-    let loop = (at_loop_of_enum_told c).loop in
+    let loop-test = c.loop-i-test in
+    let loop = c.loop-i in
     let l = loop in
-    (l.inv.1, omega (arith, l.inv.0.held.few, loop-test.taken))
+    (l.invariant.1, omega (arith, l.invariant.0.held.few, loop-test.true))
 
 pub overflow_add-i-in-loop-i : goal.overflow_add-i-in-loop-i
 overflow_add-i-in-loop-i c =
-    let loop-test = (in_loop_of_known_from c).loop-test in
-    let loop = (at_loop_of_known_from c).loop in
-    omega (arith, loop-test.taken, loop.inv.0.held.few)
+    let loop-test = c.loop-i-test in
+    let loop = c.loop-i in
+    omega (arith, loop-test.true, loop.invariant.0.held.few)
 
 pub loop-i-preserved : goal.loop-i-preserved
 loop-i-preserved c =
-    let try-first = (try_first_of_known_from c).try-first in
-    let ask-early = (ask_early_of_known_from c).ask-early in
-    let if2 = (else2_of_known_from c).if2 in
-    let is-unused = (is_unused_of_known_from c).is-unused in
-    let if1 = (else1_of_known_from c).if1 in
-    let loop-test = (in_loop_of_known_from c).loop-test in
-    let loop = (at_loop_of_known_from c).loop in
-    let start = start_of_known_from c in
+    let try-first = c.try_first-first in
+    let ask-early = c.ask_early-asked in
+    let if2 = c.if-not-is_unused in
+    let is-unused = c.is_unused in
+    let if1 = c.if-left-eq0 in
+    let loop-test = c.loop-i-test in
+    let loop = c.loop-i in
+    let start = c in
     let a = start.args in
     let u = is-unused in
     let l = loop in
     let e = ask-early in
-    let q = seek_kept l.inv.0 e.last.1.1.0 e.ensures.1 e.kept.1.1.0 in
+    let q = seek_kept l.invariant.0 e.new.w e.ensures.1 e.auto.w in
     let f = try-first in
     let m = c.known_from-lo in
-    let free = unused_kept {s = a.p.scene} l.i e.ensures.1 (sym u.ensures ∙ not-false u.result if2.left) in (
-      seek_miss q f.last.1.1.0 loop-test.taken if1.left free f.ensures.0.same c.enum_told.given.1 f.ensures.1
-          f.kept.1.1.0,
+    let free = unused_kept {s = a.p.scene} l.i e.ensures.1 (sym u.ensures ∙ not-false u.result if2.false) in (
+      seek_miss q f.new.w loop-test.true if1.false free f.ensures.0.same c.enum_told.given.1 f.ensures.1
+          f.auto.w,
       m.ensures.inside,
-      seedless_on {w₀ = a.w.now} l.inv.2 q.kept f.ensures.0.told m.ensures,
+      seedless_on {w₀ = a.w.now} l.invariant.2 q.kept f.ensures.0.told m.ensures,
     )
 
 pub shape_of-w : goal.shape_of-w
@@ -172,5 +172,5 @@ shape_of-w c = c.loop-i.invariant.0.same
 pub returns : goal.returns
 returns c =
     let l = c.loop-i in
-    let m = c.nothing-more3.ensures in
+    let m = c.nothing_more-2.ensures in
     (m.0 ∙ sym (ap seed_found (seek_end l.invariant.0 c.loop-i-test.false)), λ h. absurd (true_not_false h m.1), l.invariant.0.kept)

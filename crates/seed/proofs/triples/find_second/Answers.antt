@@ -11,26 +11,26 @@ loop-m-init c = second_start c.requires.0 c.requires.1 c.requires.4
 
 pub listed_point-j-requires : goal.listed_point-j-requires
 listed_point-j-requires c =
-    let start = start_of_in_loop c in
-    (start.pre.0.few, start.pre.0.work_long, start.pre.1, omega (arith, c.loop-m-test.true, start.pre.4))
+    let start = c in
+    (start.requires.0.few, start.requires.0.work_long, start.requires.1, omega (arith, c.loop-m-test.true, start.requires.4))
 
 pub try_second-found-requires : goal.try_second-found-requires
 try_second-found-requires c =
-    let start = start_of_listed_point c in
-    (start.pre.0, start.pre.1, start.pre.2, c.listed_point-j.ensures.1, start.pre.3)
+    let start = c in
+    (start.requires.0, start.requires.1, start.requires.2, c.listed_point-j.ensures.1, start.requires.3)
 
 pub returns-in-Triangle : goal.returns-in-Triangle
 returns-in-Triangle c =
-    let listed-point = (listed_point_of_known_told c).listed-point in
-    let loop-test = (in_loop_of_known_told c).loop-test in
-    let loop = (at_loop_of_known_told c).loop in
-    second_found loop.inv loop-test.taken listed-point.ensures.0 c.try_second-found.ensures c.found.given.1
+    let listed-point = c.listed_point-j in
+    let loop-test = c.loop-m-test in
+    let loop = c.loop-m in
+    second_found loop.invariant loop-test.true listed-point.ensures.0 c.try_second-found.ensures c.found.given.1
 
 pub loop-m-preserved : goal.loop-m-preserved
 loop-m-preserved c =
-    let loop-test = (in_loop_of_enum_told c).loop-test in
-    let loop = (at_loop_of_enum_told c).loop in
-    second_on loop.inv loop-test.taken c.listed_point-j.ensures.0 c.try_second-found.ensures
+    let loop-test = c.loop-m-test in
+    let loop = c.loop-m in
+    second_on loop.invariant loop-test.true c.listed_point-j.ensures.0 c.try_second-found.ensures
     c.enum_told.given.1
 
 pub returns : goal.returns

@@ -14,7 +14,7 @@ pub returns-then-not-is_unused : goal.returns-then-not-is_unused
 unfolding is_second floats_of
 returns-then-not-is_unused c =
     let a = c.args in
-    rw (ne_eqb a.i a.j c.if-i-j.false, sym c.is_unused.ensures, not-true c.is_unused.result c.if-not-is_unused.true)
+    rw (ne_eqb a.i a.j c.if-i-j.false, sym c.is_unused.ensures, c.if-not-is_unused.true)
 
 pub returns : goal.returns
 unfolding is_second floats_of

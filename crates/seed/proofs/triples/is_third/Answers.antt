@@ -31,7 +31,7 @@ returns-then-not-is_unused c =
       ne_eqb a.i a.k c.if-i-k.false,
       ne_eqb a.j a.k c.if-j-k.false,
       sym c.is_unused.ensures,
-      not-true c.is_unused.result c.if-not-is_unused.true,
+      c.if-not-is_unused.true,
     )
 
 pub returns-then-is_refused : goal.returns-then-is_refused
@@ -60,8 +60,8 @@ returns c =
     let e = c in
     let a = e.args in
     rw (
-      ne_eqb a.i a.k e.if-i-k.left,
-      ne_eqb a.j a.k e.if-j-k.left,
+      ne_eqb a.i a.k e.if-i-k.false,
+      ne_eqb a.j a.k e.if-j-k.false,
       sym e.is_unused.ensures,
-      not-false e.is_unused.result e.if-not-is_unused.left,
+      e.if-not-is_unused.false,
     ) c.is_completed.ensures

@@ -32,7 +32,7 @@ try_seconds-all-requires c =
     let start = c in
     let a = start.args in
     let k = check-first in (
-      searchable_kept k.last.1.1.0 start.requires.0 k.ensures.1 k.kept.1.1.0,
+      searchable_kept k.new.w start.requires.0 k.ensures.1 k.auto.w,
       subst
           (λ (q : Point3f). Filters a.p.scene q q (reach a.p.radius) c.filter_of-f.result) point_at_lem.ensures
           c.filter_of-f.ensures,
@@ -66,7 +66,7 @@ try_seconds-found-requires c =
     let start = c in
     let a = start.args in
     let k = check-first in (
-      searchable_kept k.last.1.1.0 start.requires.0 k.ensures.1 k.kept.1.1.0,
+      searchable_kept k.new.w start.requires.0 k.ensures.1 k.auto.w,
       subst
           (λ (q : Point3f). Filters a.p.scene q q (reach a.p.radius) c.filter_of-f.result) point_at_lem.ensures
           c.filter_of-f.ensures,
@@ -76,7 +76,7 @@ pub shape_of-w-in-Triangle : goal.shape_of-w-in-Triangle
 shape_of-w-in-Triangle c =
     let try-seconds2 = c.try_seconds-found in
     let check-first = c.check_first-check in
-    try-seconds2.kept.1.1.0 ∙ check-first.kept.1.1.0
+    try-seconds2.auto.w ∙ check-first.auto.w
 
 pub returns-in-Triangle : goal.returns-in-Triangle
 returns-in-Triangle c =
@@ -108,9 +108,9 @@ try_rest-requires c =
     let a = start.args in
     let k = check-first in
     let t = try-seconds2 in
-    let v = t.last.1.1.0 in
+    let v = t.new.w in
     let kept = kept_on k.ensures.1 t.ensures.1 in (
-      searchable_kept v start.requires.0 kept (t.kept.1.1.0 ∙ k.kept.1.1.0),
+      searchable_kept v start.requires.0 kept (t.auto.w ∙ k.auto.w),
       subst (λ (q : Point3f). Filters a.p.scene q q (reach a.p.radius) filter-of.result) point_at_lem.ensures filter-of.ensures,
       before_kept start.requires.1 kept,
       seconds_none (seconds_kept t.ensures.1 t.ensures.0) c.enum_told.given.1,
@@ -120,7 +120,7 @@ pub shape_of-w : goal.shape_of-w
 shape_of-w c =
     let try-seconds2 = c.try_seconds-found in
     let check-first = c.check_first-check in
-    c.try_rest.auto.w ∙ try-seconds2.kept.1.1.0 ∙ check-first.kept.1.1.0
+    c.try_rest.auto.w ∙ try-seconds2.auto.w ∙ check-first.auto.w
 
 pub returns : goal.returns
 returns c =

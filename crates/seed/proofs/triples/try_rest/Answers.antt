@@ -27,7 +27,7 @@ try_seconds-found-requires c =
     let check-first = c.check_first-check in
     let start = c in
     let k = check-first in
-    (searchable_kept k.last.1.1.0 start.requires.0 k.ensures.1 k.kept.1.1.0, start.requires.1)
+    (searchable_kept k.new.w start.requires.0 k.ensures.1 k.auto.w, start.requires.1)
 
 pub shape_of-w : goal.shape_of-w
 shape_of-w c = c.try_seconds-found.auto.w ∙ c.check_first-check.auto.w

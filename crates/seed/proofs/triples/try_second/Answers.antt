@@ -16,7 +16,7 @@ returns-then-not-is_second c =
     second_not (floats_of start.args.p.scene start.args.points.now) start.args.p.radius
     (used_in_scene start.args.p.scene start.args.w.now)
     start.args.i start.args.j (neighbors_listed start.args.p.scene start.args.w.now start.args.count)
-    (sym c.is_second.ensures ∙ not-true c.is_second.result c.if-not-is_second.true)
+    (sym c.is_second.ensures ∙ c.if-not-is_second.true)
 
 pub find_third-requires : goal.find_third-requires
 find_third-requires c =
@@ -29,7 +29,7 @@ find_third-requires c =
       start.requires.3,
       start.requires.4,
       close_second x.p.scene x.points.now x.p.radius
-          (used_in_scene x.p.scene x.w.now) x.i x.j (sym t.ensures ∙ not-false t.result c.if-not-is_second.false),
+          (used_in_scene x.p.scene x.w.now) x.i x.j (sym t.ensures ∙ c.if-not-is_second.false),
     )
 
 pub returns : goal.returns
@@ -40,4 +40,4 @@ returns c =
     ∙ second_is (floats_of start.args.p.scene start.args.points.now) start.args.p.radius
     (used_in_scene start.args.p.scene start.args.w.now)
     start.args.i start.args.j (neighbors_listed start.args.p.scene start.args.w.now start.args.count)
-    (sym t.ensures ∙ not-false t.result c.if-not-is_second.false)
+    (sym t.ensures ∙ c.if-not-is_second.false)

@@ -36,7 +36,7 @@ find_second-requires c =
     let start = c in
     let g = gather-near in
     let n = narrow in
-    let h = held_kept n.last.1.1.0 start.requires.0.held (n.kept.1.1.0 ∙ g.kept.1.1.0) in (
+    let h = held_kept n.new.w start.requires.0.held (n.auto.w ∙ g.auto.w) in (
       h,
       listed_points h.work_long (sought refl start.requires.1 g.ensures n.ensures),
       start.requires.0.inside,

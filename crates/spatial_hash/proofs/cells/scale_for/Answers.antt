@@ -6,7 +6,7 @@ use Rattle.spatial_hash.proofs.Corners.{bounded_finite}
 use Rattle.spatial_hash.proofs.cells.scale_for.Goals as goal
 
 pub returns-then-s-2 : goal.returns-then-s-2
-returns-then-s-2 c = (subst T (sym c.if-s.true) tt, bounded_finite _ c.if-s.true c.if2.true)
+returns-then-s-2 c = (subst T (sym c.if-s.true) tt, bounded_finite _ c.if-s.true c.if-s-2.true)
 
 pub returns-else-s-2 : goal.returns-else-s-2
 unfolding lt of_bits

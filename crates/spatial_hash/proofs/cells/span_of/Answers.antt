@@ -4,10 +4,10 @@ use borrow.Author.Rules.{rules}
 use Rattle.spatial_hash.proofs.cells.span_of.Goals as goal
 
 pub returns-then-b-a : goal.returns-then-b-a
-returns-then-b-a c = let s = c.before in span_empty s.args.side s.args.a s.args.b s.requires c.if-b-a.true
+returns-then-b-a c = let s = c in span_empty s.args.side s.args.a s.args.b s.requires c.if-b-a.true
 
 pub returns-then-gap-side : goal.returns-then-gap-side
-returns-then-gap-side c = let s = c.before.before in span_part s.args.side s.args.a s.args.b s.requires c.if-b-a.false c.if-gap-side.true
+returns-then-gap-side c = let s = c in span_part s.args.side s.args.a s.args.b s.requires c.if-b-a.false c.if-gap-side.true
 
 pub returns : goal.returns
-returns c = let s = c.before.before in span_whole s.args.side s.args.a s.args.b s.requires
+returns c = let s = c in span_whole s.args.side s.args.a s.args.b s.requires

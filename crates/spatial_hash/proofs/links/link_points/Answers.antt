@@ -12,22 +12,22 @@ loop-j-init c = linking_start _ _ _ _ c.requires
 
 pub link_point-requires : goal.link_point-requires
 link_point-requires c =
-    let s = start_of_link_point_arg c in
-    let b = bucket_below s.args.hash c.point_at.result s.pre.sound.some in
+    let s = c in
+    let b = bucket_below s.args.hash c.point_at.result s.requires.sound.some in
     let e = c.bucket_of-b.ensures in
-    (search rules, search rules, omega (arith, s.pre.sound.fitting), search rules)
+    (search rules, search rules, omega (arith, s.requires.sound.fitting), search rules)
 
 pub loop-j-preserved : goal.loop-j-preserved
 loop-j-preserved c =
-    let bucket-of = (bucket_of_of_slice_known2 c).bucket-of in
-    let point_at_lem = (point_at_of_slice_known2 c).point_at in
-    let loop-test = (in_loop_of_slice_known2 c).loop-test in
-    let loop = (at_loop_of_slice_known2 c).loop in
-    let start = start_of_slice_known2 c in
+    let bucket-of = c.bucket_of-b in
+    let point_at_lem = c.point_at in
+    let loop-test = c.loop-j-test in
+    let loop = c.loop-j in
+    let start = c in
     let l = loop in
     let s = start in
-    linking_step s.args.hash s.args.points.now s.args.n s.args.w.now l.w _ l.j bucket-of.result s.pre loop-test.taken
-    (bucket-of.ensures ∙ ap (bucket_of s.args.hash) point_at_lem.ensures) c.link_point.ensures l.inv
+    linking_step s.args.hash s.args.points.now s.args.n s.args.w.now l.w _ l.j bucket-of.result s.requires loop-test.true
+    (bucket-of.ensures ∙ ap (bucket_of s.args.hash) point_at_lem.ensures) c.link_point.ensures l.invariant
 
 pub shape_of-w : goal.shape_of-w
 shape_of-w c = c.loop-j.invariant.length_same

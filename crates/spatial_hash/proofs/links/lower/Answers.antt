@@ -5,7 +5,7 @@ use Rattle.spatial_hash.proofs.links.lower.Goals as goal
 
 pub returns : goal.returns
 returns c =
-    let s = c.before.before.before in
+    let s = c in
     record {
       x_finite = minimum_finite _ _ c.min.result c.min.ensures s.requires.0.x_finite s.requires.1.x_finite;
       y_finite = minimum_finite _ _ c.min-2.result c.min-2.ensures s.requires.0.y_finite s.requires.1.y_finite;

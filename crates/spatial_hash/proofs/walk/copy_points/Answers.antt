@@ -9,7 +9,7 @@ loop-i-init c = copying_start _ _ _ _ _ c.requires.2
 
 pub loop-i-preserved : goal.loop-i-preserved
 loop-i-preserved c =
-    let s = c.before.before.before in let l = c.loop-i in copying_step _ _ _ _ _ l.w _ _ c.loop-i-test.true s.requires.3
+    let s = c in let l = c.loop-i in copying_step _ _ _ _ _ l.w _ _ c.loop-i-test.true s.requires.3
     s.requires.4 s.requires.1 l.invariant
 
 pub shape_of-w : goal.shape_of-w

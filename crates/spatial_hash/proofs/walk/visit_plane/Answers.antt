@@ -7,55 +7,55 @@ use Rattle.spatial_hash.proofs.Sizes.{square_few, joined_below}
 use Rattle.spatial_hash.proofs.walk.visit_plane.Goals as goal
 
 pub loop-left-init : goal.loop-left-init
-loop-left-init c = let s = c.before.before in visiting_start s.requires.1 s.requires.4
+loop-left-init c = let s = c in visiting_start s.requires.1 s.requires.4
 
 pub overflow_mul-x : goal.overflow_mul-x
-overflow_mul-x c = let s = start_of_struct_known c in
+overflow_mul-x c = let s = c in
     let m = s.args.hash.side in
     let l = c.loop-left in
-    let j = joined_below m m s.args.x l.y s.pre.0 l.invariant.below in
-    let q = square_few m s.pre.4.linked.sound.few in
+    let j = joined_below m m s.args.x l.y s.requires.0 l.invariant.below in
+    let q = square_few m s.requires.4.linked.sound.few in
     omega arith
 
 pub overflow_add-x : goal.overflow_add-x
-overflow_add-x c = let s = start_of_struct_known c in
+overflow_add-x c = let s = c in
     let m = s.args.hash.side in
     let l = c.loop-left in
-    let j = joined_below m m s.args.x l.y s.pre.0 l.invariant.below in
-    let q = square_few m s.pre.4.linked.sound.few in
+    let j = joined_below m m s.args.x l.y s.requires.0 l.invariant.below in
+    let q = square_few m s.requires.4.linked.sound.few in
     omega arith
 
 pub visit_row-total-requires : goal.visit_row-total-requires
-visit_row-total-requires c = let s = start_of_struct_known c in
+visit_row-total-requires c = let s = c in
     let m = s.args.hash.side in
     let l = c.loop-left in
-    let j = joined_below m m s.args.x l.y s.pre.0 l.invariant.below in
-    let q = square_few m s.pre.4.linked.sound.few in (
+    let j = joined_below m m s.args.x l.y s.requires.0 l.invariant.below in
+    let q = square_few m s.requires.4.linked.sound.few in (
       j,
-      s.pre.2,
-      s.pre.3,
+      s.requires.2,
+      s.requires.3,
       visiting_room
           (plane_splits s.args.hash s.args.points.now s.args.n s.args.x (spanned s.args.hash.side s.args.zs))
           c.loop-left-test.true l.invariant,
     )
 
 pub next-y-requires : goal.next-y-requires
-next-y-requires c = (at_loop_of_slice_known2 c).loop.invariant.below
+next-y-requires c = c.loop-left.invariant.below
 
 pub loop-left-preserved : goal.loop-left-preserved
 loop-left-preserved c =
-    let loop-test = (in_loop_of_next c).loop-test in
-    let loop = (at_loop_of_next c).loop in
-    let start = start_of_next c in
+    let loop-test = c.loop-left-test in
+    let loop = c.loop-left in
+    let start = c in
     let s = start in
     let l = loop in
     visiting_step (plane_splits s.args.hash s.args.points.now s.args.n s.args.x (spanned s.args.hash.side s.args.zs))
-    loop-test.taken l.inv c.visit_row-total.ensures c.next-y.ensures
+    loop-test.true l.invariant c.visit_row-total.ensures c.next-y.ensures
 
 pub shape_of-w : goal.shape_of-w
 shape_of-w c = c.loop-left.invariant.walking.length_same
 
 pub returns : goal.returns
-returns c = let s = start_of_after_loop c in
+returns c = let s = c in
     visiting_end (plane_splits s.args.hash s.args.points.now s.args.n s.args.x (spanned s.args.hash.side s.args.zs))
     c.loop-left-test.false c.loop-left.invariant

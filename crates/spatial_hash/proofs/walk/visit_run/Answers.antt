@@ -34,7 +34,7 @@ bounds-w-starts c = let s = c.before.before.before in let l = last_word s in let
 
 pub overflow_cast-from : goal.overflow_cast-from
 overflow_cast-from c =
-    let s = c.before.before.before in let o = s.requires.1 in let e = s.requires.2 in omega (
+    let s = c in let o = s.requires.1 in let e = s.requires.2 in omega (
       arith,
       start_most _ _ _ _ _ s.args.first s.args.end s.requires.0 o e s.requires.3.linked s.args.first
           (omega arith),
@@ -52,12 +52,12 @@ bounds-w-starts-2 c = let s = c.before.before.before.before in let l = last_word
 
 pub overflow_cast-to : goal.overflow_cast-to
 overflow_cast-to c =
-    let s = c.before.before.before.before in let o = s.requires.1 in let e = s.requires.2 in omega
+    let s = c in let o = s.requires.1 in let e = s.requires.2 in omega
     (arith, start_most _ _ _ _ _ s.args.first s.args.end s.requires.0 o e s.requires.3.linked s.args.end e, s.requires.3.linked.ready.few)
 
 pub copy_points-requires : goal.copy_points-requires
 copy_points-requires c =
-    let s = c.before.before.before.before.before in
+    let s = c in
     let r = s.requires.3 in
     let o = s.requires.1 in
     let e = s.requires.2 in (
@@ -71,6 +71,6 @@ copy_points-requires c =
 
 pub returns : goal.returns
 returns c =
-    let a = c.before.before in
-    let s = a.before.before.before.before.before.before in
+    let a = c in
+    let s = a in
     subst (Appended _ _ _ _ _) (run_is _ _ _ _ _ _ _ s.requires.0 s.requires.1 s.requires.2 s.requires.3.linked) a.copy_points.ensures

@@ -16,16 +16,16 @@ returns-then-i-j c = first_equal _ _ _ _ c.if-n-i.false c.if-n-j.false c.if-n-k.
 
 pub returns-then-j-k : goal.returns-then-j-k
 returns-then-j-k c =
-    let b = c.before.before in
+    let b = c in
     second_equal _ _ _ _ b.if-n-i.false b.if-n-j.false b.if-n-k.false c.if-i-j.false c.if-j-k.true
 
 pub returns-then-k-i : goal.returns-then-k-i
 returns-then-k-i c =
-    let b = c.before.before.before in
+    let b = c in
     third_equal _ _ _ _ b.if-n-i.false b.if-n-j.false b.if-n-k.false c.if-i-j.false c.if-j-k.false
     c.if-k-i.true
 
 pub returns : goal.returns
 returns c =
-    let b = c.before.before.before in
+    let b = c in
     none_equal _ _ _ _ b.if-n-i.false b.if-n-j.false b.if-n-k.false c.if-i-j.false c.if-j-k.false c.if-k-i.false

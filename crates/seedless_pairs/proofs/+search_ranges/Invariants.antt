@@ -1,0 +1,10 @@
+-- `search_ranges` meets its contract. What falls is how many points the two ranges have together. Assumes nothing.
+use native.Mathlib.Omega.{arith}
+use borrow.Author.Rules.{rules}
+use borrow.Author.Tests.{not-false}
+use Rattle.seedless_pairs.proofs.Halves.{listed_fewer, none_later, refused_pairs, ranged, all_parts}
+use Prim.Native.Nat.{ℕ, ◌+◌, ◌-◌, ◌/◌, ◌<◌}
+use Rattle.seedless_pairs.proofs.+search_ranges.Given as goal
+
+abbrev pub decreases-search_ranges : goal.decreases-search_ranges
+decreases-search_ranges l = let f = l.first in let g = l.second in (f.to - f.from) + (g.to - g.from)
