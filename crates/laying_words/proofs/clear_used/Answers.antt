@@ -15,4 +15,6 @@ pub loop-i-preserved : goal.loop-i-preserved
 loop-i-preserved c = let l = c.loop-i in (simp length-set (omega arith), clearing_step _ _ _ l.i l.invariant.1 c.loop-i-test.true)
 
 pub returns : goal.returns
-returns c = let l = c.loop-i in clearing_end _ _ _ l.i l.invariant.1 c.loop-i-test.false
+returns c =
+    let l = c.loop-i in
+    let e = clearing_end _ _ _ l.i l.invariant.1 c.loop-i-test.false in record { w_after = e.0; only_in = e.1 }
