@@ -1,8 +1,7 @@
 -- `added` meets its contract: each way out is a case of the definition, in its order, and the last two differ in
 -- whether there is a best and a worst to compare with. Assumes nothing.
 use mathlib.Core.Path.{sym, ap, ◌∙◌}
-use borrow.Author.Tests.{not-true, not-false, lt-ltb, le-ltb, eq-eqb, ne_eqb}
-use borrow.Author.Rules.{rules}
+use borrow.Author.Tests.{lt-ltb, le-ltb, eq-eqb, ne_eqb}
 use Rattle.tally.specs.declared.Tally.{Tally}
 use Rattle.tally.specs.Tallies.{with_patch, added_to}
 use Rattle.tally.proofs.Told.{sound_told, enterable_told}
@@ -17,8 +16,7 @@ unfolding added_to
 returns-then-not-is_enterable c =
     rw (
       ← c.is_sound.ensures,
-      not-false c.is_sound.result
-          c.if-not-is_sound.false,
+      c.if-not-is_sound.false,
       ← c.is_enterable.ensures,
       c.if-not-is_enterable.true,
     )
@@ -30,10 +28,9 @@ returns-then-tally-ge-MAX_PATCHES c =
     let is-sound = c.is_sound in
     rw (
       ← is-sound.ensures,
-      not-false is-sound.result if1.false,
+      if1.false,
       ← c.is_enterable.ensures,
-      not-false
-          c.is_enterable.result c.if-not-is_enterable.false,
+      c.if-not-is_enterable.false,
       le-ltb _ _ c.if-tally-ge-MAX_PATCHES.true,
     )
 
@@ -43,8 +40,8 @@ summed-requires c =
     let is-enterable = c.is_enterable in
     let if1 = c.if-not-is_sound in
     let is-sound = c.is_sound in (
-      record { sums = (sound_told _ (sym is-sound.ensures ∙ not-false is-sound.result if1.false)).sums; more = c.if-tally-ge-MAX_PATCHES.false },
-      enterable_told _ (sym is-enterable.ensures ∙ not-false is-enterable.result if2.false),
+      record { sums = (sound_told _ (sym is-sound.ensures ∙ if1.false)).sums; more = c.if-tally-ge-MAX_PATCHES.false },
+      enterable_told _ (sym is-enterable.ensures ∙ if2.false),
     )
 
 pub returns-then-tally-eq0 : goal.returns-then-tally-eq0
@@ -56,9 +53,9 @@ returns-then-tally-eq0 c =
     let is-sound = c.is_sound in
     rw (
       ← is-sound.ensures,
-      not-false is-sound.result if1.false,
+      if1.false,
       ← is-enterable.ensures,
-      not-false is-enterable.result if2.false,
+      if2.false,
       lt-ltb _ _
           c.if-tally-ge-MAX_PATCHES.false,
       eq-eqb _ _ c.if-tally-eq0.true,
@@ -71,9 +68,9 @@ summed-requires-2 c =
     let is-enterable = c.is_enterable in
     let if1 = c.if-not-is_sound in
     let is-sound = c.is_sound in (
-      record { sums = (sound_told _ (sym is-sound.ensures ∙ not-false is-sound.result if1.false)).sums; more = if3.false },
+      record { sums = (sound_told _ (sym is-sound.ensures ∙ if1.false)).sums; more = if3.false },
       enterable_told _
-          (sym is-enterable.ensures ∙ not-false is-enterable.result if2.false),
+          (sym is-enterable.ensures ∙ if2.false),
     )
 
 pub returns : goal.returns
@@ -86,9 +83,9 @@ returns c =
     let is-sound = c.is_sound in
     rw (
       ← is-sound.ensures,
-      not-false is-sound.result if1.false,
+      if1.false,
       ← is-enterable.ensures,
-      not-false is-enterable.result if2.false,
+      if2.false,
       lt-ltb _ _
           if3.false,
       ne_eqb _ _ c.if-tally-eq0.false,

@@ -1,5 +1,4 @@
 -- `tally::best_of` meets its contract. Assumes nothing.
-use borrow.Author.Rules.{rules}
 use Rattle.tally.specs.Tallies.{better_patch}
 use Rattle.tally.proofs.best_of.Goals as goal
 

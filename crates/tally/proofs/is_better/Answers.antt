@@ -1,5 +1,4 @@
 -- `tally::is_better` meets its contract. Assumes nothing.
-use borrow.Author.Rules.{rules}
 use Rattle.tally.proofs.Told.{fits64}
 use Rattle.tally.specs.Tallies.{better}
 use Rattle.tally.proofs.is_better.Goals as goal

@@ -1,6 +1,5 @@
 -- `tally::summed` meets its contract. Assumes nothing.
 use native.Mathlib.Omega.{arith}
-use borrow.Author.Rules.{rules}
 use Rattle.tally.proofs.Told.{product}
 use Rattle.tally.specs.Checks.{max_faces}
 use Prim.Native.Nat.{◌≤◌}

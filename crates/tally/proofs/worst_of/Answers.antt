@@ -1,5 +1,4 @@
 -- `tally::worst_of` meets its contract. Assumes nothing.
-use borrow.Author.Rules.{rules}
 use Rattle.tally.specs.Tallies.{worst_of}
 use Rattle.tally.proofs.worst_of.Goals as goal
 

@@ -1,8 +1,7 @@
 -- `tally::checks::is_sound` meets its contract: the sums within their limits keep each product below 2^64. Assumes
 -- nothing.
 use mathlib.Core.Path.{sym, ◌∙◌}
-use borrow.Author.Rules.{rules}
-use borrow.Author.Tests.{not-true, not-false, le-leb, lt-leb, eq-eqb, ne_eqb}
+use borrow.Author.Tests.{le-leb, lt-leb, eq-eqb, ne_eqb}
 use native.Mathlib.Omega.{arith}
 use Rattle.tally.specs.Checks.{sound_tally}
 use Rattle.tally.proofs.Told.{within_told, squares_fit, faces_fit}
@@ -34,7 +33,7 @@ unfolding sound_tally
 returns-then-tally-eq0 c =
     let if1 = c.if-not-is_within in
     let is_within_lem = c.is_within in
-    rw (← is_within_lem.ensures, not-false is_within_lem.result if1.false, le-leb _ _ c.if-tally.false, eq-eqb _ _ c.if-tally-eq0.true)
+    rw (← is_within_lem.ensures, if1.false, le-leb _ _ c.if-tally.false, eq-eqb _ _ c.if-tally-eq0.true)
 
 pub returns-then-is_enterable : goal.returns-then-is_enterable
 unfolding sound_tally
@@ -44,7 +43,7 @@ returns-then-is_enterable c =
     let is_within_lem = c.is_within in
     rw (
       ← is_within_lem.ensures,
-      not-false is_within_lem.result if1.false,
+      if1.false,
       le-leb _ _ if2.false,
       ne_eqb _ _ c.if-tally-eq0.false,
       ← c.is_enterable.ensures,
@@ -60,7 +59,7 @@ returns-else-is_enterable c =
     let is_within_lem = c.is_within in
     rw (
       ← is_within_lem.ensures,
-      not-false is_within_lem.result if1.false,
+      if1.false,
       le-leb _ _ if2.false,
       ne_eqb _ _ c.if-tally-eq0.false,
       ← c.is_enterable.ensures,

@@ -1,6 +1,5 @@
 -- `is_within` meets its contract: each conjunct is the definition's, and no product overflows, since the tally has at
 -- most the largest number of patches where it is worked out. Assumes nothing.
-use borrow.Author.Rules.{rules}
 use borrow.Author.Tests.{le-leb, lt-leb}
 use Rattle.tally.specs.Checks.{tally_within}
 use Rattle.tally.proofs.checks.is_within.Goals as goal
