@@ -183,7 +183,7 @@ module _ (p q t : Point3f) (P : Coordinates p) (Q : Coordinates q) (R : Coordina
     (hc : T (is_plain_pair (squared t p) (squared t p))) (hb : T (is_plain_pair (squared q t) (squared q t))) where
   on_x : On p.x q.x t.x
   unfolding difference
-  on_x = on_axis_lem p.x q.x t.x P.x_Fits Q.x_Fits R.x_Fits (difference_parts q p ha).x (difference_parts t p hc).x (difference_parts q t hb).x
+  on_x = on_axis_lem p.x q.x t.x P.x_fits Q.x_fits R.x_fits (difference_parts q p ha).x (difference_parts t p hc).x (difference_parts q t hb).x
 
   on_y : On p.y q.y t.y
   unfolding difference

@@ -1,5 +1,4 @@
 -- `are_plain` meets its contract.
-use borrow.Author.Rules.{rules}
 use Rattle.cosines.specs.Inner.Cosine.{are_plain}
 use Rattle.cosines.proofs.are_plain.Goals as goal
 

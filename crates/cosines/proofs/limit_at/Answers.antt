@@ -1,5 +1,4 @@
 -- `limit_at` meets its contract.
-use borrow.Author.Rules.{rules}
 use Rattle.cosines.specs.Inner.Cosine.{limit_at}
 use Rattle.cosines.proofs.limit_at.Goals as goal
 

@@ -1,7 +1,6 @@
 -- `passes` meets its contract: what passes the test has a cosine that is not below the bound.
 use mathlib.Core.Path.{sym, ◌∙◌, subst}
 use lib.Dec.{T}
-use borrow.Author.Rules.{rules}
 use Rattle.cosines.proofs.Narrow.{narrow_is}
 use Rattle.cosines.proofs.passes.Goals as goal
 

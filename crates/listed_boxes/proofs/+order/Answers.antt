@@ -1,17 +1,13 @@
 -- `order` meets its contract, by induction on the depth: halving keeps the words' counts, and so does each call on a
 -- half. Assumes nothing.
 use native.Mathlib.Omega.{arith}
-use borrow.Author.Rules.{rules}
 use Rattle.listed_boxes.proofs.Words.{same_self, same_on, parts_same}
-use Prim.Native.Nat.{ℕ, ◌≤◌, ◌<◌}
+use Prim.Native.Nat.{ℕ, ◌≤◌}
 use mathlib.Core.Path.{sym, ◌∙◌, subst⁻¹}
 use lib.ListN.{length}
 use lib.Seq.{length-take-le}
 use Rattle.axis_sort.proofs.Parts.{size_1, size_2}
 use Rattle.listed_boxes.proofs.+order.Goals as goal
-
-abbrev order_at_lem : ℕ → In 2 order-kinds.ps
-order_at_lem t = and 2 order-kinds.ps (is 2 order-kinds.ps μ-order t) order.Pre
 
 pub returns-then-list-le-FEW : goal.returns-then-list-le-FEW
 returns-then-list-le-FEW t c = same_self _
@@ -51,7 +47,7 @@ shape_of-list t c =
       x.ensures.0,
       x.auto.list,
     ) in let y = c.order in let a = y.new.list in let z = c.order-2
-    in let b = z.new.1.0 in size_2 o a m h y.auto.list b z.auto.1.0 ∙ x.auto.list
+    in let b = z.new.list in size_2 o a m h y.auto.list b z.auto.list ∙ x.auto.list
 
 pub returns : goal.returns
 returns t c =
@@ -61,4 +57,4 @@ returns t c =
       x.ensures.0,
       x.auto.list,
     ) in let y = c.order in let a = y.new.list in let z = c.order-2
-    in let b = z.new.1.0 in same_on x.ensures.1 (parts_same o a m h y.ensures b z.ensures)
+    in let b = z.new.list in same_on x.ensures.1 (parts_same o a m h y.ensures b z.ensures)

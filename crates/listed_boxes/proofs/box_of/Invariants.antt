@@ -1,9 +1,6 @@
 -- `box_of` meets its contract. The loop's invariant: the box has the points before the m-th place. Assumes nothing.
 use Prim.Native.Nat.{◌-◌}
-use native.Mathlib.Omega.{arith}
-use borrow.Author.Rules.{rules}
 use Rattle.listed_boxes.specs.Inner.Boxes.{RangeBoxed}
-use Rattle.listed_boxes.proofs.Boxing.{box_start, box_skip, box_more, box_end}
 use Rattle.listed_boxes.proofs.box_of.Given as goal
 
 abbrev pub invariant-loop-m : goal.invariant-loop-m

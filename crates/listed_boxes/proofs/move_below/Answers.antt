@@ -1,9 +1,8 @@
 -- `move_below` meets its contract: in each turn two words change places. Assumes nothing.
-use Prim.Native.Nat.{◌+◌, ◌-◌}
+use Prim.Native.Nat.{◌+◌}
 use native.Mathlib.Omega.{arith}
-use borrow.Author.Rules.{rules}
-use lib.ListN.{length, get_or, length-set}
-use Rattle.listed_boxes.proofs.Words.{Moving, move_start, move_step}
+use lib.ListN.{get_or, length-set}
+use Rattle.listed_boxes.proofs.Words.{move_start, move_step}
 use Rattle.listed_boxes.proofs.move_below.Goals as goal
 
 pub loop-m-init : goal.loop-m-init
@@ -12,16 +11,16 @@ loop-m-init c = move_start
 pub bounds-list-kept-in-loop-m : goal.bounds-list-kept-in-loop-m
 bounds-list-kept-in-loop-m c =
     let l = c.loop-m in
-    omega (arith, length-set l.list l.m (get_or l.list l.auto 0), l.invariant.most, c.loop-m-test.true)
+    omega (arith, length-set l.list l.m (get_or l.list l.kept 0), l.invariant.most, c.loop-m-test.true)
 
 pub loop-m-preserved-then-coordinate-at : goal.loop-m-preserved-then-coordinate-at
 loop-m-preserved-then-coordinate-at c =
-    let l = c.loop-m in move_step (l.auto + 1) (omega arith) l.invariant
+    let l = c.loop-m in move_step (l.kept + 1) (omega arith) l.invariant
     c.loop-m-test.true
 
 pub loop-m-preserved : goal.loop-m-preserved
 loop-m-preserved c =
-    let l = c.loop-m in move_step l.auto (omega arith) l.invariant c.loop-m-test.true
+    let l = c.loop-m in move_step l.kept (omega arith) l.invariant c.loop-m-test.true
 
 pub shape_of-list : goal.shape_of-list
 shape_of-list c = c.loop-m.invariant.words.size

@@ -1,9 +1,7 @@
 -- `move_below` meets its contract: in each turn two words change places. Assumes nothing.
-use Prim.Native.Nat.{◌+◌, ◌-◌}
-use native.Mathlib.Omega.{arith}
-use borrow.Author.Rules.{rules}
-use lib.ListN.{length, get_or, length-set}
-use Rattle.listed_boxes.proofs.Words.{Moving, move_start, move_step}
+use Prim.Native.Nat.{◌-◌}
+use lib.ListN.{length}
+use Rattle.listed_boxes.proofs.Words.{Moving}
 use Rattle.listed_boxes.proofs.move_below.Given as goal
 
 abbrev pub invariant-loop-m : goal.invariant-loop-m

@@ -1,5 +1,4 @@
 -- `needle_angle` meets its contract.
-use borrow.Author.Rules.{rules}
 use Rattle.needle_angles.proofs.needle_angle.Goals as goal
 
 pub returns : goal.returns

@@ -1,20 +1,14 @@
 -- `needle_class` meets its contract.
 use mathlib.Core.Path.{◌≡◌}
-use mathlib.Core.Bool.{false, not}
+use mathlib.Core.Bool.{true}
 use lib.Ieee.{Float, le}
-use borrow.Author.Tests.{not-false}
 use Rattle.numbers.specs.Rounded.{f32, ◌⊗◌}
 use Rattle.needle_angles.proofs.Squares.{Plain, needle_10, needle_16, needle_32, needle_64, needle_128, no_needle}
 use Rattle.needle_angles.proofs.needle_class.Goals as goal
 
-plain : (least most long : Float) → not (le (f32 0x2b800000) least) ≡ false → not (le most (f32 0x4c800000)) ≡ false → not (le long (f32 0x4c800000)) ≡ false
-    → not (le long (least ⊗ f32 0x4c800000)) ≡ false → Plain least most long
-plain least most long h i j k = record {
-  from = rw (not-false (le (f32 0x2b800000) least) h) tt;
-  most_under = rw (not-false (le most (f32 0x4c800000)) i) tt;
-  long_under = rw (not-false (le long (f32 0x4c800000)) j) tt;
-  far = rw (not-false (le long (least ⊗ f32 0x4c800000)) k) tt;
-}
+plain : (least most long : Float) → le (f32 0x2b800000) least ≡ true → le most (f32 0x4c800000) ≡ true → le long (f32 0x4c800000) ≡ true
+    → le long (least ⊗ f32 0x4c800000) ≡ true → Plain least most long
+plain least most long h i j k = record { from = rw h tt; most_under = rw i tt; long_under = rw j tt; far = rw k tt }
 
 pub returns-then-not-least : goal.returns-then-not-least
 returns-then-not-least c = no_needle _ _ _ _
