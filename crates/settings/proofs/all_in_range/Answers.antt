@@ -24,7 +24,7 @@ returns-then-not-in_range c =
     let l = c.loop-k in
     let s = c.args in
     let e = leading_found _ _ _ l.k _ c.in_range.ensures l.invariant.3 (c.if-not-in_range.true) in
-    rw (le-leb s.count 8 l.invariant.2, lt-leb s.count (leading s.lo s.hi s.xs.now) (omega arith))
+    rw (le-leb s.count 8 l.invariant.2, lt-leb s.count (leading s.lo s.hi s.xs) (omega arith))
 
 pub loop-k-preserved : goal.loop-k-preserved
 loop-k-preserved c =
@@ -36,4 +36,4 @@ unfolding list_inside
 returns c =
     let l = c.loop-k in
     let s = c.args in
-    rw (le-leb s.count 8 l.invariant.2, le-leb s.count (leading s.lo s.hi s.xs.now) (omega arith))
+    rw (le-leb s.count 8 l.invariant.2, le-leb s.count (leading s.lo s.hi s.xs) (omega arith))
