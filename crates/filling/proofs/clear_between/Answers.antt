@@ -1,7 +1,5 @@
 use native.Mathlib.Omega.{arith}
-use borrow.Author.Rules.{rules}
-use Rattle.filling.proofs.Fill.{Zeroed, zeros_start, zeros_size, zeros_step, zeros_end}
-use Prim.Native.Nat.{◌-◌}
+use Rattle.filling.proofs.Fill.{zeros_start, zeros_size, zeros_step, zeros_end}
 use Rattle.filling.proofs.clear_between.Goals as goal
 
 pub loop-i-init : goal.loop-i-init

@@ -1,6 +1,4 @@
-use native.Mathlib.Omega.{arith}
-use borrow.Author.Rules.{rules}
-use Rattle.filling.proofs.Fill.{Zeroed, zeros_start, zeros_size, zeros_step, zeros_end}
+use Rattle.filling.proofs.Fill.{Zeroed}
 use Prim.Native.Nat.{◌-◌}
 use Rattle.filling.proofs.clear_between.Given as goal
 

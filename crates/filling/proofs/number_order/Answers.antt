@@ -1,8 +1,5 @@
 use native.Mathlib.Omega.{arith}
-use borrow.Author.Rules.{rules}
-use Rattle.filling.proofs.Fill.{Numbered, numbered_start, numbered_size, numbered_step, numbered_end}
-use lib.ListN.{length}
-use Prim.Native.Nat.{◌-◌}
+use Rattle.filling.proofs.Fill.{numbered_start, numbered_size, numbered_step, numbered_end}
 use Rattle.filling.proofs.number_order.Goals as goal
 
 pub loop-i-init : goal.loop-i-init

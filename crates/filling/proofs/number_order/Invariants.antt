@@ -1,6 +1,4 @@
-use native.Mathlib.Omega.{arith}
-use borrow.Author.Rules.{rules}
-use Rattle.filling.proofs.Fill.{Numbered, numbered_start, numbered_size, numbered_step, numbered_end}
+use Rattle.filling.proofs.Fill.{Numbered}
 use lib.ListN.{length}
 use Prim.Native.Nat.{◌-◌}
 use Rattle.filling.proofs.number_order.Given as goal

@@ -1,6 +1,4 @@
-use native.Mathlib.Omega.{arith}
-use borrow.Author.Rules.{rules}
-use Rattle.filling.proofs.Fill.{Bitten, bits_start, bits_size, bits_step, bits_end}
+use Rattle.filling.proofs.Fill.{Bitten}
 use lib.ListN.{length}
 use Prim.Native.Nat.{◌-◌}
 use Rattle.filling.proofs.put_bits.Given as goal

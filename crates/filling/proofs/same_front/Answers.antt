@@ -1,6 +1,4 @@
-use borrow.Author.Rules.{rules}
-use Rattle.filling.proofs.Fill.{Alike, alike_start, alike_step, alike_not, alike_end}
-use Prim.Native.Nat.{◌-◌}
+use Rattle.filling.proofs.Fill.{alike_start, alike_step, alike_not, alike_end}
 use Rattle.filling.proofs.same_front.Goals as goal
 
 pub loop-i-init : goal.loop-i-init

@@ -1,5 +1,4 @@
-use borrow.Author.Rules.{rules}
-use Rattle.filling.proofs.Fill.{Alike, alike_start, alike_step, alike_not, alike_end}
+use Rattle.filling.proofs.Fill.{Alike}
 use Prim.Native.Nat.{◌-◌}
 use Rattle.filling.proofs.same_front.Given as goal
 

@@ -3,12 +3,6 @@ use lib.Dec.{T}
 use lib.Ieee.{Float, binary32, fits}
 use Rattle.vector.proofs.Distances.{squared_fits}
 use Rattle.nearest.proofs.Scanning.{passed, now_limited, nearer_taken, at_distance}
-use borrow.Author.Rules.{rules}
-use Rattle.nearest.proofs.closer.Reads as reads
-use Rattle.nearest.proofs.closer.Lts as lts
-use Rattle.nearest.proofs.limit_of.Reads as limit-of-reads
-use Rattle.nearest.proofs.settled.Reads as settled-reads
-use Rattle.vector.proofs.distance_squared.Reads as distance-squared-reads
 use Rattle.nearest.proofs.closer.Goals as goal
 
 pub returns-then-best-square : goal.returns-then-best-square

@@ -1,12 +1,6 @@
 use mathlib.Core.Path.{sym, subst}
 use lib.Dec.{T}
 use Rattle.nearest.proofs.Margin.{raised_limit, root_limit}
-use borrow.Author.Rules.{rules}
-use Rattle.nearest.proofs.limit_of.Reads as reads
-use Rattle.nearest.proofs.limit_of.Lts as lts
-use Rattle.bounds.proofs.square_limit.Reads as square-limit-reads
-use Rattle.nearest.proofs.greater.Reads as greater-reads
-use Rattle.numbers.proofs.sqrt.Reads as sqrt-reads
 use Rattle.nearest.proofs.limit_of.Goals as goal
 
 pub returns-then-square-2 : goal.returns-then-square-2

@@ -1,28 +1,21 @@
 use native.Mathlib.Omega.{arith}
-use borrow.Author.Rules.{rules}
-use lib.ListN.{length, get_or}
+use lib.ListN.{get_or}
 use mathlib.Core.Path.{ap}
-use Prim.Native.Nat.{◌-◌}
 use Rattle.lists.proofs.Members.{in_at}
 use Rattle.vector.specs.Vector.{distance}
 use Rattle.vector.specs.declared.Point3f.{Point3f}
-use Rattle.nearest.specs.Scan.{length_to}
-use Rattle.nearest.proofs.Scanning.{Left, left_start, left_step, left_end}
-use Rattle.nearest.proofs.scan.Reads as reads
-use Rattle.nearest.proofs.scan.Lts as lts
-use Rattle.nearest.proofs.closer.Reads as closer-reads
-use Rattle.points.proofs.point_at.Reads as point-at-reads
+use Rattle.nearest.proofs.Scanning.{left_start, left_step, left_end}
 use Rattle.nearest.proofs.scan.Goals as goal
 
 pub loop-i-init : goal.loop-i-init
-loop-i-init c = left_start _ _ _ c.requires.0
+loop-i-init c = left_start _ _ _ c.requires.best_limited
 
 pub overflow_cast-number : goal.overflow_cast-number
 overflow_cast-number c = omega (arith, c.type_inv.order c.loop-i.i)
 
 pub point_at-p-requires : goal.point_at-p-requires
 point_at-p-requires c =
-    let o = c.args.order.now in c.requires.1
+    let o = c.args.order.now in c.requires.numbers_of_points
     (get_or o c.loop-i.i 0) (in_at o c.loop-i.i c.loop-i-test.true)
 
 pub closer-found-requires : goal.closer-found-requires

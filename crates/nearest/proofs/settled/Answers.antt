@@ -1,9 +1,5 @@
 use borrow.Author.Tests.{lt-ltb, le-ltb}
 use Rattle.nearest.proofs.Scanning.{root_taken, root_left, lower_taken, higher_left}
-use borrow.Author.Rules.{rules}
-use Rattle.nearest.proofs.settled.Reads as reads
-use Rattle.nearest.proofs.settled.Lts as lts
-use Rattle.numbers.proofs.sqrt.Reads as sqrt-reads
 use Rattle.nearest.proofs.settled.Goals as goal
 
 pub returns-then-distance-kept : goal.returns-then-distance-kept

@@ -19,10 +19,10 @@ use Rattle.nearest_distances.proofs.measure.Goals as goal
 pub loop-i-init : goal.loop-i-init
 loop-i-init c =
     let a = c.args in filled_start (distance_at a.points.now a.spots.now) (length a.spots.now / 3)
-    a.distances.now c.requires.0.2
+    a.distances.now c.requires.nonzero.2
 
 pub bounds-found-i : goal.bounds-found-i
-bounds-found-i c = omega (arith, c.requires.0.1, c.loop-i-test.true)
+bounds-found-i c = omega (arith, c.requires.nonzero.1, c.loop-i-test.true)
 
 pub overflow_cast-found : goal.overflow_cast-found
 overflow_cast-found c = omega (arith, c.type_inv.found c.loop-i.i)
@@ -52,7 +52,7 @@ loop-i-preserved c =
     filled_step nan c.loop-i.invariant c.loop-i-test.true
     (c.distance.ensures ∙ ap₂ distance c.point_at-p.ensures c.point_at-spot.ensures
     ∙ ap (λ (k : ℕ). distance (point_at a.points.now k) (point_at a.spots.now i))
-    (c.requires.1 i c.loop-i-test.true)
+    (c.requires.by_index i c.loop-i-test.true)
     ∙ nearest_length a.points.now (length a.points.now / 3) (point_at a.spots.now i))
 
 pub shape_of-distances : goal.shape_of-distances

@@ -30,8 +30,10 @@ slice_bounds-nearest_points-end-2 c =
     c.args.floats.now _ c.shorter_of-room.ensures)
 
 pub measure-requires : goal.measure-requires
-measure-requires c =
-    ((some c.args.points.now c.args.spots.now c.args.index.now c.args.found.now c.args.distances.now c.args.words.now c.args.floats.now _ c.shorter_of-room.ensures c.nearest_points-searched.ensures c.if-searched-eq0.true, room_found c.args.points.now c.args.spots.now c.args.index.now c.args.found.now c.args.distances.now c.args.words.now c.args.floats.now _ c.shorter_of-room.ensures c.nearest_points-searched.ensures c.if-searched-eq0.true, room_distances c.args.points.now c.args.spots.now c.args.index.now c.args.found.now c.args.distances.now c.args.words.now c.args.floats.now _ c.shorter_of-room.ensures c.nearest_points-searched.ensures c.if-searched-eq0.true), at_found c.args.points.now c.args.spots.now c.args.index.now c.args.found.now c.args.distances.now c.args.words.now c.args.floats.now _ c.shorter_of-room.ensures c.nearest_points-searched.ensures c.if-searched-eq0.true)
+measure-requires c = record {
+      nonzero = (some c.args.points.now c.args.spots.now c.args.index.now c.args.found.now c.args.distances.now c.args.words.now c.args.floats.now _ c.shorter_of-room.ensures c.nearest_points-searched.ensures c.if-searched-eq0.true, room_found c.args.points.now c.args.spots.now c.args.index.now c.args.found.now c.args.distances.now c.args.words.now c.args.floats.now _ c.shorter_of-room.ensures c.nearest_points-searched.ensures c.if-searched-eq0.true, room_distances c.args.points.now c.args.spots.now c.args.index.now c.args.found.now c.args.distances.now c.args.words.now c.args.floats.now _ c.shorter_of-room.ensures c.nearest_points-searched.ensures c.if-searched-eq0.true);
+      by_index = at_found c.args.points.now c.args.spots.now c.args.index.now c.args.found.now c.args.distances.now c.args.words.now c.args.floats.now _ c.shorter_of-room.ensures c.nearest_points-searched.ensures c.if-searched-eq0.true;
+    }
 
 pub returns-then-searched-eq0 : goal.returns-then-searched-eq0
 returns-then-searched-eq0 c =

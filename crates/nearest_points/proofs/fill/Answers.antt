@@ -18,19 +18,19 @@ use Rattle.nearest_points.proofs.fill.Goals as goal
 pub loop-i-init : goal.loop-i-init
 loop-i-init c =
     let a = c.args in filled_start (number_at a.points.now a.spots.now) (length a.spots.now / 3) a.found.now
-    c.requires.1.1
+    c.requires.values_within.1
 
 pub point_at-spot-requires : goal.point_at-spot-requires
 point_at-spot-requires c = omega (arith, c.loop-i-test.true)
 
 pub nearest_in-best-requires : goal.nearest_in-best-requires
 nearest_in-best-requires c = (
-  c.requires.0.0,
-  c.requires.0.1,
-  c.requires.0.2,
+  c.requires.own_index.0,
+  c.requires.own_index.1,
+  c.requires.own_index.2,
   subst⁻¹ Finite c.point_at-spot.ensures
       (spots_finite c.args.spots.now
-      c.requires.1.0 c.loop-i.i
+      c.requires.values_within.0 c.loop-i.i
       (omega (arith, c.loop-i-test.true))),
 )
 

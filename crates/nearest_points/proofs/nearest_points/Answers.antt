@@ -94,14 +94,14 @@ fill-requires c =
     let a = start.args in
     let e = early_is a.points.now a.spots.now a.index.now a.words.now a.floats.now first-outside.ensures refusal-of-search.ensures in
     let k = accepted a.points.now a.spots.now (length a.index.now) (length a.words.now) (length a.floats.now)
-    (zero_answer a.points.now a.spots.now a.index.now a.words.now a.floats.now e if1.false) in (
-      (
+    (zero_answer a.points.now a.spots.now a.index.now a.words.now a.floats.now e if1.false) in record {
+      own_index = (
         record { cloud = k.cloud; own = passed matches.ensures c.if-not-own.false },
         c.width_of-width.ensures.0,
         c.width_of-width.ensures.1,
-      ),
-      (k.near, c.if-found-spots.false),
-    )
+        );
+      values_within = (k.near, c.if-found-spots.false);
+    }
 
 pub returns : goal.returns
 returns c =
