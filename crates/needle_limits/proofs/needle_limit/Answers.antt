@@ -1,6 +1,5 @@
 -- `needle_limit` meets its contract.
 use Rattle.needle_limits.proofs.Limits.{needle_limit, no_needle_limit}
-use borrow.Author.Rules.{rules}
 use Rattle.needle_limits.proofs.needle_limit.Goals as goal
 
 pub returns-then-low : goal.returns-then-low

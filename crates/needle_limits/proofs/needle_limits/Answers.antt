@@ -1,6 +1,5 @@
 -- `needle_limits` meets its contract.
 use Rattle.needle_angles.specs.Inner.NeedleAngles.{angle_of, ratio_of}
-use borrow.Author.Rules.{rules}
 use Rattle.needle_limits.proofs.needle_limits.Goals as goal
 
 pub returns : goal.returns
