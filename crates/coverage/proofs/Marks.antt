@@ -42,12 +42,12 @@ unfolding marks
 marks_set xs p zero k = refl
 marks_set xs p (suc n) zero =
     let e : p + 0 ≡ p = omega arith in
-    rw (e, mark_last xs p, marks_before xs p (suc p) n (omega arith))
+    cc (e, mark_last xs p, marks_before xs p (suc p) n (omega arith))
 marks_set xs p (suc n) (suc k) =
     let e : p + suc k ≡ suc p + k = omega arith in
     let one = mark_other xs p (p + suc k) (λ (h : p ≡ p + suc k). omega arith) in
     let rest = marks_set xs (suc p) n k in
-    rw (one, rest, e)
+    cc (one, rest, e)
 
 pub marks_none : (p n : ℕ) → replicate n 0 ≡ marks [] p n
 unfolding mark marks any

@@ -1,12 +1,10 @@
 -- `coverage::mark_reached` meets its contract. The loop's invariant: the marks are those of the numbers that were
 -- passed. Assumes nothing.
-use mathlib.Core.Path.{◌≡◌, refl, ap, ◌∙◌}
-use Prim.Native.Nat.{◌-◌, ◌≤◌}
+use mathlib.Core.Path.{refl, ap, ◌∙◌}
 use native.Mathlib.Omega.{arith}
 use lib.Dec.{eqb}
-use lib.ListN.{length, take, get_or}
+use lib.ListN.{length, get_or}
 use borrow.Author.Rules.{rules}
-use Rattle.coverage.specs.Coverage.{reached_marks as marks_of}
 use Rattle.coverage.proofs.Marks.{reached_start, reached_step, reached_end, set_length}
 use Rattle.lists.specs.Lists.{count}
 use Rattle.coverage.proofs.mark_reached.Goals as goal

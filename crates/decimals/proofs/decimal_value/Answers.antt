@@ -2,7 +2,6 @@
 -- 11. Assumes nothing.
 use Prim.Native.Nat.{◌+◌, ◌*◌}
 use native.Mathlib.Omega.{arith}
-use borrow.Author.Rules.{rules}
 use Rattle.decimals.specs.Decimal.{decimal}
 use Rattle.decimals.specs.Inner.Ready.{Tenths}
 use Rattle.decimals.proofs.Nearest.{at_most}

@@ -4,7 +4,6 @@ use Prim.Native.Nat.{◌+◌, ◌*◌, ◌<◌}
 use native.Mathlib.Omega.{arith}
 use lib.Ieee.Nearest.{closest}
 use Rattle.numbers.proofs.RootPattern.{no_nan_bits}
-use Rattle.decimals.specs.Inner.Ready.{Scaling}
 use Rattle.decimals.proofs.Nearest.{Rounded, number_no_nan, positive, at_most, scaling_start, scaling_more, scaling_next, scaling_end, scaling_no_tie}
 use Rattle.decimals.proofs.doubled_bits.Goals.{After-loop-n, After-nearest_quotient, In-loop-n}
 use Rattle.decimals.proofs.doubled_bits.Goals as goal

@@ -1,7 +1,6 @@
 -- `decimals::guess` is safe: both numbers are f64, and a number below another is no NaN, so that its bits may be read.
 -- Assumes nothing.
 use native.Mathlib.Omega.{arith}
-use borrow.Author.Rules.{rules}
 use lib.Ieee.{binary64}
 use Rattle.decimals.proofs.Exact.{exact, below_no_nan}
 use Rattle.decimals.proofs.guess.Goals as goal

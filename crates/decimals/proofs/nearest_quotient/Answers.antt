@@ -3,7 +3,6 @@
 use Prim.Native.Nat.{◌%◌, ◌/◌, ◌<◌, ◌≤◌}
 use native.Mathlib.Nat.{mod-lt, div-le_self}
 use native.Mathlib.Omega.{arith}
-use borrow.Author.Rules.{rules}
 use Rattle.decimals.proofs.Closest.{closest_down, closest_up}
 use Rattle.decimals.proofs.nearest_quotient.Goals as goal
 

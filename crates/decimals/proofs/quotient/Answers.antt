@@ -1,7 +1,6 @@
 -- `decimals::quotient` meets its contract: of whole numbers up to 2 ^ 24 the division is the fraction, rounded. Assumes
 -- nothing.
 use native.Mathlib.Omega.{arith}
-use borrow.Author.Rules.{rules}
 use lib.Ieee.{binary32}
 use Rattle.decimals.proofs.Nearest.{positive, at_most}
 use Rattle.decimals.proofs.Exact.{exact, exact_quotient}

@@ -4,7 +4,6 @@ use Prim.Native.Nat.{ℕ, ◌+◌, ◌-◌, ◌*◌, ◌/◌, ◌%◌, ◌^◌, 
 use mathlib.Core.Path.{◌≡◌, subst}
 use native.Mathlib.Nat.{mod-eq_of_lt, mul-lt-mul_of_pos_right, pow-le-pow_right}
 use native.Mathlib.Omega.{arith}
-use borrow.Author.Rules.{rules}
 use lib.Dec.{lit<}
 use lib.Pow.{pow_pos}
 use Rattle.numbers.proofs.RootPattern.{no_nan_bits}
