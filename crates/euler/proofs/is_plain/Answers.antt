@@ -1,5 +1,4 @@
 -- `is_plain` meets its contract.
-use borrow.Author.Rules.{rules}
 use Rattle.euler.proofs.Scores.{plain_low}
 use Rattle.euler.proofs.is_plain.Goals as goal
 

@@ -1,6 +1,5 @@
 -- `is_needle` meets its contract.
 use Rattle.sliver_filters.proofs.Triangles.{slivers_turned, slivers_swapped}
-use borrow.Author.Rules.{rules}
 use Rattle.sliver_filters.proofs.is_needle.Goals as goal
 
 pub returns-then-a-b : goal.returns-then-a-b

@@ -2,7 +2,6 @@
 use mathlib.Core.Path.{sym, subst}
 use lib.Dec.{T}
 use Rattle.sliver_filters.proofs.Triangles.{needles_along}
-use borrow.Author.Rules.{rules}
 use Rattle.sliver_filters.proofs.is_needle_along.Goals as goal
 
 pub returns-then-not-a-min : goal.returns-then-not-a-min

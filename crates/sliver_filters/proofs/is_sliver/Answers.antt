@@ -1,6 +1,5 @@
 -- `is_sliver` meets its contract.
 use Rattle.sliver_filters.proofs.Triangles.{slivers_turned, slivers_swapped}
-use borrow.Author.Rules.{rules}
 use Rattle.sliver_filters.proofs.is_sliver.Goals as goal
 
 pub returns-then-is_needle : goal.returns-then-is_needle

@@ -1,9 +1,7 @@
 -- `is_sliver_along` meets its contract.
 use mathlib.Core.Path.{sym, subst}
 use lib.Dec.{T}
-use borrow.Author.Tests.{not-false}
 use Rattle.sliver_filters.proofs.Triangles.{slivers_along}
-use borrow.Author.Rules.{rules}
 use Rattle.sliver_filters.proofs.is_sliver_along.Goals as goal
 
 pub returns-then-not-is_narrow : goal.returns-then-not-is_narrow

@@ -1,11 +1,8 @@
 -- `is_thin_within` meets its contract.
 use mathlib.Core.Path.{sym, subst}
 use lib.Dec.{T}
-use lib.Ieee.{le}
-use borrow.Author.Tests.{not-false}
 use Rattle.numbers.specs.Rounded.{f32}
 use Rattle.sliver_filters.proofs.Triangles.{thin_within}
-use borrow.Author.Rules.{rules}
 use Rattle.sliver_filters.proofs.is_thin_within.Goals as goal
 
 pub returns-then-not-a : goal.returns-then-not-a
