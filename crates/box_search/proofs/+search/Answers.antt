@@ -15,8 +15,10 @@ pub returns-then-best-far : goal.returns-then-best-far
 returns-then-best-far t c = left_out c.requires c.if-best-far.true
 
 pub scan_leaf-requires : goal.scan_leaf-requires
-scan_leaf-requires t c = let r = c.requires in
-    ((r.best_limit, r.best_length), ((here r).known, finite_here r))
+scan_leaf-requires t c = let r = c.requires in record {
+      best_limited = (r.best_limit, r.best_length);
+      numbers_of_points = ((here r).known, finite_here r);
+    }
 
 pub returns-then-n-le8 : goal.returns-then-n-le8
 returns-then-n-le8 t c = c.scan_leaf.ensures
