@@ -24,5 +24,5 @@ returns c =
     let d = v.apart_at-side in
     let e = v.area_at-area in
     accepted_at a.s a.points.now a.radius a.i a.j a.k e.ensures d.ensures n.requires.4 n.requires.3
-    (quality_own d.result a.to_j a.to-i e.result v.shape_of-shape.ensures c.quality_of.ensures)
+    (quality_own d.result a.to_j a.to_i e.result v.shape_of-shape.ensures c.quality_of.ensures)
     c.is_accepted.ensures

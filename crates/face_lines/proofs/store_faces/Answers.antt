@@ -39,7 +39,7 @@ overflow_add-count c =
 
 pub loop-at-smaller : goal.loop-at-smaller
 loop-at-smaller c =
-    let after-a = c in
+    let after-a = c.before.before.before.before.before in
     let a = c.a in
     let loop = c.loop-at in
     let start = c in
@@ -48,7 +48,7 @@ loop-at-smaller c =
 
 pub loop-at-preserved : goal.loop-at-preserved
 loop-at-preserved c =
-    let after-a = c in
+    let after-a = c.before.before.before.before.before in
     let loop-test = c.loop-at-test in
     let loop = c.loop-at in (
       c.put_face.auto.faces ∙ loop.invariant.0,

@@ -28,7 +28,7 @@ loop-i-init c =
       cover_start start.requires.0 c.begin-c.ensures.0 c.begin-c.ensures.1,
       nothing_yet a.s a.points.now
           (used_in_scene a.s c.begin-c.new.w),
-      marks_start a.rule a.s a.points.now a.XX,
+      marks_start a.rule a.s a.points.now a.radii,
     )
 
 pub offset_bounds-radii-i : goal.offset_bounds-radii-i

@@ -42,7 +42,7 @@ store_faces-requires c =
 pub order_faces-ordered-requires : goal.order_faces-ordered-requires
 order_faces-ordered-requires c =
     let store-faces = c.store_faces in
-    let else2 = c in
+    let else2 = c.before.before.before.before.before.before in
     let if1 = c.if-order-count in
     let start = c in
     between_looks _ _ _ start.args.words.now start.requires (few else2) _ store-faces.ensures start.args.order.now if1.false
@@ -51,7 +51,7 @@ pub returns-then-ordered : goal.returns-then-ordered
 returns-then-ordered c =
     let order-faces = c.order_faces-ordered in
     let store-faces = c.store_faces in
-    let else2 = c in
+    let else2 = c.before.before.before.before.before.before.before.before.before.before.before.before in
     let if1 = c.if-order-count in
     let start = c in
     found_order _ _ _ start.args.words.now start.requires (few else2) _ store-faces.ensures start.args.order.now if1.false _ _ _
@@ -61,7 +61,7 @@ pub returns-else-ordered : goal.returns-else-ordered
 returns-else-ordered c =
     let order-faces = c.order_faces-ordered in
     let store-faces = c.store_faces in
-    let else2 = c in
+    let else2 = c.before.before.before.before.before.before.before.before.before.before.before.before.before in
     let if1 = c.if-order-count in
     let start = c in
     found_none _ _ _ start.args.words.now start.requires (few else2) _ store-faces.ensures start.args.order.now if1.false _ _ _

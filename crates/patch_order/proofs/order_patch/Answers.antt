@@ -28,7 +28,7 @@ returns-then-first-ne0 c =
 
 pub order_lines-ordered-requires : goal.order_lines-ordered-requires
 order_lines-ordered-requires c =
-    let else1 = c in
+    let else1 = c.before.before.before.before in
     let start = c in
     let g = lines_good else1 in
     checked start.args.bytes.now _ start.args.order.now start.args.words.now start.args.floats.now g.faces g.lines _
@@ -40,7 +40,7 @@ returns c =
     let order-lines = c.order_lines-ordered in
     let if2 = c.if-first-ne0 in
     let first-answer = c.first_answer-first in
-    let else1 = c in
+    let else1 = c.before.before.before.before.before.before.before.before.before.before.before.before.before.before.before.before.before in
     let start = c in
     let g = lines_good else1 in
     let o = order-lines in

@@ -9,24 +9,7 @@ use Rattle.spatial_hash.specs.Inner.Near.{HashSound, Heading}
 use Rattle.spatial_hash.proofs.Kept.{ready_same}
 use Rattle.spatial_hash.proofs.Heads.{hashed_all}
 use borrow.Author.Rules.{rules}
-use Rattle.spatial_hash.proofs.build.Goals.{After-link_points, After-side_for-side}
 use Rattle.spatial_hash.proofs.build.Goals as goal
-
--- what was chosen is sound
-sound : (c : After-side_for-side) → HashSound (record {
-  least =
-      c.least_corner-least.result;
-  scale = c.scale_for-scale.result;
-  side = c.side_for-side.result;
-}) c.args.n
-sound c = record {
-  some = c.side_for-side.ensures.0;
-  few = c.side_for-side.ensures.1;
-  fitting = c.side_for-side.ensures.2;
-  positive = c.scale_for-scale.ensures.0;
-  scale_finite = c.scale_for-scale.ensures.1;
-  corner = c.least_corner-least.ensures;
-}
 
 pub link_points-requires : goal.link_points-requires
 link_points-requires c =
@@ -34,37 +17,85 @@ link_points-requires c =
     let start = c in
     let s = start in
     let e = c.clear_heads in
-    record { ready = ready_same _ _ _ _ e.auto.w s.requires; sound = sound after-side-for; empty = e.ensures.0 }
+    record {
+      ready = ready_same _ _ _ _ e.auto.w s.requires;
+      sound = (let sound_here : HashSound (record {
+        least =
+            c.least_corner-least.result;
+        scale = c.scale_for-scale.result;
+        side = c.side_for-side.result;
+      }) c.args.n = record {
+        some = c.side_for-side.ensures.0;
+        few = c.side_for-side.ensures.1;
+        fitting = c.side_for-side.ensures.2;
+        positive = c.scale_for-scale.ensures.0;
+        scale_finite = c.scale_for-scale.ensures.1;
+        corner = c.least_corner-least.ensures;
+      } in sound_here);
+      empty = e.ensures.0;
+    }
 
--- all points are chained
-heading : (c : After-link_points) → Heading (record {
+pub order_points-requires : goal.order_points-requires
+order_points-requires c = (let heading_here : Heading (record {
   least =
       c.least_corner-least.result;
   scale = c.scale_for-scale.result;
   side = c.side_for-side.result;
-}) c.args.points.now c.args.n c.link_points.new.w
-heading c =
-    let clear-heads = c.clear_heads in
+}) c.args.points.now c.args.n c.link_points.new.w = let clear-heads = c.clear_heads in
     let after-side-for = c in
     let start = c in
     let e = clear-heads in
     record {
       ready = ready_same _ _ _ _ (c.link_points.auto.w ∙ e.auto.w) start.requires;
-      sound = sound after-side-for;
+      sound = (let sound_here : HashSound (record {
+        least =
+            c.least_corner-least.result;
+        scale = c.scale_for-scale.result;
+        side = c.side_for-side.result;
+      }) c.args.n = record {
+        some = c.side_for-side.ensures.0;
+        few = c.side_for-side.ensures.1;
+        fitting = c.side_for-side.ensures.2;
+        positive = c.scale_for-scale.ensures.0;
+        scale_finite = c.scale_for-scale.ensures.1;
+        corner = c.least_corner-least.ensures;
+      } in sound_here);
       chained = c.link_points.ensures.0;
-    }
-
-pub order_points-requires : goal.order_points-requires
-order_points-requires c = heading c.before.before.before
+    } in heading_here)
 
 pub returns : goal.returns
 returns c =
     let o = c in
-    let l = o.before.before.before.before in
+    let l = o in
     let e = l.clear_heads in
     let n = l.args.n in
     record {
-      hashed = hashed_all _ _ _ _ _ (heading l) o.order_points.auto.w o.order_points.ensures.1 o.order_points.ensures.0;
+      hashed = hashed_all _ _ _ _ _ (let heading_here : Heading (record {
+        least =
+            c.least_corner-least.result;
+        scale = c.scale_for-scale.result;
+        side = c.side_for-side.result;
+      }) c.args.points.now c.args.n c.link_points.new.w = let clear-heads = c.clear_heads in
+          let after-side-for = c in
+          let start = c in
+          let e = clear-heads in
+          record {
+            ready = ready_same _ _ _ _ (c.link_points.auto.w ∙ e.auto.w) start.requires;
+            sound = (let sound_here : HashSound (record {
+              least =
+                  c.least_corner-least.result;
+              scale = c.scale_for-scale.result;
+              side = c.side_for-side.result;
+            }) c.args.n = record {
+              some = c.side_for-side.ensures.0;
+              few = c.side_for-side.ensures.1;
+              fitting = c.side_for-side.ensures.2;
+              positive = c.scale_for-scale.ensures.0;
+              scale_finite = c.scale_for-scale.ensures.1;
+              corner = c.least_corner-least.ensures;
+            } in sound_here);
+            chained = c.link_points.ensures.0;
+          } in heading_here) o.order_points.auto.w o.order_points.ensures.1 o.order_points.ensures.0;
       before =
           sym (take-take (9 * n) (10 * n) o.order_points.new.w (omega arith))
           ∙ ap (take (9 * n)) o.order_points.ensures.1

@@ -29,21 +29,21 @@ returns-in_default c = rw (number_not c.args.s.now _ _ c.number_at.ensures c.enu
 pub returns-in_default-number_at : goal.returns-in_default-number_at
 unfolding line_means line then
 returns-in_default-number_at c =
-    let after-a = c in
+    let after-a = c.before.before.before.before in
     let start = c in
     rw (a_read after-a, number_not start.args.s.now _ _ c.number_at-2.ensures c.enum-told2.given.1)
 
 pub returns-in_default-number_at-2 : goal.returns-in_default-number_at-2
 unfolding line_means line then
 returns-in_default-number_at-2 c =
-    let after-b = c in
-    let after-a = c in
+    let after-b = c.before.before.before.before in
+    let after-a = c.before.before.before.before.before.before.before.before in
     let start = c in
     rw (a_read after-a, b_read after-b, number_not start.args.s.now _ _ c.number_at-3.ensures c.enum-told3.given.1)
 
 pub returns : goal.returns
 unfolding line_means line then
 returns c =
-    let after-b = c in
-    let after-a = c in
+    let after-b = c.before.before.before.before.before in
+    let after-a = c.before.before.before.before.before.before.before.before.before in
     rw (a_read after-a, b_read after-b, c_read c.before)

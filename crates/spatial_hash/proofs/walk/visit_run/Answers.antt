@@ -7,30 +7,32 @@ use Rattle.spatial_hash.proofs.Sizes.{joined_below}
 use Rattle.spatial_hash.proofs.Runs.{start_most, run_goes, run_is, run_room}
 use native.Mathlib.Omega.{arith}
 use borrow.Author.Rules.{rules}
-use Rattle.spatial_hash.proofs.walk.visit_run.Goals.{Start}
 use Rattle.spatial_hash.proofs.walk.visit_run.Goals as goal
 
--- the run's last word is one of the hash's
-last_word : (s : Start) → s.args.at * (s.args.hash.side + 1) + s.args.end < 6 * s.args.n + 64
-last_word s =
-    let m = s.args.hash.side in
-    let e = s.requires.2 in
-    omega (arith, joined_below (m * m) (m + 1) s.args.at s.args.end s.requires.0 (omega arith), s.requires.3.linked.sound.fitting)
-
 pub overflow_mul-starts-2 : goal.overflow_mul-starts-2
-overflow_mul-starts-2 c = let s = c.before.before in let l = last_word s in let r = s.requires.3.linked.ready in omega arith
+overflow_mul-starts-2 c = let s = c in let l : c.args.at * (c.args.hash.side + 1) + c.args.end < 6 * c.args.n + 64 = let m = c.args.hash.side in
+    let e = c.requires.2 in
+    omega (arith, joined_below (m * m) (m + 1) c.args.at c.args.end c.requires.0 (omega arith), c.requires.3.linked.sound.fitting) in let r = s.requires.3.linked.ready in omega arith
 
 pub overflow_add-starts-2 : goal.overflow_add-starts-2
-overflow_add-starts-2 c = let s = c.before.before in let l = last_word s in let r = s.requires.3.linked.ready in omega arith
+overflow_add-starts-2 c = let s = c in let l : c.args.at * (c.args.hash.side + 1) + c.args.end < 6 * c.args.n + 64 = let m = c.args.hash.side in
+    let e = c.requires.2 in
+    omega (arith, joined_below (m * m) (m + 1) c.args.at c.args.end c.requires.0 (omega arith), c.requires.3.linked.sound.fitting) in let r = s.requires.3.linked.ready in omega arith
 
 pub overflow_add-from : goal.overflow_add-from
-overflow_add-from c = let s = c.before.before in let l = last_word s in let r = s.requires.3.linked.ready in omega arith
+overflow_add-from c = let s = c in let l : c.args.at * (c.args.hash.side + 1) + c.args.end < 6 * c.args.n + 64 = let m = c.args.hash.side in
+    let e = c.requires.2 in
+    omega (arith, joined_below (m * m) (m + 1) c.args.at c.args.end c.requires.0 (omega arith), c.requires.3.linked.sound.fitting) in let r = s.requires.3.linked.ready in omega arith
 
 pub offset_bounds-w-starts : goal.offset_bounds-w-starts
-offset_bounds-w-starts c = let s = c.before.before in let l = last_word s in let r = s.requires.3.linked.ready in omega arith
+offset_bounds-w-starts c = let s = c in let l : c.args.at * (c.args.hash.side + 1) + c.args.end < 6 * c.args.n + 64 = let m = c.args.hash.side in
+    let e = c.requires.2 in
+    omega (arith, joined_below (m * m) (m + 1) c.args.at c.args.end c.requires.0 (omega arith), c.requires.3.linked.sound.fitting) in let r = s.requires.3.linked.ready in omega arith
 
 pub bounds-w-starts : goal.bounds-w-starts
-bounds-w-starts c = let s = c.before.before.before in let l = last_word s in let r = s.requires.3.linked.ready in omega arith
+bounds-w-starts c = let s = c in let l : c.args.at * (c.args.hash.side + 1) + c.args.end < 6 * c.args.n + 64 = let m = c.args.hash.side in
+    let e = c.requires.2 in
+    omega (arith, joined_below (m * m) (m + 1) c.args.at c.args.end c.requires.0 (omega arith), c.requires.3.linked.sound.fitting) in let r = s.requires.3.linked.ready in omega arith
 
 pub overflow_cast-from : goal.overflow_cast-from
 overflow_cast-from c =
@@ -42,13 +44,19 @@ overflow_cast-from c =
     )
 
 pub overflow_add-to : goal.overflow_add-to
-overflow_add-to c = let s = c.before.before.before in let l = last_word s in let r = s.requires.3.linked.ready in omega arith
+overflow_add-to c = let s = c in let l : c.args.at * (c.args.hash.side + 1) + c.args.end < 6 * c.args.n + 64 = let m = c.args.hash.side in
+    let e = c.requires.2 in
+    omega (arith, joined_below (m * m) (m + 1) c.args.at c.args.end c.requires.0 (omega arith), c.requires.3.linked.sound.fitting) in let r = s.requires.3.linked.ready in omega arith
 
 pub offset_bounds-w-starts-2 : goal.offset_bounds-w-starts-2
-offset_bounds-w-starts-2 c = let s = c.before.before.before in let l = last_word s in let r = s.requires.3.linked.ready in omega arith
+offset_bounds-w-starts-2 c = let s = c in let l : c.args.at * (c.args.hash.side + 1) + c.args.end < 6 * c.args.n + 64 = let m = c.args.hash.side in
+    let e = c.requires.2 in
+    omega (arith, joined_below (m * m) (m + 1) c.args.at c.args.end c.requires.0 (omega arith), c.requires.3.linked.sound.fitting) in let r = s.requires.3.linked.ready in omega arith
 
 pub bounds-w-starts-2 : goal.bounds-w-starts-2
-bounds-w-starts-2 c = let s = c.before.before.before.before in let l = last_word s in let r = s.requires.3.linked.ready in omega arith
+bounds-w-starts-2 c = let s = c in let l : c.args.at * (c.args.hash.side + 1) + c.args.end < 6 * c.args.n + 64 = let m = c.args.hash.side in
+    let e = c.requires.2 in
+    omega (arith, joined_below (m * m) (m + 1) c.args.at c.args.end c.requires.0 (omega arith), c.requires.3.linked.sound.fitting) in let r = s.requires.3.linked.ready in omega arith
 
 pub overflow_cast-to : goal.overflow_cast-to
 overflow_cast-to c =
