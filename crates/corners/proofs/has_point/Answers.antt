@@ -3,7 +3,6 @@ use mathlib.Core.Path.{sym}
 use borrow.Author.Tests.{eq-eqb, ne_eqb}
 use Rattle.corners.specs.Corners.{face_in}
 use Rattle.corners.proofs.Chain.{touches_first, touches_second, touches_third}
-use borrow.Author.Rules.{rules}
 use Rattle.corners.proofs.has_point.Goals as goal
 
 pub returns-then-x-words : goal.returns-then-x-words

@@ -1,8 +1,8 @@
 -- `corners::link_corners` meets its contract. The loop's invariant: the corners below s are linked. Assumes nothing.
-use Prim.Native.Nat.{◌-◌, ◌*◌, ◌≤◌}
+use Prim.Native.Nat.{◌*◌}
 use mathlib.Core.Path.{◌≡◌, refl}
-use lib.ListN.{length, length-set}
-use Rattle.corners.proofs.Chain.{Partly, partly_start, partly_step, partly_point, partly_end}
+use lib.ListN.{length-set}
+use Rattle.corners.proofs.Chain.{partly_start, partly_step, partly_point, partly_end}
 use native.Mathlib.Omega.{arith}
 use borrow.Author.Rules.{rules}
 use Rattle.corners.proofs.link_corners.Goals as goal

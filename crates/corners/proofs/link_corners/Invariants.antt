@@ -1,10 +1,8 @@
 -- `corners::link_corners` meets its contract. The loop's invariant: the corners below s are linked. Assumes nothing.
 use Prim.Native.Nat.{◌-◌, ◌*◌, ◌≤◌}
-use mathlib.Core.Path.{◌≡◌, refl}
-use lib.ListN.{length, length-set}
-use Rattle.corners.proofs.Chain.{Partly, partly_start, partly_step, partly_point, partly_end}
-use native.Mathlib.Omega.{arith}
-use borrow.Author.Rules.{rules}
+use mathlib.Core.Path.{◌≡◌}
+use lib.ListN.{length}
+use Rattle.corners.proofs.Chain.{Partly}
 use Rattle.corners.proofs.link_corners.Given as goal
 
 abbrev pub invariant-loop-s : goal.invariant-loop-s

@@ -1,5 +1,4 @@
 -- `figures::coverage_of` meets its contract. Assumes nothing.
-use borrow.Author.Rules.{rules}
 use Rattle.figures.specs.Working.{coverage_of}
 use Rattle.figures.proofs.coverage_of.Goals as goal
 

@@ -1,7 +1,6 @@
 -- `figures::figures_of` meets its contract. Assumes nothing.
 use mathlib.Core.Path.{sym, ◌∙◌}
-use borrow.Author.Tests.{not-true, not-false, eq-eqb, ne_eqb}
-use borrow.Author.Rules.{rules}
+use borrow.Author.Tests.{eq-eqb, ne_eqb}
 use Rattle.figures.specs.Working.{figures_of}
 use Rattle.tally.proofs.Told.{sound_told, above_none}
 use Rattle.figures.proofs.figures_of.Goals as goal
@@ -15,16 +14,14 @@ unfolding figures_of
 returns-then-tally-eq0 c =
     rw (
       ← c.is_sound.ensures,
-      not-false c.is_sound.result
-          c.if-not-is_sound.false,
+      c.if-not-is_sound.false,
       eq-eqb _ _ c.if-tally-eq0.true,
       c.no_figures-then-tally-eq0.ensures,
     )
 
 pub sound_figures-requires : goal.sound_figures-requires
 sound_figures-requires c = (
-  sound_told _ (sym c.is_sound.ensures ∙ not-false c.is_sound.result
-      c.if-not-is_sound.false),
+  sound_told _ (sym c.is_sound.ensures ∙ c.if-not-is_sound.false),
   above_none _ c.if-tally-eq0.false,
 )
 
@@ -33,8 +30,7 @@ unfolding figures_of
 returns c =
     rw (
       ← c.is_sound.ensures,
-      not-false c.is_sound.result
-          c.if-not-is_sound.false,
+      c.if-not-is_sound.false,
       ne_eqb _ _ c.if-tally-eq0.false,
       c.sound_figures.ensures,
     )

@@ -1,6 +1,5 @@
 -- `figures::sound_figures` meets its contract. Assumes nothing.
 use native.Mathlib.Omega.{arith}
-use borrow.Author.Rules.{rules}
 use Rattle.tally.proofs.Told.{squares_fit, faces_fit, product, square_some}
 use Rattle.figures.specs.Working.{sound_figures, variance_of}
 use Rattle.figures.proofs.sound_figures.Goals as goal

@@ -1,13 +1,7 @@
 -- `listing::put_refusal` meets its contract: its three parts, one after the other. Assumes nothing.
-use borrow.Author.Rules.{rules}
 use Rattle.listing.specs.Listing.{text}
 use Rattle.listing.proofs.Faces.{put_refused}
 use Rattle.listing.proofs.put_refusal.Goals as goal
-
--- TODO slice_aggregate_put_text
--- slice_aggregate_put_text : goal.Need-slice-aggregate-put-text
--- slice_aggregate_put_text c = search rules
---
 
 pub returns : goal.returns
 unfolding text

@@ -1,7 +1,6 @@
 -- `listing::write_refusal` meets its contract: what a scratch buffer tells is the length, so the text is put only where
 -- it fits. Assumes nothing.
 use native.Mathlib.Omega.{arith}
-use borrow.Author.Rules.{rules}
 use Rattle.listing.proofs.Whole.{whole, no_room_lem, told_length}
 use Rattle.listing.proofs.write_refusal.Goals as goal
 

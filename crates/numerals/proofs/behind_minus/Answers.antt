@@ -1,7 +1,6 @@
 -- `numerals::behind_minus` meets its contract. Assumes nothing.
 use mathlib.Core.Path.{sym, ◌∙◌}
 use native.Mathlib.Omega.{arith}
-use borrow.Author.Rules.{rules}
 use Rattle.numerals.proofs.Bytes.{starts_inside}
 use Rattle.numerals.proofs.behind_minus.Goals as goal
 

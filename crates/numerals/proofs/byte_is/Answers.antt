@@ -1,6 +1,5 @@
 -- `numerals::byte_is` meets its contract: inside the bytes the byte decides, and past them nothing does. Assumes
 -- nothing.
-use borrow.Author.Rules.{rules}
 use Rattle.numerals.proofs.Bytes.{starts_here, starts_past}
 use Rattle.numerals.proofs.byte_is.Goals as goal
 

@@ -1,12 +1,10 @@
 -- `numerals::digits_end` meets its contract: the digits before i and those from i on are those from `at` on. The
 -- measure is how many are left. Assumes nothing.
-use Prim.Native.Nat.{◌+◌, ◌≤◌}
 use mathlib.Core.Bool.{true}
 use mathlib.Core.Path.{◌≡◌, sym, ◌∙◌}
 use native.Mathlib.Omega.{arith}
-use borrow.Author.Rules.{rules}
 use lib.ListN.{drop}
-use Rattle.numerals.specs.Format.{digits, starts_digit}
+use Rattle.numerals.specs.Format.{starts_digit}
 use Rattle.numerals.proofs.Bytes.{digits_step, digits_end, digit_inside}
 use Rattle.numerals.proofs.digits_end.Goals.{In-loop-i}
 use Rattle.numerals.proofs.digits_end.Goals as goal

@@ -1,16 +1,10 @@
 -- `numerals::fraction_at` meets its contract: each way out is a case of `fraction`. Assumes nothing.
-use Prim.Native.Nat.{◌+◌, ◌-◌}
-use mathlib.Core.Bool.{true}
-use mathlib.Core.Path.{◌≡◌, sym, ◌∙◌}
+use mathlib.Core.Path.{sym, ◌∙◌}
 use native.Mathlib.Omega.{arith}
-use borrow.Author.Rules.{rules}
 use lib.Dec.{lit≤, lit<}
-use lib.ListN.{drop}
 use Rattle.numerals.specs.Inner.Answers.{number_means}
-use Rattle.numerals.specs.Format.{starts_with, digits, few}
 use Rattle.numerals.proofs.Bytes.{starts_inside}
 use Rattle.numerals.proofs.Numeral.{few_most, found_digits, fraction_none, fraction_bad, fraction_read}
-use Rattle.numerals.proofs.fraction_at.Goals.{Then-is_few}
 use Rattle.numerals.proofs.fraction_at.Goals as goal
 
 pub overflow_add-start : goal.overflow_add-start
@@ -18,30 +12,16 @@ overflow_add-start c =
     let h = starts_inside 46 c.args.s.now c.args.at
     (sym c.byte_is.ensures ∙ c.if-byte_is.true) in omega arith
 
--- where a point was met, with 1 to 6 digits behind it
-dot : (c : Then-is_few)
-    → starts_with 46 (drop c.args.at c.args.s.now)
-    ≡ true
-dot c = sym c.byte_is.ensures ∙ c.if-byte_is.true
-
-found : (c : Then-is_few) → c.digits_end-end.result ≡ c.args.at + 1
-    + digits (drop (c.args.at + 1) c.args.s.now)
-found c = c.digits_end-end.ensures
-
-few_digits : (c : Then-is_few) → few (c.digits_end-end.result - (c.args.at + 1)) 6 ≡ true
-few_digits c = sym c.is_few.ensures ∙ c.if-is_few.true
-
 pub whole_of-parts-requires : goal.whole_of-parts-requires
-whole_of-parts-requires c = found_digits _ _ _ (found c) 6 (lit≤ tt) (few_digits c)
+whole_of-parts-requires c = found_digits _ _ _ c.digits_end-end.ensures 6 (lit≤ tt) (sym c.is_few.ensures ∙ c.if-is_few.true)
 
 pub decimal_value-requires : goal.decimal_value-requires
 decimal_value-requires c =
-    let b = c.before in
     record {
-      units_small = b.requires;
+      units_small = c.requires;
       parts_small = c.whole_of-parts.ensures.1;
       places_few = (few_most _ 6
-          (few_digits b)).1;
+          (sym c.is_few.ensures ∙ c.if-is_few.true)).1;
     }
 
 pub decimal_value-requires-else-byte_is : goal.decimal_value-requires-else-byte_is
@@ -50,9 +30,9 @@ decimal_value-requires-else-byte_is c = record { units_small = c.requires; parts
 pub returns-then-is_few : goal.returns-then-is_few
 unfolding number_means
 returns-then-is_few c =
-    let b = c.before.before in
     let w = c.whole_of-parts in
-    fraction_read _ _ _ _ _ (dot b) (found b) c.decimal_value.result w.result (few_digits b) w.ensures.0 c.decimal_value.ensures
+    fraction_read _ _ _ _ _ (sym c.byte_is.ensures ∙ c.if-byte_is.true) c.digits_end-end.ensures c.decimal_value.result w.result
+    (sym c.is_few.ensures ∙ c.if-is_few.true) w.ensures.0 c.decimal_value.ensures
 
 pub returns-else-is_few : goal.returns-else-is_few
 unfolding number_means

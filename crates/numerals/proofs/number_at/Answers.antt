@@ -1,5 +1,4 @@
 -- `numerals::number_at` meets its contract. Assumes nothing.
-use borrow.Author.Rules.{rules}
 use Rattle.numerals.proofs.Numeral.{number_signed}
 use Rattle.numerals.proofs.number_at.Goals as goal
 

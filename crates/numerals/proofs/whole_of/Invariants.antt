@@ -1,13 +1,9 @@
 -- `numerals::whole_of` meets its contract: what the digits before i write, carried on over the rest, is what all write;
 -- and k digits write less than 10 ^ k. Assumes nothing.
 use Prim.Native.Nat.{◌-◌, ◌^◌, ◌≤◌, ◌<◌}
-use mathlib.Core.Path.{◌≡◌, refl, sym, ◌∙◌}
-use native.Mathlib.Nat.{sub_self}
-use native.Mathlib.Omega.{arith}
-use borrow.Author.Rules.{rules}
+use mathlib.Core.Path.{◌≡◌}
 use lib.ListN.{take, drop}
 use Rattle.numerals.specs.Format.{digits, digits_value}
-use Rattle.numerals.proofs.Bytes.{Digit, next_digit, grow, small}
 use Rattle.numerals.proofs.whole_of.Given as goal
 
 abbrev pub invariant-loop-i : goal.invariant-loop-i

@@ -5,7 +5,6 @@ use Rattle.minima.specs.Inner.Minima.{leaf}
 use Rattle.regions.specs.Inner.Ordering.{tree_at}
 use Rattle.offers.proofs.Walk.{offered_kept, offer_none, offer_renewed}
 use native.Mathlib.Omega.{arith}
-use borrow.Author.Rules.{rules}
 use Rattle.offers.proofs.offer.Goals as goal
 
 pub overflow_cast-value : goal.overflow_cast-value

@@ -1,13 +1,11 @@
 -- `offers::offer_at` meets its contract. The loop's invariant: the corners from `next` on were passed. Assumes nothing.
-use Prim.Native.Nat.{◌+◌, ◌-◌, ◌*◌, ◌/◌, ◌≤◌}
-use mathlib.Core.Path.{◌≡◌, refl, ◌∙◌}
-use lib.ListN.{length}
+use Prim.Native.Nat.{◌+◌, ◌-◌, ◌*◌, ◌/◌}
+use mathlib.Core.Path.{refl, ◌∙◌}
 use Rattle.lists.proofs.Counts.{bit_le}
 use Rattle.patch.specs.Shape.{touches}
 use Rattle.corners.specs.Corners.{face_in}
-use Rattle.offers.proofs.Walk.{Walked, walk_start, walk_bound, walk_step, walk_end}
+use Rattle.offers.proofs.Walk.{walk_start, walk_bound, walk_step, walk_end}
 use native.Mathlib.Omega.{arith}
-use borrow.Author.Rules.{rules}
 use Rattle.offers.proofs.offer_at.Goals as goal
 
 pub overflow_cast-next : goal.overflow_cast-next

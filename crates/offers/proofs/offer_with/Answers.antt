@@ -8,7 +8,6 @@ use Rattle.corners.specs.Corners.{face_in}
 use Rattle.regions.specs.Inner.Ordering.{tree_at}
 use Rattle.offers.specs.Inner.Offers.{offered}
 use Rattle.offers.proofs.Walk.{offered_no, offer_none, offer_yes}
-use borrow.Author.Rules.{rules}
 use Rattle.offers.proofs.offer_with.Goals as goal
 
 pub returns-then-has_point : goal.returns-then-has_point

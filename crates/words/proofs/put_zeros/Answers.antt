@@ -1,8 +1,6 @@
 -- `words::put_zeros` meets its contract: the first i bytes are zeros. Assumes nothing.
-use Prim.Native.Nat.{◌-◌, ◌≤◌}
-use mathlib.Core.Path.{◌≡◌, refl, ◌∙◌}
-use lib.ListN.{length, length-set, replicate}
-use lib.Seq.{sets}
+use mathlib.Core.Path.{refl, ◌∙◌}
+use lib.ListN.{length-set}
 use Rattle.words.proofs.Laws.{zeros_more, zeros_all}
 use borrow.Author.Rules.{rules}
 use Rattle.words.proofs.put_zeros.Goals as goal

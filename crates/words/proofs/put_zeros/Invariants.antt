@@ -1,10 +1,8 @@
 -- `words::put_zeros` meets its contract: the first i bytes are zeros. Assumes nothing.
 use Prim.Native.Nat.{◌-◌, ◌≤◌}
-use mathlib.Core.Path.{◌≡◌, refl, ◌∙◌}
-use lib.ListN.{length, length-set, replicate}
+use mathlib.Core.Path.{◌≡◌}
+use lib.ListN.{length, replicate}
 use lib.Seq.{sets}
-use Rattle.words.proofs.Laws.{zeros_more, zeros_all}
-use borrow.Author.Rules.{rules}
 use Rattle.words.proofs.put_zeros.Given as goal
 
 abbrev pub invariant-loop-i : goal.invariant-loop-i

@@ -1,6 +1,5 @@
 -- `read::float_of` meets its contract: a not-a-number's pattern is asked for first. Assumes nothing.
 use Rattle.facets.proofs.Floats.{float_nan, float_number}
-use borrow.Author.Rules.{rules}
 use Rattle.facets.proofs.read.float_of.Goals as goal
 
 pub returns-then-b-gt2139095040 : goal.returns-then-b-gt2139095040

@@ -1,10 +1,7 @@
 -- `read::read_facets` meets its contract: the corners of the first i facets were stored. Assumes nothing.
 use native.Mathlib.Omega.{arith}
-use Prim.Native.Nat.{◌-◌, ◌≤◌, ◌*◌}
-use mathlib.Core.Path.{◌≡◌, refl, ◌∙◌}
-use lib.ListN.{length}
-use lib.Seq.{sets}
-use Rattle.words.specs.Chunks.{chunks}
+use Prim.Native.Nat.{◌*◌}
+use mathlib.Core.Path.{refl, ◌∙◌}
 use Rattle.words.proofs.Chunks.{lay_none, lay_more, lay_all_lem}
 use Rattle.facets.specs.Format.{corners_of}
 use Rattle.facets.proofs.Puts.{nine_length, read_nine}

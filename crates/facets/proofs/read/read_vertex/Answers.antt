@@ -4,7 +4,6 @@ use lib.ListN.{length-set}
 use Rattle.facets.proofs.Puts.{read_vertex}
 use mathlib.Core.Path.{ap, ◌∙◌}
 use Rattle.numbers.specs.Rounded.{f32}
-use borrow.Author.Rules.{rules}
 use Rattle.facets.proofs.read.read_vertex.Goals as goal
 
 pub bounds-corners-to-2 : goal.bounds-corners-to-2

@@ -1,7 +1,6 @@
 -- `write::bits_of` meets its contract: a not-a-number is asked for first. Assumes nothing.
 use Rattle.numbers.proofs.RootSpecial.{not_self}
 use Rattle.facets.proofs.Floats.{pattern_nan}
-use borrow.Author.Rules.{rules}
 use Rattle.facets.proofs.write.bits_of.Goals as goal
 
 pub returns-then-x : goal.returns-then-x

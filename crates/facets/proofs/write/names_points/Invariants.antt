@@ -1,11 +1,8 @@
 -- `write::names_points` meets its contract: no number passed is at the bound or above. Assumes nothing.
-use native.Mathlib.Omega.{arith}
 use Prim.Native.Nat.{◌-◌, ◌≤◌}
-use mathlib.Core.Path.{◌≡◌, refl}
+use mathlib.Core.Path.{◌≡◌}
 use lib.ListN.{length, drop}
 use Rattle.facets.specs.Known.{all_below}
-use Rattle.facets.proofs.Below.{below_failed, below_passed, below_all}
-use borrow.Author.Rules.{rules}
 use Rattle.facets.proofs.write.names_points.Given as goal
 
 abbrev pub invariant-loop-i : goal.invariant-loop-i

@@ -1,6 +1,5 @@
 -- `write::normal` meets its contract: one law for each way out. Assumes nothing.
 use Rattle.facets.proofs.Puts.{normal_zero, normal_some}
-use borrow.Author.Rules.{rules}
 use Rattle.facets.proofs.write.normal.Goals as goal
 
 pub returns-then-l : goal.returns-then-l

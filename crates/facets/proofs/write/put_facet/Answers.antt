@@ -4,7 +4,6 @@ use lib.ListN.{length-set, set}
 use Rattle.facets.proofs.Puts.{put_facet}
 use mathlib.Core.Path.{◌∙◌}
 use Prim.Native.Nat.{◌+◌}
-use borrow.Author.Rules.{rules}
 use Rattle.facets.proofs.write.put_facet.Goals as goal
 
 pub bounds-out-at-2 : goal.bounds-out-at-2

@@ -1,10 +1,7 @@
 -- `write::put_facets` meets its contract: the first i facets were put. Assumes nothing.
 use native.Mathlib.Omega.{arith}
-use Prim.Native.Nat.{◌-◌, ◌≤◌, ◌+◌, ◌*◌}
-use mathlib.Core.Path.{◌≡◌, refl, ◌∙◌}
-use lib.ListN.{length}
-use lib.Seq.{sets}
-use Rattle.words.specs.Chunks.{chunks}
+use Prim.Native.Nat.{◌+◌, ◌*◌}
+use mathlib.Core.Path.{refl, ◌∙◌}
 use Rattle.words.proofs.Chunks.{lay_none, lay_more, lay_all_lem}
 use Rattle.facets.specs.Format.{facet_of, corner_at}
 use Rattle.facets.proofs.Puts.{facet_length, facet_of_lem}

@@ -1,14 +1,10 @@
 -- `write::put_facets` meets its contract: the first i facets were put. Assumes nothing.
-use native.Mathlib.Omega.{arith}
-use Prim.Native.Nat.{◌-◌, ◌≤◌, ◌+◌, ◌*◌}
-use mathlib.Core.Path.{◌≡◌, refl, ◌∙◌}
+use Prim.Native.Nat.{◌-◌, ◌≤◌}
+use mathlib.Core.Path.{◌≡◌}
 use lib.ListN.{length}
 use lib.Seq.{sets}
 use Rattle.words.specs.Chunks.{chunks}
-use Rattle.words.proofs.Chunks.{lay_none, lay_more, lay_all_lem}
 use Rattle.facets.specs.Format.{facet_of, corner_at}
-use Rattle.facets.proofs.Puts.{facet_length, facet_of_lem}
-use borrow.Author.Rules.{rules}
 use Rattle.facets.proofs.write.put_facets.Given as goal
 
 abbrev pub invariant-loop-i : goal.invariant-loop-i

@@ -1,6 +1,5 @@
 -- `write::put_file` meets its contract: header, count and facets, one after the other. Assumes nothing.
 use Rattle.facets.proofs.Puts.{put_file}
-use borrow.Author.Rules.{rules}
 use Rattle.facets.proofs.write.put_file.Goals as goal
 
 pub returns : goal.returns

@@ -1,6 +1,5 @@
 -- `write::put_vertex` meets its contract: three words, one after the other. Assumes nothing.
 use Rattle.facets.proofs.Puts.{put_vertex}
-use borrow.Author.Rules.{rules}
 use Rattle.facets.proofs.write.put_vertex.Goals as goal
 
 pub returns : goal.returns

@@ -1,9 +1,5 @@
 -- The proof of the cycle of calls {put_decimal}: a small number is a digit, any other what its tenth puts and a digit.
 -- The measure is the number. Assumes nothing.
-use borrow.Author.Rules.{rules}
-use native.Mathlib.Omega.{arith}
-use Rattle.listing.proofs.Decimal.{put_small, put_more_digits}
-use Prim.Native.Nat.{ℕ, ◌<◌}
 use Rattle.listing.proofs.put.+put_decimal.Given as goal
 
 abbrev pub decreases-put_decimal : goal.decreases-put_decimal

@@ -1,6 +1,5 @@
 -- `listing::put::put_byte` meets its contract: past the end nothing is stored. Assumes nothing.
 use mathlib.Core.Path.{refl}
-use borrow.Author.Rules.{rules}
 use Rattle.listing.proofs.Puts.{put_past}
 use Rattle.listing.proofs.put.put_byte.Goals as goal
 

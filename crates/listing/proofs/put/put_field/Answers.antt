@@ -1,5 +1,4 @@
 -- `listing::put::put_field` meets its contract: the digits, then the byte. Assumes nothing.
-use borrow.Author.Rules.{rules}
 use Rattle.listing.proofs.Decimal.{put_ended}
 use Rattle.listing.proofs.put.put_field.Goals as goal
 

@@ -1,10 +1,7 @@
 -- `listing::put::put_text` meets its contract: the first i bytes of the text were put. Assumes nothing.
-use Prim.Native.Nat.{◌+◌, ◌-◌, ◌≤◌}
-use mathlib.Core.Path.{◌≡◌, refl, ◌∙◌}
+use mathlib.Core.Path.{refl, ◌∙◌}
 use native.Mathlib.Omega.{arith}
 use borrow.Author.Rules.{rules}
-use lib.ListN.{length, take}
-use Rattle.listing.specs.Inner.Ready.{PutBytes}
 use Rattle.listing.proofs.Puts.{put_none, put_more, put_all}
 use Rattle.listing.proofs.put.put_text.Goals as goal
 

@@ -1,11 +1,8 @@
 -- `listing::put::put_text` meets its contract: the first i bytes of the text were put. Assumes nothing.
 use Prim.Native.Nat.{◌+◌, ◌-◌, ◌≤◌}
-use mathlib.Core.Path.{◌≡◌, refl, ◌∙◌}
-use native.Mathlib.Omega.{arith}
-use borrow.Author.Rules.{rules}
+use mathlib.Core.Path.{◌≡◌}
 use lib.ListN.{length, take}
 use Rattle.listing.specs.Inner.Ready.{PutBytes}
-use Rattle.listing.proofs.Puts.{put_none, put_more, put_all}
 use Rattle.listing.proofs.put.put_text.Given as goal
 
 abbrev pub invariant-loop-i : goal.invariant-loop-i

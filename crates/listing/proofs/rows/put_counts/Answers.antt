@@ -1,5 +1,4 @@
 -- `listing::rows::put_counts` meets its contract: five fields, one after the other. Assumes nothing.
-use borrow.Author.Rules.{rules}
 use Rattle.listing.proofs.Faces.{put_counts_line}
 use Rattle.listing.proofs.rows.put_counts.Goals as goal
 

@@ -1,5 +1,4 @@
 -- `listing::rows::put_face` meets its contract: four fields, one after the other. Assumes nothing.
-use borrow.Author.Rules.{rules}
 use Rattle.listing.proofs.Faces.{put_face_line}
 use Rattle.listing.proofs.rows.put_face.Goals as goal
 

@@ -1,10 +1,8 @@
 -- `listing::rows::put_faces` meets its contract: the lines of the first i faces were put. Assumes nothing.
-use Prim.Native.Nat.{◌+◌, ◌-◌, ◌*◌, ◌≤◌}
-use mathlib.Core.Path.{◌≡◌, refl, ◌∙◌}
+use mathlib.Core.Path.{refl, ◌∙◌}
 use native.Mathlib.Omega.{arith}
 use borrow.Author.Rules.{rules}
-use lib.ListN.{length}
-use Rattle.listing.proofs.Faces.{Rows, rows_start, rows_next, rows_end}
+use Rattle.listing.proofs.Faces.{rows_start, rows_next, rows_end}
 use Rattle.listing.proofs.rows.put_faces.Goals as goal
 
 pub loop-i-init : goal.loop-i-init
