@@ -7,7 +7,6 @@ use lib.Seq.{length-take-le}
 use lib.ListN.{length, take}
 use Prim.Native.Nat.{◌/◌}
 use mathlib.Core.Path.{◌≡◌, sym, ◌∙◌}
-use borrow.Author.Rules.{rules}
 use Rattle.point_index.proofs.build.Goals as goal
 
 pub slice_bounds-order_points-end : goal.slice_bounds-order_points-end

@@ -3,7 +3,6 @@ use Rattle.numbers.specs.Rounded.{f32}
 use lib.ListN.{length, replicate}
 use Prim.Native.Nat.{ℕ}
 use mathlib.Core.Path.{◌≡◌, ap, ◌∙◌}
-use borrow.Author.Rules.{rules}
 use Rattle.point_index.proofs.build_index.Goals as goal
 
 pub returns-then-refusal-ne0 : goal.returns-then-refusal-ne0

@@ -1,6 +1,5 @@
 use native.Mathlib.Omega.{arith}
 use Rattle.point_index.proofs.Building.{matches_end}
-use borrow.Author.Rules.{rules}
 use Rattle.point_index.proofs.matches.Goals as goal
 
 pub build-requires : goal.build-requires

@@ -3,7 +3,6 @@ use Rattle.domain.specs.declared.Refusal.{Refusal}
 use mathlib.Core.Path.{sym, ap, ◌∙◌}
 use Rattle.domain.proofs.Refusals.{size_accepted}
 use Rattle.point_index.proofs.Outcome.{refused_points, refused_work, refused_index, refused_none}
-use borrow.Author.Rules.{rules}
 use Rattle.point_index.proofs.refusal_of_index.Goals as goal
 
 pub returns-then-refusal-ne0 : goal.returns-then-refusal-ne0

@@ -59,10 +59,9 @@ split-requires c =
     let order-along3 = c.order_along-3 in
     let order-along2 = c.order_along-2 in
     let order-along = c.order_along in
-    let shared-slice-known = c.type_inv.points in
     let start = c in
     let p = start.args.points.now in
-    start_ready number-order.new.order start.requires.0 shared-slice-known.given order-along.new.list order-along2.new.list
+    start_ready number-order.new.order start.requires.0 c.type_inv.points order-along.new.list order-along2.new.list
     order-along3.new.list
     (number-order.ensures ∙ ap (up_from 0) (order-along3.auto.keys ∙ order-along2.auto.keys ∙ order-along.auto.keys))
     (order-along.ensures ∙ ap (λ (n : ℕ). sorted_by (precedes p 0) (up_from 0 n)) start.requires.1)

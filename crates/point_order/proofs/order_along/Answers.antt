@@ -9,7 +9,6 @@ use Rattle.lists.specs.Lists.{up_from}
 use lib.ListN.{length}
 use mathlib.Core.Path.{ap, ◌∙◌, subst⁻¹}
 use native.Mathlib.Omega.{arith}
-use borrow.Author.Rules.{rules}
 use Rattle.point_order.proofs.order_along.Goals as goal
 
 pub guess-requires : goal.guess-requires
@@ -24,9 +23,8 @@ rises-requires c = c.requires.0
 pub returns-then-rises : goal.returns-then-rises
 returns-then-rises c =
     let guess = c.guess in
-    let shared-slice-known = c.type_inv.points in
     let start = c in
-    guessed start.requires.1 shared-slice-known.given _ start.requires.0 guess.new.list guess.auto.list
+    guessed start.requires.1 c.type_inv.points _ start.requires.0 guess.new.list guess.auto.list
     (c.rises.ensures c.if-rises.true)
 
 pub number_order-requires : goal.number_order-requires

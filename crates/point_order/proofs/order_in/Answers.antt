@@ -1,7 +1,6 @@
 use mathlib.Core.Path.{sym}
 use lib.ListN.{length}
 use lib.Seq.{length-take-le}
-use borrow.Author.Rules.{rules}
 use Rattle.point_order.proofs.order_in.Goals as goal
 
 pub slice_bounds-order_all-end-2 : goal.slice_bounds-order_all-end-2

@@ -1,6 +1,5 @@
 use lib.Dec.{lit≤}
 use native.Mathlib.Omega.{arith}
-use borrow.Author.Rules.{rules}
 use Rattle.point_order.proofs.order_points.Goals as goal
 
 pub order_in-requires : goal.order_in-requires

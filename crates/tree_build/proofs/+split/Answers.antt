@@ -11,8 +11,6 @@ use Rattle.axis_sort.proofs.Parts.{size_2}
 use Rattle.tree_build.proofs.Splitting.{bound_room, leaf_end, dividing, middle, first_size, first_ready, second_size, second_ready, behind_room}
 use Rattle.tree_build.proofs.Splitting.{part_end, half_bytes, next_fits}
 use native.Mathlib.Omega.{arith}
-use borrow.Author.Rules.{rules}
-use Prim.Native.Nat.{ℕ, ◌<◌}
 use Rattle.tree_build.proofs.+split.Goals as goal
 
 pub bound-axis-requires : goal.bound-axis-requires
@@ -35,7 +33,6 @@ slice_bounds-split-end t c =
     let start = c in
     let k = middle start.requires if1.false bound.ensures divide.ensures divide.auto.x divide.auto.y
     divide.auto.z in
-    let d = divide.last in
     k.order_fits
 
 pub slice_bounds-split-end-2 : goal.slice_bounds-split-end-2
@@ -46,8 +43,7 @@ slice_bounds-split-end-2 t c =
     let start = c in
     let k = middle start.requires if1.false bound.ensures divide.ensures divide.auto.x divide.auto.y
     divide.auto.z in
-    let d = divide.last in
-    sym (length-take-le (length start.args.order.now / 2) d.1.1.0 k.order_fits)
+    sym (length-take-le (length start.args.order.now / 2) divide.new.order k.order_fits)
 
 pub slice_bounds-split-end-3 : goal.slice_bounds-split-end-3
 slice_bounds-split-end-3 t c =
@@ -57,7 +53,6 @@ slice_bounds-split-end-3 t c =
     let start = c in
     let k = middle start.requires if1.false bound.ensures divide.ensures divide.auto.x divide.auto.y
     divide.auto.z in
-    let d = divide.last in
     k.x_fits
 
 pub slice_bounds-split-end-4 : goal.slice_bounds-split-end-4
@@ -68,8 +63,7 @@ slice_bounds-split-end-4 t c =
     let start = c in
     let k = middle start.requires if1.false bound.ensures divide.ensures divide.auto.x divide.auto.y
     divide.auto.z in
-    let d = divide.last in
-    sym (length-take-le (length start.args.order.now / 2) d.1.1.1.0 k.x_fits)
+    sym (length-take-le (length start.args.order.now / 2) divide.new.x k.x_fits)
 
 pub slice_bounds-split-end-5 : goal.slice_bounds-split-end-5
 slice_bounds-split-end-5 t c =
@@ -79,7 +73,6 @@ slice_bounds-split-end-5 t c =
     let start = c in
     let k = middle start.requires if1.false bound.ensures divide.ensures divide.auto.x divide.auto.y
     divide.auto.z in
-    let d = divide.last in
     k.y_fits
 
 pub slice_bounds-split-end-6 : goal.slice_bounds-split-end-6
@@ -90,8 +83,7 @@ slice_bounds-split-end-6 t c =
     let start = c in
     let k = middle start.requires if1.false bound.ensures divide.ensures divide.auto.x divide.auto.y
     divide.auto.z in
-    let d = divide.last in
-    sym (length-take-le (length start.args.order.now / 2) d.1.1.1.1.0 k.y_fits)
+    sym (length-take-le (length start.args.order.now / 2) divide.new.y k.y_fits)
 
 pub slice_bounds-split-end-7 : goal.slice_bounds-split-end-7
 slice_bounds-split-end-7 t c =
@@ -101,7 +93,6 @@ slice_bounds-split-end-7 t c =
     let start = c in
     let k = middle start.requires if1.false bound.ensures divide.ensures divide.auto.x divide.auto.y
     divide.auto.z in
-    let d = divide.last in
     k.z_fits
 
 pub slice_bounds-split-end-8 : goal.slice_bounds-split-end-8
@@ -112,8 +103,7 @@ slice_bounds-split-end-8 t c =
     let start = c in
     let k = middle start.requires if1.false bound.ensures divide.ensures divide.auto.x divide.auto.y
     divide.auto.z in
-    let d = divide.last in
-    sym (length-take-le (length start.args.order.now / 2) d.1.1.1.1.1.0 k.z_fits)
+    sym (length-take-le (length start.args.order.now / 2) divide.new.z k.z_fits)
 
 pub overflow_add-at : goal.overflow_add-at
 overflow_add-at t c =
@@ -128,7 +118,6 @@ split-next-requires t c =
     let start = c in
     let k = middle start.requires if1.false bound.ensures divide.ensures divide.auto.x divide.auto.y
     divide.auto.z in
-    let d = divide.last in
     (omega (arith, start.decreases, first_size k, k.many), first_ready k divide.auto.work bound.auto.boxes)
 
 pub offset_bounds-order-half : goal.offset_bounds-order-half
@@ -146,9 +135,8 @@ slice_bounds-split-count t c =
     let start = c in
     let k = middle start.requires if1.false bound.ensures divide.ensures divide.auto.x divide.auto.y
     divide.auto.z in
-    let d = divide.last in
     let s = split in
-    behind_room d.1.1.0 s.new.order (length start.args.order.now / 2) k.order_fits s.auto.order
+    behind_room divide.new.order s.new.order (length start.args.order.now / 2) k.order_fits s.auto.order
 
 pub offset_bounds-x-half : goal.offset_bounds-x-half
 offset_bounds-x-half t c =
@@ -165,9 +153,8 @@ slice_bounds-split-count-2 t c =
     let start = c in
     let k = middle start.requires if1.false bound.ensures divide.ensures divide.auto.x divide.auto.y
     divide.auto.z in
-    let d = divide.last in
     let s = split in
-    behind_room d.1.1.1.0 s.new.x (length start.args.order.now / 2) k.x_fits s.auto.x
+    behind_room divide.new.x s.new.x (length start.args.order.now / 2) k.x_fits s.auto.x
 
 pub slice_bounds-split-start-2 : goal.slice_bounds-split-start-2
 slice_bounds-split-start-2 t c =
@@ -178,9 +165,8 @@ slice_bounds-split-start-2 t c =
     let start = c in
     let k = middle start.requires if1.false bound.ensures divide.ensures divide.auto.x divide.auto.y
     divide.auto.z in
-    let d = divide.last in
     let s = split in
-    behind_room d.1.1.1.0 s.new.x (length start.args.order.now / 2) k.x_fits s.auto.x
+    behind_room divide.new.x s.new.x (length start.args.order.now / 2) k.x_fits s.auto.x
 
 pub offset_bounds-y-half : goal.offset_bounds-y-half
 offset_bounds-y-half t c =
@@ -197,9 +183,8 @@ slice_bounds-split-count-3 t c =
     let start = c in
     let k = middle start.requires if1.false bound.ensures divide.ensures divide.auto.x divide.auto.y
     divide.auto.z in
-    let d = divide.last in
     let s = split in
-    behind_room d.1.1.1.1.0 s.new.y (length start.args.order.now / 2) k.y_fits s.auto.y
+    behind_room divide.new.y s.new.y (length start.args.order.now / 2) k.y_fits s.auto.y
 
 pub slice_bounds-split-start-3 : goal.slice_bounds-split-start-3
 slice_bounds-split-start-3 t c =
@@ -210,9 +195,8 @@ slice_bounds-split-start-3 t c =
     let start = c in
     let k = middle start.requires if1.false bound.ensures divide.ensures divide.auto.x divide.auto.y
     divide.auto.z in
-    let d = divide.last in
     let s = split in
-    behind_room d.1.1.1.1.0 s.new.y (length start.args.order.now / 2) k.y_fits s.auto.y
+    behind_room divide.new.y s.new.y (length start.args.order.now / 2) k.y_fits s.auto.y
 
 pub offset_bounds-z-half : goal.offset_bounds-z-half
 offset_bounds-z-half t c =
@@ -229,9 +213,8 @@ slice_bounds-split-count-4 t c =
     let start = c in
     let k = middle start.requires if1.false bound.ensures divide.ensures divide.auto.x divide.auto.y
     divide.auto.z in
-    let d = divide.last in
     let s = split in
-    behind_room d.1.1.1.1.1.0 s.new.z (length start.args.order.now / 2) k.z_fits s.auto.z
+    behind_room divide.new.z s.new.z (length start.args.order.now / 2) k.z_fits s.auto.z
 
 pub slice_bounds-split-start-4 : goal.slice_bounds-split-start-4
 slice_bounds-split-start-4 t c =
@@ -242,9 +225,8 @@ slice_bounds-split-start-4 t c =
     let start = c in
     let k = middle start.requires if1.false bound.ensures divide.ensures divide.auto.x divide.auto.y
     divide.auto.z in
-    let d = divide.last in
     let s = split in
-    behind_room d.1.1.1.1.1.0 s.new.z (length start.args.order.now / 2) k.z_fits s.auto.z
+    behind_room divide.new.z s.new.z (length start.args.order.now / 2) k.z_fits s.auto.z
 
 pub split-requires : goal.split-requires
 split-requires t c =
@@ -255,19 +237,16 @@ split-requires t c =
     let start = c in
     let k = middle start.requires if1.false bound.ensures divide.ensures divide.auto.x divide.auto.y
     divide.auto.z in
-    let d = divide.last in
-    let s = split in
-    let a = s.last in
-    let l = s.kept in (
+    let s = split in (
       omega (
         arith,
         start.decreases,
-        second_size k a.1.0 a.1.1.0 a.1.1.1.0 a.1.1.1.1.0 l.1.0 l.1.1.0 l.1.1.1.0
-            l.1.1.1.1.0,
+        second_size k s.new.order s.new.x s.new.y s.new.z s.auto.order s.auto.x s.auto.y
+            s.auto.z,
         k.many,
       ),
-      second_ready k a.1.0 a.1.1.0 a.1.1.1.0 a.1.1.1.1.0 l.1.0 l.1.1.0 l.1.1.1.0
-          l.1.1.1.1.0 (l.1.1.1.1.1.0 ∙ divide.auto.work) (l.1.1.1.1.1.1.0 ∙ bound.auto.boxes) s.ensures.ends,
+      second_ready k s.new.order s.new.x s.new.y s.new.z s.auto.order s.auto.x s.auto.y
+          s.auto.z (s.auto.work ∙ divide.auto.work) (s.auto.boxes ∙ bound.auto.boxes) s.ensures.ends,
     )
 
 pub shape_of-order : goal.shape_of-order
@@ -280,10 +259,9 @@ shape_of-order t c =
     let start = c in
     let k = middle start.requires if1.false bound.ensures divide.ensures divide.auto.x divide.auto.y
     divide.auto.z in
-    let d = divide.last in
     let s = split in
     let r = split2 in
-    size_2 d.1.1.0 s.new.order (length start.args.order.now / 2) k.order_fits s.auto.order r.new.order
+    size_2 divide.new.order s.new.order (length start.args.order.now / 2) k.order_fits s.auto.order r.new.order
     r.auto.order ∙ divide.auto.order
 
 pub shape_of-x : goal.shape_of-x
@@ -296,10 +274,9 @@ shape_of-x t c =
     let start = c in
     let k = middle start.requires if1.false bound.ensures divide.ensures divide.auto.x divide.auto.y
     divide.auto.z in
-    let d = divide.last in
     let s = split in
     let r = split2 in
-    size_2 d.1.1.1.0 s.new.x (length start.args.order.now / 2) k.x_fits s.auto.x r.new.x
+    size_2 divide.new.x s.new.x (length start.args.order.now / 2) k.x_fits s.auto.x r.new.x
     r.auto.x ∙ divide.auto.x
 
 pub shape_of-y : goal.shape_of-y
@@ -312,10 +289,9 @@ shape_of-y t c =
     let start = c in
     let k = middle start.requires if1.false bound.ensures divide.ensures divide.auto.x divide.auto.y
     divide.auto.z in
-    let d = divide.last in
     let s = split in
     let r = split2 in
-    size_2 d.1.1.1.1.0 s.new.y (length start.args.order.now / 2) k.y_fits s.auto.y r.new.y
+    size_2 divide.new.y s.new.y (length start.args.order.now / 2) k.y_fits s.auto.y r.new.y
     r.auto.y ∙ divide.auto.y
 
 pub shape_of-z : goal.shape_of-z
@@ -328,10 +304,9 @@ shape_of-z t c =
     let start = c in
     let k = middle start.requires if1.false bound.ensures divide.ensures divide.auto.x divide.auto.y
     divide.auto.z in
-    let d = divide.last in
     let s = split in
     let r = split2 in
-    size_2 d.1.1.1.1.1.0 s.new.z (length start.args.order.now / 2) k.z_fits s.auto.z r.new.z
+    size_2 divide.new.z s.new.z (length start.args.order.now / 2) k.z_fits s.auto.z r.new.z
     r.auto.z ∙ divide.auto.z
 
 pub shape_of-work : goal.shape_of-work
@@ -358,10 +333,7 @@ returns t c =
     let start = c in
     let k = middle start.requires if1.false bound.ensures divide.ensures divide.auto.x divide.auto.y
     divide.auto.z in
-    let d = divide.last in
     let s = split in
     let r = split2 in
-    let a = s.last in
-    let l = s.kept in
-    part_end k a.1.0 a.1.1.0 a.1.1.1.0 a.1.1.1.1.0 l.1.0 l.1.1.0 l.1.1.1.0 l.1.1.1.1.0 r.new.order
-    a.1.1.1.1.1.1.0 r.new.boxes s.result r.result s.ensures r.ensures
+    part_end k s.new.order s.new.x s.new.y s.new.z s.auto.order s.auto.x s.auto.y s.auto.z r.new.order
+    s.new.boxes r.new.boxes s.result r.result s.ensures r.ensures

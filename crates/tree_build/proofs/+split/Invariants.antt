@@ -3,16 +3,7 @@
 -- are citations of the claim at a smaller length (`first_ready`, `second_ready`), and `part_end` puts their results
 -- together. Most of the rest says that the lent halves lie inside their slices (`half_bytes`, `behind_room`). Assumes
 -- nothing.
-use mathlib.Core.Path.{sym, ◌∙◌}
-use Prim.Native.Nat.{◌/◌}
 use lib.ListN.{length}
-use lib.Seq.{length-take-le}
-use Rattle.axis_sort.proofs.Parts.{size_2}
-use Rattle.tree_build.proofs.Splitting.{bound_room, leaf_end, dividing, middle, first_size, first_ready, second_size, second_ready, behind_room}
-use Rattle.tree_build.proofs.Splitting.{part_end, half_bytes, next_fits}
-use native.Mathlib.Omega.{arith}
-use borrow.Author.Rules.{rules}
-use Prim.Native.Nat.{ℕ, ◌<◌}
 use Rattle.tree_build.proofs.+split.Given as goal
 
 abbrev pub decreases-split : goal.decreases-split
