@@ -3,6 +3,8 @@
 // A slot that was not written keeps 41100000, the bits of 9.
 #![tactic(auto)]
 
+use std::io;
+
 fn bits_of(x: f32) -> u32 {
     if x != x {
         return 0x7fc0_0000;
@@ -10,126 +12,134 @@ fn bits_of(x: f32) -> u32 {
     f32::to_bits(x)
 }
 
-fn write_bits(x: f32) {
-    io::write_all(1, b" ");
-    io::print_hex(1, bits_of(x) as u64, 8);
+fn write_bits(rt: &HostRuntime, x: f32) -> io::Result<()> {
+    print!(rt; " {:08x}", bits_of(x))
 }
 
-fn write_slice(s: &[f32]) {
+fn write_slice(rt: &HostRuntime, s: &[f32]) -> io::Result<()> {
     let mut i: usize = 0;
     while i < s.len() {
-        write_bits(s[i]);
+        write_bits(rt, s[i])?;
         i += 1;
     }
+    Ok(())
 }
 
-fn write_number(n: u64) {
-    io::print_decimal(1, n);
-    io::write_all(1, b",");
+fn write_number(rt: &HostRuntime, n: u64) -> io::Result<()> {
+    print!(rt; "{},", n)
 }
 
-fn show(input: &[u8]) {
+fn show(rt: &HostRuntime, input: &[u8]) -> io::Result<()> {
     let mut points = [9.0f32; 6];
     let mut normals = [9.0f32; 7];
     let r = cloud::read_cloud(input, &mut points, &mut normals);
-    write_number(r.answer as u64);
-    write_number(r.detail as u64);
-    write_number(r.count as u64);
-    write_bits(r.radius);
-    io::write_all(1, b" |");
-    write_slice(&points);
-    io::write_all(1, b" |");
-    write_slice(&normals);
-    io::write_all(1, b"\n");
+    write_number(rt, r.answer as u64)?;
+    write_number(rt, r.detail as u64)?;
+    write_number(rt, r.count as u64)?;
+    write_bits(rt, r.radius)?;
+    print!(rt; " |")?;
+    write_slice(rt, &points)?;
+    print!(rt; " |")?;
+    write_slice(rt, &normals)?;
+    println!(rt; "")
 }
 
-fn accepted() {
-    show(b"1\n");
-    show(b"1.57\n");
-    show(b"-0\n");
-    show(b"-00000.000000\n");
-    show(b"99999.999999\n");
-    show(b"0.000001\n0,0,0,0,0,1\n");
-    show(b"16777.217\n1.006329,2.012658,-8.003757,65536.011719,65536.011718,00001.5700\n");
-    show(b"1\n1,-2,3.5,0.25,-0.125,00007\n-99999,0.1,16777.2,33333,-0,1.000001\n");
+fn accepted(rt: &HostRuntime) -> io::Result<()> {
+    show(rt, b"1\n")?;
+    show(rt, b"1.57\n")?;
+    show(rt, b"-0\n")?;
+    show(rt, b"-00000.000000\n")?;
+    show(rt, b"99999.999999\n")?;
+    show(rt, b"0.000001\n0,0,0,0,0,1\n")?;
+    show(
+        rt,
+        b"16777.217\n1.006329,2.012658,-8.003757,65536.011719,65536.011718,00001.5700\n",
+    )?;
+    show(
+        rt,
+        b"1\n1,-2,3.5,0.25,-0.125,00007\n-99999,0.1,16777.2,33333,-0,1.000001\n",
+    )
 }
 
-fn no_room() {
-    show(b"1\n0,0,0,0,0,1\n1,0,0,0,0,1\n0,1,0,0,0,1\n");
-    show(b"1\n0,0,0,0,0,1\n1,0,0,0,0,1\n0,1,0,0,0,1\n0,1,0,0,0,1 \n");
+fn no_room(rt: &HostRuntime) -> io::Result<()> {
+    show(rt, b"1\n0,0,0,0,0,1\n1,0,0,0,0,1\n0,1,0,0,0,1\n")?;
+    show(
+        rt,
+        b"1\n0,0,0,0,0,1\n1,0,0,0,0,1\n0,1,0,0,0,1\n0,1,0,0,0,1 \n",
+    )
 }
 
-fn ends() {
-    show(b"");
-    show(b"\n");
-    show(b"1");
-    show(b"1\n\n");
-    show(b"1\n0,0,0,0,0,1");
-    show(b"1\n0,0,0,0,0,1\n0");
-    show(b"\n1\n");
+fn ends(rt: &HostRuntime) -> io::Result<()> {
+    show(rt, b"")?;
+    show(rt, b"\n")?;
+    show(rt, b"1")?;
+    show(rt, b"1\n\n")?;
+    show(rt, b"1\n0,0,0,0,0,1")?;
+    show(rt, b"1\n0,0,0,0,0,1\n0")?;
+    show(rt, b"\n1\n")
 }
 
-fn fields() {
-    show(b"1,2\n");
-    show(b"1\n0,0,0,0,0\n");
-    show(b"1\n0,0,0,0,0,\n");
-    show(b"1\n,0,0,0,0,0\n");
-    show(b"1\n0,,0,0,0,0\n");
-    show(b"1\n0,0,0,0,0,0,0\n");
-    show(b"1\n0,0,0,0,0,1\n1\n");
-    show(b"1\n0;0,0,0,0,0\n");
+fn fields(rt: &HostRuntime) -> io::Result<()> {
+    show(rt, b"1,2\n")?;
+    show(rt, b"1\n0,0,0,0,0\n")?;
+    show(rt, b"1\n0,0,0,0,0,\n")?;
+    show(rt, b"1\n,0,0,0,0,0\n")?;
+    show(rt, b"1\n0,,0,0,0,0\n")?;
+    show(rt, b"1\n0,0,0,0,0,0,0\n")?;
+    show(rt, b"1\n0,0,0,0,0,1\n1\n")?;
+    show(rt, b"1\n0;0,0,0,0,0\n")
 }
 
-fn numbers() {
-    show(b"+1\n");
-    show(b"1e3\n");
-    show(b"1\n0,0,0,0,0,1\n0,0,0,1E1,0,0\n");
-    show(b"1.\n");
-    show(b".5\n");
-    show(b"123456\n");
-    show(b"1.1234567\n");
-    show(b"-\n");
+fn numbers(rt: &HostRuntime) -> io::Result<()> {
+    show(rt, b"+1\n")?;
+    show(rt, b"1e3\n")?;
+    show(rt, b"1\n0,0,0,0,0,1\n0,0,0,1E1,0,0\n")?;
+    show(rt, b"1.\n")?;
+    show(rt, b".5\n")?;
+    show(rt, b"123456\n")?;
+    show(rt, b"1.1234567\n")?;
+    show(rt, b"-\n")
 }
 
-fn more_numbers() {
-    show(b"--1\n");
-    show(b"1-\n");
-    show(b"1.2.3\n");
-    show(b"-.5\n");
-    show(b"1\n0,0,-,0,0,1\n");
-    show(b"000001\n");
-    show(b"nan\n");
-    show(b"inf\n");
+fn more_numbers(rt: &HostRuntime) -> io::Result<()> {
+    show(rt, b"--1\n")?;
+    show(rt, b"1-\n")?;
+    show(rt, b"1.2.3\n")?;
+    show(rt, b"-.5\n")?;
+    show(rt, b"1\n0,0,-,0,0,1\n")?;
+    show(rt, b"000001\n")?;
+    show(rt, b"nan\n")?;
+    show(rt, b"inf\n")
 }
 
-fn bytes() {
-    show(b" 1\n");
-    show(b"1 \n");
-    show(b"1\r\n");
-    show(b"1\n0,0,0,0,0,1\r\n");
-    show(b"1\n0,\t0,0,0,0,1\n");
-    show(b"\"1\"\n");
-    show(b"1\n\"0\",0,0,0,0,1\n");
-    show(b"1\n0,0,0,0,0,1\n0,0,0,0,0,\xb2\n");
+fn bytes(rt: &HostRuntime) -> io::Result<()> {
+    show(rt, b" 1\n")?;
+    show(rt, b"1 \n")?;
+    show(rt, b"1\r\n")?;
+    show(rt, b"1\n0,0,0,0,0,1\r\n")?;
+    show(rt, b"1\n0,\t0,0,0,0,1\n")?;
+    show(rt, b"\"1\"\n")?;
+    show(rt, b"1\n\"0\",0,0,0,0,1\n")?;
+    show(rt, b"1\n0,0,0,0,0,1\n0,0,0,0,0,\xb2\n")
 }
 
-fn more_bytes() {
-    show(b"\xef\xbb\xbf1\n");
-    show(b"1\x00\n");
-    show(b"1\n0,0,0,0,0,1\x00\n");
-    show(b"\x00");
-    show(b"1\n0,0,0,0,0,\xff\n");
-    show(b"/\n");
-    show(b":\n");
+fn more_bytes(rt: &HostRuntime) -> io::Result<()> {
+    show(rt, b"\xef\xbb\xbf1\n")?;
+    show(rt, b"1\x00\n")?;
+    show(rt, b"1\n0,0,0,0,0,1\x00\n")?;
+    show(rt, b"\x00")?;
+    show(rt, b"1\n0,0,0,0,0,\xff\n")?;
+    show(rt, b"/\n")?;
+    show(rt, b":\n")
 }
 
-fn main() {
-    accepted();
-    no_room();
-    ends();
-    fields();
-    numbers();
-    more_numbers();
-    bytes();
-    more_bytes();
+fn main(rt: HostRuntime) -> io::Result<()> {
+    accepted(&rt)?;
+    no_room(&rt)?;
+    ends(&rt)?;
+    fields(&rt)?;
+    numbers(&rt)?;
+    more_numbers(&rt)?;
+    bytes(&rt)?;
+    more_bytes(&rt)
 }

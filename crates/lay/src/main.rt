@@ -7,26 +7,29 @@
 ghost use Rattle.std.specs.Prelude.{◌≡◌};
 ghost use Rattle.patch_text.specs.Text.{printed};
 
-// Writes what is printed of a file. The file is not looked at; the contract is about it.
-fn write_text(input: &[u8], text: &[u8])
+use std::io::Print;
+
+// Writes what is printed of a file. The file is not looked at; the contract is about it. A closed output is no error.
+fn write_text(rt: &HostRuntime, input: &[u8], text: &[u8])
     requires { text.now ≡ printed input.now }
 {
-    io::write_all(libc::STDOUT_FILENO, text);
+    let _ = rt.stdout().write_all(text);
 }
 
 // The buffer holds whatever is printed.
-fn print_patch(input: &[u8]) {
+fn print_patch(rt: &HostRuntime, input: &[u8]) {
     let mut out = [0u8; 220098];
     let n = patch_text::program_text(input, &mut out);
-    write_text(input, &out[..n]);
+    write_text(rt, input, &out[..n]);
 }
 
 // One byte more than a file may have, so that a longer one is noticed.
-fn main() {
+fn main(rt: HostRuntime) {
+    let mut stdin = rt.stdin();
     let mut input = [0u8; 65537];
-    let p = reading::read_all(&mut input);
+    let p = reading::read_all(&mut stdin, &mut input);
     if p.failed {
         return;
     }
-    print_patch(&input[..p.length]);
+    print_patch(&rt, &input[..p.length]);
 }

@@ -1,7 +1,10 @@
-// Reads standard input into a lent slice, as far as it goes. The programs `lay` and `stl` read their cloud files so.
+// Reads a reader into a lent slice, as far as it goes. The programs `lay` and `stl` read their cloud files so, from
+// standard input.
 #![tactic(auto)]
 
 ghost use Rattle.std.specs.Prelude.{◌≤◌, length};
+
+use std::io::Read;
 
 // How many bytes of the input are there, whether that is all that will be read, and whether a read failed.
 #[derive(Clone, Copy)]
@@ -29,25 +32,25 @@ fn append(input: &mut [u8], at: usize, bytes: &[u8]) -> usize
     next
 }
 
-fn read_some(input: &mut [u8], at: usize) -> Progress
+fn read_some<R: Read>(reader: &mut R, input: &mut [u8], at: usize) -> Progress
     requires { at ≤ length input.old }
     ensures { result.length ≤ length input.new }
 {
-    let mut chunk = io::large_buffer();
-    let got = libc::read(libc::STDIN_FILENO, &mut chunk);
-    if got < 0 {
-        return Progress {
+    let mut chunk = [0u8; 65536];
+    match reader.read(&mut chunk) {
+        Ok(n) => {
+            let length = append(input, at, &chunk[..n]);
+            Progress {
+                length,
+                done: n == 0 || input.len() <= length,
+                failed: false,
+            }
+        }
+        Err(_) => Progress {
             length: at,
             done: true,
             failed: true,
-        };
-    }
-    let n = io::count(got, &chunk);
-    let length = append(input, at, &chunk[..n]);
-    Progress {
-        length,
-        done: n == 0 || input.len() <= length,
-        failed: false,
+        },
     }
 }
 
@@ -55,7 +58,7 @@ fn read_some(input: &mut [u8], at: usize) -> Progress
 //
 // A proved loop has to end, and nothing says that the input does, so the turns are counted down from a number that no
 // run uses up.
-pub fn read_all(input: &mut [u8]) -> Progress
+pub fn read_all<R: Read>(reader: &mut R, input: &mut [u8]) -> Progress
     ensures { result.length ≤ length input.new }
 {
     let mut p = Progress {
@@ -65,7 +68,7 @@ pub fn read_all(input: &mut [u8]) -> Progress
     };
     let mut turns = u64::MAX;
     while turns > 0 {
-        p = read_some(input, p.length);
+        p = read_some(reader, input, p.length);
         if p.done {
             return p;
         }

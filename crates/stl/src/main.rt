@@ -9,21 +9,24 @@
 ghost use Rattle.std.specs.Prelude.{◌≡◌, true, false};
 ghost use Rattle.patch_stl.specs.Output.{output};
 
-// Writes the file that is made of an input. The input is not looked at; the contract is about it.
-fn write_file(input: &[u8], bytes: &[u8])
+use std::io::Print;
+
+// Writes the file that is made of an input. The input is not looked at; the contract is about it. A closed output is no
+// error.
+fn write_file(rt: &HostRuntime, input: &[u8], bytes: &[u8])
     requires { ((output input.now).refused ≡ false) × (bytes.now ≡ (output input.now).bytes) }
 {
-    io::write_all(libc::STDOUT_FILENO, bytes);
+    let _ = rt.stdout().write_all(bytes);
 }
 
-fn write_line(input: &[u8], bytes: &[u8])
+fn write_line(rt: &HostRuntime, input: &[u8], bytes: &[u8])
     requires { ((output input.now).refused ≡ true) × (bytes.now ≡ (output input.now).bytes) }
 {
-    io::write_all(libc::STDERR_FILENO, bytes);
+    let _ = rt.stderr().write_all(bytes);
 }
 
 // Room for 512 points and 5,000 faces, work for so many points, and a file of 5,000 facets.
-fn write_patch(input: &[u8]) {
+fn write_patch(rt: &HostRuntime, input: &[u8]) {
     let mut points = [0.0f32; 1536];
     let mut normals = [0.0f32; 1536];
     let mut faces = [0u32; 15000];
@@ -40,18 +43,19 @@ fn write_patch(input: &[u8]) {
         &mut out,
     );
     if r.refused {
-        write_line(input, &out[..r.length]);
+        write_line(rt, input, &out[..r.length]);
         return;
     }
-    write_file(input, &out[..r.length]);
+    write_file(rt, input, &out[..r.length]);
 }
 
 // One byte more than a file may have, so that a longer one is noticed.
-fn main() {
+fn main(rt: HostRuntime) {
+    let mut stdin = rt.stdin();
     let mut input = [0u8; 65537];
-    let p = reading::read_all(&mut input);
+    let p = reading::read_all(&mut stdin, &mut input);
     if p.failed {
         return;
     }
-    write_patch(&input[..p.length]);
+    write_patch(&rt, &input[..p.length]);
 }

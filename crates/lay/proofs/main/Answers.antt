@@ -2,10 +2,6 @@
 use native.Mathlib.Omega.{arith}
 use lib.ListN.{length-take}
 use borrow.Author.Rules.{rules}
-use Rattle.lay.proofs.main.Reads as reads
-use Rattle.lay.proofs.main.Lts as lts
-use Rattle.lay.proofs.print_patch.Reads as print-patch-reads
-use Rattle.reading.proofs.read_all.Reads as read-all-reads
 use Rattle.lay.proofs.main.Goals as goal
 
 pub slice_bounds-print_patch-end : goal.slice_bounds-print_patch-end

@@ -3,10 +3,6 @@ use native.Mathlib.Omega.{arith}
 use lib.ListN.{length-take}
 use Rattle.patch_text.proofs.Laid.{prints_within}
 use borrow.Author.Rules.{rules}
-use Rattle.lay.proofs.print_patch.Reads as reads
-use Rattle.lay.proofs.print_patch.Lts as lts
-use Rattle.lay.proofs.write_text.Reads as write-text-reads
-use Rattle.patch_text.proofs.program_text.Reads as program-text-reads
 use Rattle.lay.proofs.print_patch.Goals as goal
 
 pub slice_bounds-out-end : goal.slice_bounds-out-end

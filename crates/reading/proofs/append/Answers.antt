@@ -1,9 +1,6 @@
 -- Each byte is put once, and the input keeps its length. Assumes nothing.
-use Prim.Native.Nat.{◌≤◌, ◌-◌}
-use mathlib.Core.Path.{◌≡◌}
-use lib.ListN.{length, length-set}
+use lib.ListN.{length-set}
 use native.Mathlib.Omega.{arith}
-use borrow.Author.Rules.{rules}
 use Rattle.reading.proofs.append.Goals as goal
 
 pub loop-i-preserved : goal.loop-i-preserved

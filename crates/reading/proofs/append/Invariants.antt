@@ -1,9 +1,7 @@
 -- Each byte is put once, and the input keeps its length. Assumes nothing.
 use Prim.Native.Nat.{◌≤◌, ◌-◌}
 use mathlib.Core.Path.{◌≡◌}
-use lib.ListN.{length, length-set}
-use native.Mathlib.Omega.{arith}
-use borrow.Author.Rules.{rules}
+use lib.ListN.{length}
 use Rattle.reading.proofs.append.Given as goal
 
 abbrev pub invariant-loop-i : goal.invariant-loop-i

@@ -2,10 +2,6 @@
 use native.Mathlib.Omega.{arith}
 use lib.ListN.{length-take}
 use borrow.Author.Rules.{rules}
-use Rattle.stl.proofs.main.Reads as reads
-use Rattle.stl.proofs.main.Lts as lts
-use Rattle.reading.proofs.read_all.Reads as read-all-reads
-use Rattle.stl.proofs.write_patch.Reads as write-patch-reads
 use Rattle.stl.proofs.main.Goals as goal
 
 pub slice_bounds-write_patch-end : goal.slice_bounds-write_patch-end

@@ -5,11 +5,6 @@ use lib.ListN.{length-take}
 use Rattle.patch_stl.specs.Output.{output}
 use Rattle.patch_stl.proofs.Outputs.{outputs_within, outputs_front}
 use borrow.Author.Rules.{rules}
-use Rattle.stl.proofs.write_patch.Reads as reads
-use Rattle.stl.proofs.write_patch.Lts as lts
-use Rattle.patch_stl.proofs.lay_stl.Reads as lay-stl-reads
-use Rattle.stl.proofs.write_file.Reads as write-file-reads
-use Rattle.stl.proofs.write_line.Reads as write-line-reads
 use Rattle.stl.proofs.write_patch.Goals as goal
 
 pub slice_bounds-out-end : goal.slice_bounds-out-end
