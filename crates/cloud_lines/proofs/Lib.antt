@@ -3,4 +3,3 @@ pub mod Bare
 pub mod Means
 pub mod Shorter
 pub mod Placing
-pub mod Lending

@@ -37,8 +37,8 @@ pub enum PointRead {
 
 // A number and the byte that ends it.
 pub fn field_at(s: &[u8], at: usize, end: u8) -> NumberRead
-    ensures result_value { number_means s.now result ≡ field end (drop at s.now) }
-    ensures result_in_bounds { number_end result ≤ length s.now }
+    ensures means { number_means s.now result ≡ field end (drop at s.now) }
+    ensures in_bounds { number_end result ≤ length s.now }
 {
     match number_at(s, at) {
         NumberRead::Number { value, next } => {
@@ -64,8 +64,8 @@ pub fn radius_at(s: &[u8], at: usize) -> NumberRead
 
 // Three numbers, of which the last is ended by the byte last.
 pub fn triple_at(s: &[u8], at: usize, last: u8) -> TripleRead
-    ensures result_value { triple_means s.now result ≡ triple last (drop at s.now) }
-    ensures result_in_bounds { triple_end result ≤ length s.now }
+    ensures means { triple_means s.now result ≡ triple last (drop at s.now) }
+    ensures in_bounds { triple_end result ≤ length s.now }
 {
     let NumberRead::Number {
         value: x,
@@ -92,8 +92,8 @@ pub fn triple_at(s: &[u8], at: usize, last: u8) -> TripleRead
 
 // A point's line.
 pub fn point_at(s: &[u8], at: usize) -> PointRead
-    ensures result_value { point_means s.now result ≡ point_fields (drop at s.now) }
-    ensures result_in_bounds { point_end result ≤ length s.now }
+    ensures means { point_means s.now result ≡ point_fields (drop at s.now) }
+    ensures in_bounds { point_end result ≤ length s.now }
 {
     let TripleRead::Numbers {
         triple: position,

@@ -1,21 +1,17 @@
 -- `cloud_lines::reader::put_line` meets its contract. Assumes nothing.
 use mathlib.Core.Path.{◌∙◌}
-use borrow.Author.Rules.{rules}
 use Rattle.cloud_lines.specs.Inner.Storing.{position_of, normal_of}
 use Rattle.cloud_lines.proofs.Placing.{placed_point, placed_malformed}
-use Rattle.cloud_lines.proofs.reader.put_line.Reads as reads
-use Rattle.cloud_lines.proofs.reader.put_line.Lts as lts
-use Rattle.cloud_lines.proofs.reader.put_triple.Reads as put-triple-reads
 use Rattle.cloud_lines.proofs.reader.put_line.Goals as goal
 
 pub returns-in-Point : goal.returns-in-Point
 returns-in-Point c =
-    let point = c.read.given.1 in (
+    let point = c.in-Point.is in (
       c.put_triple.ensures ∙ placed_point position_of _ _ _ _ point,
       c.put_triple-in-Point.ensures ∙ placed_point normal_of _ _ _ _ point,
     )
 
 pub returns-in-Malformed : goal.returns-in-Malformed
 returns-in-Malformed c =
-    let malformed = c.enum_told.given.1 in
+    let malformed = c.in-Malformed.is in
     (placed_malformed position_of _ _ _ malformed, placed_malformed normal_of _ _ _ malformed)

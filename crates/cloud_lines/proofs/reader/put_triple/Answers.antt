@@ -1,10 +1,7 @@
 -- `cloud_lines::reader::put_triple` meets its contract. Assumes nothing.
 use native.Mathlib.Omega.{arith}
-use borrow.Author.Rules.{rules}
 use lib.ListN.{length-set}
 use Rattle.cloud_lines.proofs.Placing.{placed_short, placed_fits}
-use Rattle.cloud_lines.proofs.reader.put_triple.Reads as reads
-use Rattle.cloud_lines.proofs.reader.put_triple.Lts as lts
 use Rattle.cloud_lines.proofs.reader.put_triple.Goals as goal
 
 pub returns-then-d-k : goal.returns-then-d-k

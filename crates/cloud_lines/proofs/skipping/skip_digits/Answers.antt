@@ -1,7 +1,6 @@
 -- `cloud_lines::skipping::skip_digits` meets its contract. Assumes nothing.
 use mathlib.Core.Path.{sym, ◌∙◌}
 use native.Mathlib.Omega.{arith}
-use borrow.Author.Rules.{rules}
 use Rattle.numerals.proofs.Numeral.{found_count}
 use Rattle.cloud_lines.proofs.skipping.skip_digits.Goals as goal
 

@@ -1,7 +1,6 @@
 -- `cloud_lines::skipping::skip_field` meets its contract: each way out is a case of `field`. Assumes nothing.
 use mathlib.Core.Path.{sym, ◌∙◌}
 use native.Mathlib.Omega.{arith}
-use borrow.Author.Rules.{rules}
 use lib.ListN.{drop}
 use Rattle.numerals.specs.Format.{number}
 use Rattle.cloud_lines.specs.Format.{field}

@@ -1,7 +1,6 @@
 -- `cloud_lines::skipping::skip_fraction` meets its contract. Assumes nothing.
 use mathlib.Core.Path.{sym, ◌∙◌}
 use native.Mathlib.Omega.{arith}
-use borrow.Author.Rules.{rules}
 use Rattle.numerals.proofs.Bytes.{starts_inside}
 use Rattle.cloud_lines.proofs.Bare.{fraction_skipped, fraction_absent}
 use Rattle.cloud_lines.proofs.skipping.skip_fraction.Goals as goal

@@ -1,6 +1,5 @@
 -- `cloud_lines::skipping::skip_magnitude` meets its contract. Assumes nothing.
 use native.Mathlib.Omega.{arith}
-use borrow.Author.Rules.{rules}
 use Rattle.cloud_lines.proofs.Bare.{magnitude_none, magnitude_some}
 use Rattle.cloud_lines.proofs.skipping.skip_magnitude.Goals as goal
 

@@ -1,5 +1,4 @@
 -- `cloud_lines::skipping::skip_number` meets its contract. Assumes nothing.
-use borrow.Author.Rules.{rules}
 use Rattle.cloud_lines.proofs.Bare.{number_skipped}
 use Rattle.cloud_lines.proofs.skipping.skip_number.Goals as goal
 

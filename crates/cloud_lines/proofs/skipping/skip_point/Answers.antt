@@ -1,6 +1,5 @@
 -- `cloud_lines::skipping::skip_point` meets its contract: each way out is a case of `point`. Assumes nothing.
 use mathlib.Core.Path.{◌∙◌}
-use borrow.Author.Rules.{rules}
 use lib.ListN.{drop}
 use Rattle.cloud_lines.specs.Format.{triple, point_fields}
 use Rattle.cloud_lines.proofs.Bare.{then_none, then_some, bare_then}
