@@ -2,7 +2,6 @@
 use mathlib.Core.Path.{sym, subst}
 use lib.Dec.{T}
 use Rattle.box_filters.proofs.Low.{low_by}
-use borrow.Author.Rules.{rules}
 use Rattle.box_filters.proofs.are_low.Goals as goal
 
 pub returns-then-not-threshold : goal.returns-then-not-threshold

@@ -1,6 +1,5 @@
 -- `areas_of` meets its contract. Assumes nothing.
 use Rattle.box_filters.proofs.Triangles.{areas_held}
-use borrow.Author.Rules.{rules}
 use Rattle.box_filters.proofs.areas_of.Goals as goal
 
 pub returns : goal.returns

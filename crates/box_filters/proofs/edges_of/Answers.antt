@@ -1,5 +1,4 @@
 -- `edges_of` meets its contract. Assumes nothing.
-use borrow.Author.Rules.{rules}
 use Rattle.box_filters.proofs.edges_of.Goals as goal
 
 pub returns : goal.returns

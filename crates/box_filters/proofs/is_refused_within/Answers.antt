@@ -1,9 +1,7 @@
 -- `is_refused_within` meets its contract. Assumes nothing.
 use mathlib.Core.Path.{sym, subst}
 use lib.Dec.{T}
-use borrow.Author.Tests.{not-false}
 use Rattle.box_filters.proofs.Within.{far_within, unreached_within, within_by}
-use borrow.Author.Rules.{rules}
 use Rattle.box_filters.proofs.is_refused_within.Goals as goal
 
 pub returns-then-e-l : goal.returns-then-e-l

@@ -1,8 +1,6 @@
 -- `is_unreached` meets its contract. Assumes nothing.
 use mathlib.Core.Path.{sym, subst}
 use lib.Dec.{T}
-use borrow.Author.Tests.{not-false}
-use borrow.Author.Rules.{rules}
 use Rattle.box_filters.proofs.is_unreached.Goals as goal
 
 pub returns-then-not-is_out_of_reach : goal.returns-then-not-is_out_of_reach

@@ -1,6 +1,5 @@
 -- `least_angle` meets its contract. Assumes nothing.
 use Rattle.box_filters.proofs.Needles.{second_within, third_within}
-use borrow.Author.Rules.{rules}
 use Rattle.box_filters.proofs.least_angle.Goals as goal
 
 pub returns-then-e-2 : goal.returns-then-e-2

@@ -1,6 +1,5 @@
 -- `needle_angle` meets its contract. Assumes nothing.
 use Rattle.box_filters.proofs.Needles.{needles_within}
-use borrow.Author.Rules.{rules}
 use Rattle.box_filters.proofs.needle_angle.Goals as goal
 
 pub returns : goal.returns

@@ -1,6 +1,5 @@
 -- `refuses` meets its contract. Assumes nothing.
 use Rattle.box_filters.specs.Inner.RefusedWithin.{small_areas, large_areas, thin_edges, all_slivers, low_scores}
-use borrow.Author.Rules.{rules}
 use Rattle.box_filters.proofs.refuses.Goals as goal
 
 pub returns-then-area-l : goal.returns-then-area-l

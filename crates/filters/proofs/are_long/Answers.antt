@@ -1,8 +1,6 @@
 -- `are_long` meets its contract. Assumes nothing.
 use mathlib.Core.Path.{sym, subst}
 use lib.Dec.{T}
-use borrow.Author.Rules.{rules}
-use borrow.Author.Tests.{not-false}
 use Rattle.filters.proofs.are_long.Goals as goal
 
 pub returns-then-not-is_long : goal.returns-then-not-is_long

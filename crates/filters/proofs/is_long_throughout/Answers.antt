@@ -1,5 +1,4 @@
 -- `is_long_throughout` meets its contract. Assumes nothing.
-use borrow.Author.Rules.{rules}
 use Rattle.filters.proofs.Long.{long_each}
 use Rattle.filters.proofs.is_long_throughout.Goals as goal
 

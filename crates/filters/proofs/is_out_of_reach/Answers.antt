@@ -1,10 +1,8 @@
 -- `is_out_of_reach` meets its contract. Assumes nothing.
 use mathlib.Core.Path.{sym, subst}
 use lib.Dec.{T}
-use borrow.Author.Tests.{not-false}
 use Rattle.numbers.specs.Rounded.{f32}
 use Rattle.filters.proofs.Slivers.{low_is}
-use borrow.Author.Rules.{rules}
 use Rattle.filters.proofs.is_out_of_reach.Goals as goal
 
 pub returns-then-not-is_out_of_reach : goal.returns-then-not-is_out_of_reach

@@ -1,8 +1,6 @@
 -- `is_rare_sliver` meets its contract: what is asked first tells nothing. Assumes nothing.
 use mathlib.Core.Path.{sym, subst}
 use lib.Dec.{T}
-use borrow.Author.Tests.{not-false}
-use borrow.Author.Rules.{rules}
 use Rattle.filters.proofs.is_rare_sliver.Goals as goal
 
 pub returns-then-not-l : goal.returns-then-not-l

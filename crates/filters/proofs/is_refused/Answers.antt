@@ -1,5 +1,4 @@
 -- `is_refused` meets its contract. Assumes nothing.
-use borrow.Author.Rules.{rules}
 use Rattle.filters.specs.Inner.Refused.{small, large, far, thin}
 use Rattle.filters.proofs.is_refused.Goals as goal
 

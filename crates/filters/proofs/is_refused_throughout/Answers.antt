@@ -1,5 +1,4 @@
 -- `is_refused_throughout` meets its contract. Assumes nothing.
-use borrow.Author.Rules.{rules}
 use Rattle.filters.specs.Inner.Refused.{distant}
 use Rattle.filters.proofs.Throughout.{small_throughout, large_throughout, thin_throughout}
 use Rattle.filters.proofs.is_refused_throughout.Goals as goal

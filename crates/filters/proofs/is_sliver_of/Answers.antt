@@ -1,10 +1,8 @@
 -- `is_sliver_of` meets its contract. Assumes nothing.
 use mathlib.Core.Path.{sym, subst}
 use lib.Dec.{T}
-use borrow.Author.Tests.{not-false}
 use Rattle.numbers.specs.Rounded.{f32}
 use Rattle.filters.proofs.Slivers.{sliver_is}
-use borrow.Author.Rules.{rules}
 use Rattle.filters.proofs.is_sliver_of.Goals as goal
 
 pub returns-then-not-are_at_most : goal.returns-then-not-are_at_most

@@ -1,8 +1,6 @@
 -- `is_sliver_throughout` meets its contract. Assumes nothing.
 use mathlib.Core.Path.{sym, subst}
 use lib.Dec.{T}
-use borrow.Author.Tests.{not-false}
-use borrow.Author.Rules.{rules}
 use Rattle.filters.proofs.is_sliver_throughout.Goals as goal
 
 pub returns-then-l : goal.returns-then-l

@@ -1,5 +1,4 @@
 -- `limits_of` meets its contract. Assumes nothing.
-use borrow.Author.Rules.{rules}
 use Rattle.filters.proofs.limits_of.Goals as goal
 
 pub returns : goal.returns

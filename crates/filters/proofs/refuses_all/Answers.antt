@@ -1,10 +1,6 @@
 -- `refuses_all` meets its contract. Assumes nothing.
 use mathlib.Core.Path.{sym, subst}
 use lib.Dec.{T}
-use lib.Ieee.{lt}
-use borrow.Author.Rules.{rules}
-use borrow.Author.Tests.{not-false}
-use Rattle.numbers.specs.Rounded.{f32, ◌⊗◌, ◌⊘◌}
 use Rattle.numbers.proofs.Compare.{infinite}
 use Rattle.filters.proofs.refuses_all.Goals as goal
 

@@ -1,8 +1,6 @@
 -- `extent_on` meets its contract. The loop's invariant: the points so far lie between the least and the largest
 -- coordinate. Assumes nothing.
-use Prim.Native.Nat.{◌-◌}
-use borrow.Author.Rules.{rules}
-use Rattle.flatness.proofs.Extents.{Reaching, reach_start, reach_step, reach_end}
+use Rattle.flatness.proofs.Extents.{reach_start, reach_step, reach_end}
 use Rattle.flatness.proofs.extent_on.Goals as goal
 
 pub loop-i-init : goal.loop-i-init

@@ -1,8 +1,7 @@
 -- `extent_on` meets its contract. The loop's invariant: the points so far lie between the least and the largest
 -- coordinate. Assumes nothing.
 use Prim.Native.Nat.{◌-◌}
-use borrow.Author.Rules.{rules}
-use Rattle.flatness.proofs.Extents.{Reaching, reach_start, reach_step, reach_end}
+use Rattle.flatness.proofs.Extents.{Reaching}
 use Rattle.flatness.proofs.extent_on.Given as goal
 
 abbrev pub invariant-loop-i : goal.invariant-loop-i

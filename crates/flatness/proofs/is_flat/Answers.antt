@@ -1,7 +1,6 @@
 -- `is_flat` meets its contract. Assumes nothing.
 use mathlib.Core.Path.{sym, ◌∙◌}
 use native.Mathlib.Omega.{arith}
-use borrow.Author.Rules.{rules}
 use Rattle.flatness.proofs.Extents.{axis_numbers, box_flat}
 use Rattle.flatness.proofs.is_flat.Goals as goal
 

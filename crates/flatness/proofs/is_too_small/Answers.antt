@@ -1,6 +1,5 @@
 -- `is_too_small` meets its contract. Assumes nothing.
 use Rattle.flatness.specs.Inner.Flat.{too_small}
-use borrow.Author.Rules.{rules}
 use Rattle.flatness.proofs.is_too_small.Goals as goal
 
 pub returns-then-most-s : goal.returns-then-most-s

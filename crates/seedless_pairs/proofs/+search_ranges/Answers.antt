@@ -110,7 +110,7 @@ search_ranges-ac-requires t c =
     let k = h.from + (h.to - h.from) / 2 in
     let a = c.range_of-a.ensures in
     let b = c.range_of-c.ensures in
-    let long = are-halved.ensures (not-false _ if4.false) in
+    let long = are-halved.ensures if4.false in
     (omega (arith, start.decreases, a.from_is, a.to_is, b.from_is, b.to_is, g.first_in.rises, g.second_in.rises), ranged g a.in_range_lem b.in_range_lem)
 
 pub returns-then-ac-eq0 : goal.returns-then-ac-eq0
@@ -129,7 +129,7 @@ search_ranges-ad-requires t c =
     let k = h.from + (h.to - h.from) / 2 in
     let a = range-of.ensures in
     let b = c.range_of-d.ensures in
-    let long = are-halved.ensures (not-false _ if4.false) in
+    let long = are-halved.ensures if4.false in
     (omega (arith, start.decreases, a.from_is, a.to_is, b.from_is, b.to_is, g.first_in.rises, g.second_in.rises), ranged g a.in_range_lem b.in_range_lem)
 
 pub returns-then-ad-eq0 : goal.returns-then-ad-eq0
@@ -149,7 +149,7 @@ search_ranges-bc-requires t c =
     let k = h.from + (h.to - h.from) / 2 in
     let a = range-of2.ensures in
     let b = range-of3.ensures in
-    let long = are-halved.ensures (not-false _ if4.false) in
+    let long = are-halved.ensures if4.false in
     (omega (arith, start.decreases, a.from_is, a.to_is, b.from_is, b.to_is, g.first_in.rises, g.second_in.rises), ranged g a.in_range_lem b.in_range_lem)
 
 pub returns-then-bc-eq0 : goal.returns-then-bc-eq0
@@ -169,7 +169,7 @@ search_ranges-requires t c =
     let k = h.from + (h.to - h.from) / 2 in
     let a = range-of2.ensures in
     let b = range-of4.ensures in
-    let long = are-halved.ensures (not-false _ if4.false) in
+    let long = are-halved.ensures if4.false in
     (omega (arith, start.decreases, a.from_is, a.to_is, b.from_is, b.to_is, g.first_in.rises, g.second_in.rises), ranged g a.in_range_lem b.in_range_lem)
 
 pub returns : goal.returns

@@ -1,9 +1,7 @@
 -- `are_low` meets its contract. Assumes nothing.
 use mathlib.Core.Path.{sym, subst}
 use lib.Dec.{T}
-use borrow.Author.Tests.{not-false}
 use Rattle.three_points.proofs.Low.{low_all}
-use borrow.Author.Rules.{rules}
 use Rattle.three_points.proofs.are_low.Goals as goal
 
 pub returns-then-not-are_at_most : goal.returns-then-not-are_at_most

@@ -2,7 +2,6 @@
 use mathlib.Core.Path.{sym, ◌∙◌, subst}
 use lib.Dec.{T}
 use borrow.Author.Tests.{not-true}
-use borrow.Author.Rules.{rules}
 use Rattle.three_points.proofs.are_refused.Goals as goal
 
 pub returns-then-is_accepted : goal.returns-then-is_accepted

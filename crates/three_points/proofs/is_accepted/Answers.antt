@@ -3,7 +3,6 @@ use mathlib.Core.Path.{sym}
 use Rattle.quality.proofs.Shapes.{shape_own, quality_own}
 use Rattle.decisions.specs.Decisions.{accepts}
 use Rattle.decisions.proofs.Completed.{shape_low}
-use borrow.Author.Rules.{rules}
 use Rattle.three_points.proofs.is_accepted.Goals as goal
 
 pub returns-then-score_bound-s : goal.returns-then-score_bound-s

@@ -2,13 +2,11 @@
 -- each of the three points is tried as the first one. Assumes nothing.
 use mathlib.Core.Path.{refl}
 use native.Mathlib.Omega.{arith}
-use borrow.Author.Tests.{not-false}
 use Rattle.three_points.proofs.Points.{throughout_points, each_points}
 use Rattle.filters.specs.Inner.Refused.{sliver}
 use Rattle.filters.proofs.Slivers.{low_each}
 use Rattle.three_points.proofs.Refused.{refused_seedless}
 use Rattle.three_points.proofs.Measured.{measured_seedless, each_seedless}
-use borrow.Author.Rules.{rules}
 use Rattle.three_points.proofs.price_of.Goals as goal
 
 pub returns-then-is_out_of_reach : goal.returns-then-is_out_of_reach
@@ -103,5 +101,5 @@ returns c =
     measured_seedless p.result q.result t.result distance.ensures distance2.ensures distance3.ensures
     area_of.ensures area-of2.ensures c.area_of-3.ensures
     a.s a.points.now a.radius a.i a.j a.k p.ensures q.ensures t.ensures
-    (x.ensures (not-false x.result if6.false)) (y.ensures (c.if-not-are_refused-2.false))
+    (x.ensures if6.false) (y.ensures (c.if-not-are_refused-2.false))
     (z.ensures (c.if-not-are_refused-3.false))

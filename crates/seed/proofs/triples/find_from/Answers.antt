@@ -95,7 +95,7 @@ try_first-first-requires c =
     let l = loop in
     let e = ask-early in
     let q = seek_kept l.invariant.0 e.new.w e.ensures.1 e.auto.w in
-    let free = unused_back {s = a.p.scene} l.i l.invariant.0.kept (sym u.ensures ∙ not-false u.result if2.false) in (
+    let free = unused_back {s = a.p.scene} l.i l.invariant.0.kept (sym u.ensures ∙ if2.false) in (
       record { held = q.held; indexed = q.indexed; hashed = q.hashed; limiting = start.requires.3; inside = loop-test.true },
       before_kept {p = a.p} {w = a.w.now} (record { between = l.invariant.2; order = l.invariant.1; free = free }) q.kept,
     )
@@ -123,7 +123,7 @@ returns-in-Triangle c =
     let e = ask-early in
     let q = seek_kept l.invariant.0 e.new.w e.ensures.1 e.auto.w in
     let f = try-first in
-    let free = unused_kept {s = a.p.scene} l.i e.ensures.1 (sym u.ensures ∙ not-false u.result if2.false) in (
+    let free = unused_kept {s = a.p.scene} l.i e.ensures.1 (sym u.ensures ∙ if2.false) in (
       seek_hit q loop-test.true if1.false free f.ensures.0.same c.found.given.1,
       λ h. absurd (true_not_false h refl),
       kept_on q.kept f.ensures.1,
@@ -159,7 +159,7 @@ loop-i-preserved c =
     let q = seek_kept l.invariant.0 e.new.w e.ensures.1 e.auto.w in
     let f = try-first in
     let m = c.known_from-lo in
-    let free = unused_kept {s = a.p.scene} l.i e.ensures.1 (sym u.ensures ∙ not-false u.result if2.false) in (
+    let free = unused_kept {s = a.p.scene} l.i e.ensures.1 (sym u.ensures ∙ if2.false) in (
       seek_miss q f.new.w loop-test.true if1.false free f.ensures.0.same c.enum_told.given.1 f.ensures.1
           f.auto.w,
       m.ensures.inside,
