@@ -21,9 +21,9 @@ fn shorter_of(a: usize, b: usize) -> usize
 
 // The distance of each spot from the point that was found for it.
 fn measure(points: &[f32], spots: &[f32], found: &[u32], distances: &mut [f32])
-    requires nonzero { (0 < length points.now / 3) × (length spots.now / 3 ≤ length found.now)
+    requires room { (0 < length points.now / 3) × (length spots.now / 3 ≤ length found.now)
         × (length spots.now / 3 ≤ length distances.old) }
-    requires by_index { (i : ℕ) → i < length spots.now / 3
+    requires found_nearest { (i : ℕ) → i < length spots.now / 3
         → get_or found.now i 0 ≡ number_at points.now spots.now i }
     ensures { distances.new
         ≡ distances_in points.now spots.now distances.old }

@@ -1,5 +1,4 @@
 -- `cell_bounds::bounds_of` meets its contract. Assumes nothing.
-use borrow.Author.Rules.{rules}
 use Rattle.cell_bounds.proofs.Ends.{holding}
 use Rattle.cell_bounds.proofs.bounds_of.Goals as goal
 

@@ -1,7 +1,4 @@
 -- The two call each other on the smaller parent number. Assumes nothing.
-use native.Mathlib.Omega.{arith}
-use Rattle.looks.proofs.Laws.{out_seed, in_seed, out_child, in_child, known_out, known_in}
-use Prim.Native.Nat.{ℕ, ◌<◌}
 use Rattle.looks.proofs.+looks_in_looks_out.Given as goal
 
 abbrev pub decreases-looks_in : goal.decreases-looks_in

@@ -1,7 +1,6 @@
 use mathlib.Core.Path.{◌∙◌}
 use borrow.Author.Tests.{lt-ltb, le-ltb}
 use Rattle.looks.specs.Inner.Looks.{parent_in}
-use borrow.Author.Rules.{rules}
 use Rattle.looks.proofs.parent_of.Goals as goal
 
 pub returns-then-face-origins : goal.returns-then-face-origins

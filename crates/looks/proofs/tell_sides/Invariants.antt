@@ -1,8 +1,5 @@
 use Prim.Native.Nat.{◌-◌, ◌≤◌}
-use borrow.Author.Rules.{rules}
-use native.Mathlib.Omega.{arith}
 use Rattle.looks.specs.Inner.Looks.{SidesWritten}
-use Rattle.looks.proofs.Laws.{told_start, told_step, told_end, side_is}
 use Rattle.looks.proofs.tell_sides.Given as goal
 
 abbrev pub invariant-loop-face : goal.invariant-loop-face

@@ -1,5 +1,4 @@
 -- The sides are told, and those that look in are turned. Assumes nothing.
-use borrow.Author.Rules.{rules}
 use Rattle.looks.proofs.turn.Goals as goal
 
 pub returns : goal.returns

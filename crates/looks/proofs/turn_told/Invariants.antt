@@ -1,12 +1,10 @@
 -- The loop's invariant: k faces are turned, whatever the origins that the sides are told of. Assumes nothing.
 use Prim.Native.Nat.{ℕ, ◌-◌, ◌≤◌}
-use mathlib.Core.Path.{◌≡◌, refl, ◌∙◌}
+use mathlib.Core.Path.{◌≡◌}
 use mathlib.Core.List.{List}
-use native.Mathlib.Omega.{arith}
 use lib.ListN.{length}
 use Rattle.looks.specs.Inner.Looks.{parent_in, HasSides}
-use Rattle.looks.proofs.Turns.{Turning, turning_start, told_in, told_out, turning_end}
-use borrow.Author.Rules.{rules}
+use Rattle.looks.proofs.Turns.{Turning}
 use Rattle.looks.proofs.turn_told.Given as goal
 
 abbrev pub invariant-loop-k : goal.invariant-loop-k

@@ -1,12 +1,6 @@
 -- `nearest_distances` meets its contract: the search's answer, and a distance a spot where it is 0. Assumes nothing.
 use mathlib.Core.Path.{sym}
-use borrow.Author.Rules.{rules}
 use Rattle.nearest_distances.proofs.Outcome.{in_found, part_length, unmeasured, some, room_found, room_distances, at_found, measured}
-use Rattle.nearest_distances.proofs.nearest_distances.Reads as reads
-use Rattle.nearest_distances.proofs.nearest_distances.Lts as lts
-use Rattle.nearest_distances.proofs.measure.Reads as measure-reads
-use Rattle.nearest_distances.proofs.shorter_of.Reads as shorter-of-reads
-use Rattle.nearest_points.proofs.nearest_points.Reads as nearest-points-reads
 use Rattle.nearest_distances.proofs.nearest_distances.Goals as goal
 
 pub slice_bounds-nearest_points-end : goal.slice_bounds-nearest_points-end
@@ -31,9 +25,9 @@ slice_bounds-nearest_points-end-2 c =
 
 pub measure-requires : goal.measure-requires
 measure-requires c = record {
-      nonzero = (some c.args.points.now c.args.spots.now c.args.index.now c.args.found.now c.args.distances.now c.args.words.now c.args.floats.now _ c.shorter_of-room.ensures c.nearest_points-searched.ensures c.if-searched-eq0.true, room_found c.args.points.now c.args.spots.now c.args.index.now c.args.found.now c.args.distances.now c.args.words.now c.args.floats.now _ c.shorter_of-room.ensures c.nearest_points-searched.ensures c.if-searched-eq0.true, room_distances c.args.points.now c.args.spots.now c.args.index.now c.args.found.now c.args.distances.now c.args.words.now c.args.floats.now _ c.shorter_of-room.ensures c.nearest_points-searched.ensures c.if-searched-eq0.true);
-      by_index = at_found c.args.points.now c.args.spots.now c.args.index.now c.args.found.now c.args.distances.now c.args.words.now c.args.floats.now _ c.shorter_of-room.ensures c.nearest_points-searched.ensures c.if-searched-eq0.true;
-    }
+  room = (some c.args.points.now c.args.spots.now c.args.index.now c.args.found.now c.args.distances.now c.args.words.now c.args.floats.now _ c.shorter_of-room.ensures c.nearest_points-searched.ensures c.if-searched-eq0.true, room_found c.args.points.now c.args.spots.now c.args.index.now c.args.found.now c.args.distances.now c.args.words.now c.args.floats.now _ c.shorter_of-room.ensures c.nearest_points-searched.ensures c.if-searched-eq0.true, room_distances c.args.points.now c.args.spots.now c.args.index.now c.args.found.now c.args.distances.now c.args.words.now c.args.floats.now _ c.shorter_of-room.ensures c.nearest_points-searched.ensures c.if-searched-eq0.true);
+  found_nearest = at_found c.args.points.now c.args.spots.now c.args.index.now c.args.found.now c.args.distances.now c.args.words.now c.args.floats.now _ c.shorter_of-room.ensures c.nearest_points-searched.ensures c.if-searched-eq0.true;
+}
 
 pub returns-then-searched-eq0 : goal.returns-then-searched-eq0
 returns-then-searched-eq0 c =

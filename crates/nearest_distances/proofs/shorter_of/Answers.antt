@@ -1,8 +1,6 @@
 -- `shorter_of` meets its contract. Assumes nothing.
 use borrow.Author.Tests.{lt-ltb, le-ltb}
 use Rattle.nearest_distances.specs.Measured.{shorter}
-use Rattle.nearest_distances.proofs.shorter_of.Reads as reads
-use Rattle.nearest_distances.proofs.shorter_of.Lts as lts
 use Rattle.nearest_distances.proofs.shorter_of.Goals as goal
 
 pub returns-then-a-b : goal.returns-then-a-b

@@ -13,19 +13,6 @@ use Rattle.ranges.specs.Range.{first_outside, farthest}
 use Rattle.nearest.specs.Scan.{nearest}
 use Rattle.nearest_points.proofs.Refused.{accepted, one_finite}
 use Rattle.nearest_points.proofs.Outcome.{detail_small, early_is, zero_answer, one_refused, one_foreign, one_found}
-use borrow.Author.Rules.{rules}
-use Rattle.nearest_points.proofs.nearest_point.Reads as reads
-use Rattle.nearest_points.proofs.nearest_point.Lts as lts
-use Rattle.clearing.proofs.clear_f32.Reads as clear-f32-reads
-use Rattle.clearing.proofs.clear_u32.Reads as clear-u32-reads
-use Rattle.index_search.proofs.nearest_in.Reads as nearest-in-reads
-use Rattle.index_search.proofs.width_of.Reads as width-of-reads
-use Rattle.nearest_points.proofs.nearest_of.Reads as nearest-of-reads
-use Rattle.nearest_points.proofs.refusal_of_search.Reads as refusal-of-search-reads
-use Rattle.nearest_points.proofs.spot_outside.Reads as spot-outside-reads
-use Rattle.point_index.proofs.matches.Reads as matches-reads
-use Rattle.numbers.proofs.sqrt.Reads as sqrt-reads
-use Rattle.vector.proofs.point.Reads as point-reads
 use Rattle.nearest_points.proofs.nearest_point.Goals as goal
 
 pub overflow_cast-refusal : goal.overflow_cast-refusal

@@ -8,17 +8,6 @@ use Rattle.numbers.specs.Rounded.{f32}
 use Rattle.ranges.proofs.Tests.{passed, failed}
 use Rattle.nearest_points.proofs.Refused.{accepted}
 use Rattle.nearest_points.proofs.Outcome.{early_is, zero_answer, late_short, late_foreign, late_none, many_refused, many_left, many_found}
-use borrow.Author.Rules.{rules}
-use Rattle.nearest_points.proofs.nearest_points.Reads as reads
-use Rattle.nearest_points.proofs.nearest_points.Lts as lts
-use Rattle.clearing.proofs.clear_f32.Reads as clear-f32-reads
-use Rattle.clearing.proofs.clear_u32.Reads as clear-u32-reads
-use Rattle.index_search.proofs.width_of.Reads as width-of-reads
-use Rattle.nearest_points.proofs.answer_of.Reads as answer-of-reads
-use Rattle.nearest_points.proofs.fill.Reads as fill-reads
-use Rattle.nearest_points.proofs.refusal_of_search.Reads as refusal-of-search-reads
-use Rattle.point_index.proofs.matches.Reads as matches-reads
-use Rattle.ranges.proofs.first_outside.Reads as first-outside-reads
 use Rattle.nearest_points.proofs.nearest_points.Goals as goal
 
 pub returns-then-refusal-ne0 : goal.returns-then-refusal-ne0
@@ -99,7 +88,7 @@ fill-requires c =
         record { cloud = k.cloud; own = passed matches.ensures c.if-not-own.false },
         c.width_of-width.ensures.0,
         c.width_of-width.ensures.1,
-        );
+      );
       values_within = (k.near, c.if-found-spots.false);
     }
 

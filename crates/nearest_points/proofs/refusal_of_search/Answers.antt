@@ -7,11 +7,6 @@ use Rattle.ranges.specs.Range.{first_outside, farthest}
 use Rattle.domain.specs.Refusals.{refusal}
 use Rattle.nearest_points.proofs.Refused.{told, none, not_threes, spots_not_threes, many, point_out, spot_out, few_words, few_floats, short_index}
 use Rattle.nearest_points.proofs.Refused.{all_passed}
-use borrow.Author.Rules.{rules}
-use Rattle.nearest_points.proofs.refusal_of_search.Reads as reads
-use Rattle.nearest_points.proofs.refusal_of_search.Lts as lts
-use Rattle.nearest_points.proofs.answer_of.Reads as answer-of-reads
-use Rattle.ranges.proofs.first_outside.Reads as first-outside-reads
 use Rattle.nearest_points.proofs.refusal_of_search.Goals as goal
 
 pub returns-then-size-eq0 : goal.returns-then-size-eq0

@@ -1,9 +1,6 @@
 -- The loop's invariant: so many of the marks up to i are at most k. Assumes nothing.
-use Prim.Native.Nat.{◌-◌, ◌≤◌}
-use mathlib.Core.Path.{◌≡◌, refl}
+use mathlib.Core.Path.{refl}
 use native.Mathlib.Omega.{arith}
-use lib.ListN.{take}
-use Rattle.origins.specs.Pass.{place_of}
 use Rattle.tracing.proofs.Laws.{place_none, place_passed, place_not_yet, place_end}
 use borrow.Author.Rules.{rules}
 use Rattle.tracing.proofs.place_of.Goals as goal

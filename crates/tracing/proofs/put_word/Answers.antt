@@ -1,7 +1,6 @@
 -- A word goes to its place, if there is one. Assumes nothing.
 use mathlib.Core.Path.{sym}
 use lib.Seq.{set_out}
-use borrow.Author.Rules.{rules}
 use Rattle.tracing.proofs.put_word.Goals as goal
 
 pub returns-else-at-words : goal.returns-else-at-words

@@ -1,7 +1,6 @@
 -- A seed brings in all its points and is its own parent; any other face brings in its third. Assumes nothing.
 use native.Mathlib.Omega.{arith}
 use Rattle.tracing.proofs.Laws.{trace_seed, trace_other}
-use borrow.Author.Rules.{rules}
 use Rattle.tracing.proofs.trace_face.Goals as goal
 
 pub returns-then-first-eq0 : goal.returns-then-first-eq0

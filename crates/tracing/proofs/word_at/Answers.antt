@@ -1,7 +1,6 @@
 -- A word is read, or 0. Assumes nothing.
 use mathlib.Core.Path.{sym}
 use lib.ListN.{get_or-eq_default}
-use borrow.Author.Rules.{rules}
 use Rattle.tracing.proofs.word_at.Goals as goal
 
 pub returns : goal.returns

@@ -1,10 +1,8 @@
 -- The loop's invariant: k faces are traced, and what is left leads to the whole. Assumes nothing.
 use Prim.Native.Nat.{◌-◌, ◌≤◌}
-use mathlib.Core.Path.{◌≡◌, refl, ◌∙◌}
-use native.Mathlib.Omega.{arith}
-use lib.ListN.{length, take, length-set}
-use Rattle.tracing.proofs.Laws.{Tracing, tracing_start, tracing_step, tracing_end}
-use borrow.Author.Rules.{rules}
+use mathlib.Core.Path.{◌≡◌}
+use lib.ListN.{length, take}
+use Rattle.tracing.proofs.Laws.{Tracing}
 use Rattle.tracing.proofs.write_origins.Given as goal
 
 abbrev pub invariant-loop-k : goal.invariant-loop-k

@@ -1,11 +1,9 @@
 -- The loop's invariant: the first k faces name themselves. Assumes nothing.
-use Prim.Native.Nat.{◌-◌, ◌*◌, ◌≤◌}
-use mathlib.Core.Path.{◌≡◌, refl}
+use Prim.Native.Nat.{◌*◌}
+use mathlib.Core.Path.{refl}
 use native.Mathlib.Omega.{arith}
 use native.Mathlib.Numerals.{add-one}
-use lib.ListN.{length, length-set}
-use lib.Seq.{sets}
-use Rattle.words.specs.Chunks.{chunks}
+use lib.ListN.{length-set}
 use Rattle.words.proofs.Chunks.{lay_none, lay_more, lay_all_lem}
 use Rattle.tracing.specs.Plain.{plain_origin, plain_origins}
 use borrow.Author.Rules.{rules}

@@ -1,14 +1,10 @@
 -- The loop's invariant: the first k faces name themselves. Assumes nothing.
-use Prim.Native.Nat.{◌-◌, ◌*◌, ◌≤◌}
-use mathlib.Core.Path.{◌≡◌, refl}
-use native.Mathlib.Omega.{arith}
-use native.Mathlib.Numerals.{add-one}
-use lib.ListN.{length, length-set}
+use Prim.Native.Nat.{◌-◌, ◌≤◌}
+use mathlib.Core.Path.{◌≡◌}
+use lib.ListN.{length}
 use lib.Seq.{sets}
 use Rattle.words.specs.Chunks.{chunks}
-use Rattle.words.proofs.Chunks.{lay_none, lay_more, lay_all_lem}
-use Rattle.tracing.specs.Plain.{plain_origin, plain_origins}
-use borrow.Author.Rules.{rules}
+use Rattle.tracing.specs.Plain.{plain_origin}
 use Rattle.tracing.proofs.write_plain_origins.Given as goal
 
 abbrev pub invariant-loop-k : goal.invariant-loop-k

@@ -1,6 +1,5 @@
 -- `cell_bounds::axis::farthest` meets its contract. Assumes nothing.
 use mathlib.Core.Path.{sym, ◌∙◌}
-use borrow.Author.Rules.{rules}
 use Rattle.cell_bounds.proofs.Reach.{reaching_none, reaching_tested}
 use Rattle.cell_bounds.proofs.axis.farthest.Goals as goal
 

@@ -2,7 +2,6 @@
 use mathlib.Core.Path.{◌≡◌, sym, ◌∙◌}
 use mathlib.Core.Bool.{true, false}
 use Rattle.cell_bounds.specs.Inner.Axis.{ordinary, holds_place}
-use borrow.Author.Rules.{rules}
 use Rattle.cell_bounds.proofs.axis.holds_place.Goals as goal
 
 pub returns-then-lo-v : goal.returns-then-lo-v

@@ -1,5 +1,4 @@
 -- `cell_bounds::axis::interval` meets its contract. Assumes nothing.
-use borrow.Author.Rules.{rules}
 use Rattle.cell_bounds.proofs.Ends.{holding_on}
 use Rattle.cell_bounds.proofs.axis.interval.Goals as goal
 

@@ -2,7 +2,6 @@
 use mathlib.Core.Path.{◌≡◌, sym, ◌∙◌}
 use mathlib.Core.Bool.{true, false}
 use Rattle.cell_bounds.specs.Inner.Axis.{ordinary, usable}
-use borrow.Author.Rules.{rules}
 use Rattle.cell_bounds.proofs.axis.is_usable.Goals as goal
 
 pub returns-then-is_ordinary-2 : goal.returns-then-is_ordinary-2

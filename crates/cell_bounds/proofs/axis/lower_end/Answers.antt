@@ -1,6 +1,5 @@
 -- `cell_bounds::axis::lower_end` meets its contract. Assumes nothing.
 use mathlib.Core.Path.{sym, ◌∙◌}
-use borrow.Author.Rules.{rules}
 use Rattle.cell_bounds.proofs.Ends.{lower_tested, lower_none}
 use Rattle.cell_bounds.proofs.axis.lower_end.Goals as goal
 

@@ -1,6 +1,5 @@
 -- `cell_bounds::axis::upper_end` meets its contract. Assumes nothing.
 use mathlib.Core.Path.{sym, ◌∙◌}
-use borrow.Author.Rules.{rules}
 use Rattle.cell_bounds.proofs.Ends.{upper_tested, upper_none}
 use Rattle.cell_bounds.proofs.axis.upper_end.Goals as goal
 
