@@ -6,4 +6,4 @@ use Rattle.laying_words.proofs.clear_used.Reads as clear-used-reads
 use Rattle.laying_steps.proofs.begin.Goals as goal
 
 pub returns : goal.returns
-returns c = let p = c.clear_used in (begin_holds _ p.new.w p.ensures.0, p.ensures.1)
+returns c = let p = c.clear_used in record { begins = begin_holds _ p.new.w p.ensures.w_after; only_in = p.ensures.only_in }

@@ -11,8 +11,8 @@ returns c =
     let s = f in
     let pushed = p.add_triangle_edges_to_frontier in
     let marked = m.mark_seed in
-    let wrote = f.put_face in (
-      seed_takes s.args.n s.args.c s.args.w.now marked.new.w pushed.new.w s.args.faces.now wrote.new.faces s.args.i
-          s.args.j s.args.k wrote.ensures marked.ensures pushed.ensures,
-      face_only s.args.n _ _ _ s.args.w.now marked.new.w pushed.new.w marked.ensures pushed.ensures,
-    )
+    let wrote = f.put_face in record {
+      takes = seed_takes s.args.n s.args.c s.args.w.now marked.new.w pushed.new.w s.args.faces.now wrote.new.faces s.args.i
+          s.args.j s.args.k wrote.ensures marked.ensures pushed.ensures;
+      only_in = face_only s.args.n _ _ _ s.args.w.now marked.new.w pushed.new.w marked.ensures pushed.ensures;
+    }

@@ -38,6 +38,6 @@ returns c =
     let t = is-pivotable in (
       f.ensures.0
           ∙ pivot_is (floats_of a.args.s a.args.points.now) a.args.radius (used_in_scene a.args.s a.args.w.now) a.args.s.n
-          (edge a.args.a a.args.b) (sym t.ensures ∙ not-false t.result if1.false),
+          (edge a.args.a a.args.b) (sym t.ensures ∙ if1.false),
       f.ensures.1,
     )

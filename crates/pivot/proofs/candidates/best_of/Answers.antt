@@ -37,7 +37,7 @@ loop-m-preserved-in-Of c =
     let a = c in
     let p = a in (
       best_taken p.loop-m.invariant.0 p.listed_point-k.ensures.1 p.loop-m-test.true p.listed_point-k.ensures.0
-          a.score_ahead.ensures c.x.given.1,
+          a.score_ahead.ensures c.in-Of.is,
       c.thin_at-thin-in-Of.ensures,
     )
 
@@ -46,7 +46,7 @@ loop-m-preserved c =
     let p = c in
     let l = p.loop-m in (
       best_skip l.invariant.0 p.loop-m-test.true p.listed_point-k.ensures.0 c.score_ahead.ensures
-          c.enum_told.given.1,
+          c.in_default.is,
       l.invariant.1,
     )
 

@@ -31,7 +31,7 @@ returns-then-is_ahead c =
     found_ahead (earlier a.s.indexed (cell_at a.s.grid a.points.now)) a.top (point_of a.best) a.k
     (in_cells a.s.indexed a.s.grid a.points.now a.o.filter.range a.o.filter.cell a.k)
     (score_of (floats_of a.s a.points.now) a.o.radius (used_in_scene a.s a.w.now) (edge a.o.a a.o.b) a.k)
-    score-of.ensures c.x.given.1
+    score-of.ensures c.in-Of.is
     (c.is_ahead.ensures ∙ test_kept a.s a.points.now a.w.now a.o.filter a.k _ a.top a.best n.requires.1 n.requires.2
     n.requires.5) c.if-is_ahead.true
 
@@ -45,7 +45,7 @@ returns-else-is_ahead c =
     found_behind (earlier a.s.indexed (cell_at a.s.grid a.points.now)) a.top (point_of a.best) a.k
     (in_cells a.s.indexed a.s.grid a.points.now a.o.filter.range a.o.filter.cell a.k)
     (score_of (floats_of a.s a.points.now) a.o.radius (used_in_scene a.s a.w.now) (edge a.o.a a.o.b) a.k)
-    score-of.ensures c.x.given.1
+    score-of.ensures c.in-Of.is
     (c.is_ahead.ensures ∙ test_kept a.s a.points.now a.w.now a.o.filter a.k _ a.top a.best n.requires.1 n.requires.2
     n.requires.5) c.if-is_ahead.false
 
@@ -56,4 +56,4 @@ returns-in_default c =
     found_low (earlier a.s.indexed (cell_at a.s.grid a.points.now)) a.top (point_of a.best) a.k
     (in_cells a.s.indexed a.s.grid a.points.now a.o.filter.range a.o.filter.cell a.k)
     (score_of (floats_of a.s a.points.now) a.o.radius (used_in_scene a.s a.w.now) (edge a.o.a a.o.b) a.k)
-    c.score_of.ensures c.enum_told.given.1
+    c.score_of.ensures c.in_default.is
