@@ -18,4 +18,4 @@ returns-in-Malformed c =
     answer_refused _ 10 1 _ _ _
     (outcome_no_radius _ _ _
     (number_not c.args.bytes.now _ _ c.radius_at.ensures
-    c.enum_told.given.1)) c.refused.ensures
+    c.in-Malformed.is)) c.refused.ensures

@@ -16,14 +16,14 @@ use Rattle.cloud.proofs.read_points.Goals as goal
 -- the points of the lines that were counted
 counted_points : (c : In-Lines-2) → (ps : List Point)
     × ((body (drop c.args.from c.args.bytes.now)
-    ≡ good ps) × (length ps ≡ c.count.given.0.0))
-counted_points c = counted_good _ _ (sym c.count_points.ensures ∙ c.count.given.1)
+    ≡ good ps) × (length ps ≡ c.in-Lines.count))
+counted_points c = counted_good _ _ (sym c.count_points.ensures ∙ c.in-Lines.is)
 
 -- the malformed line that was met
 wrong_line_lem : (c : In-Malformed-2)
     → body (drop c.args.from c.args.bytes.now)
-    ≡ wrong c.line.given.0.0
-wrong_line_lem c = counted_wrong _ _ (sym c.count_points.ensures ∙ c.line.given.1)
+    ≡ wrong c.in-Malformed.line
+wrong_line_lem c = counted_wrong _ _ (sym c.count_points.ensures ∙ c.in-Malformed.is)
 
 pub overflow_add-line : goal.overflow_add-line
 overflow_add-line c =

@@ -15,8 +15,8 @@ use Rattle.face_lines.proofs.scan_faces.Goals as goal
 
 -- the line that was read
 read : (c : In-Face-2) → line (drop c.loop-at.at c.args.s.now)
-    ≡ parsed (face c.a.given.0.0 c.a.given.0.1.0 c.a.given.0.1.1.0) (drop c.a.given.0.1.1.1.0 c.args.s.now)
-read c = line_got c.args.s.now _ _ _ _ _ _ c.line_at.ensures c.a.given.1
+    ≡ parsed (face c.in-Face.a c.in-Face.b c.in-Face.c) (drop c.in-Face.next c.args.s.now)
+read c = line_got c.args.s.now _ _ _ _ _ _ c.line_at.ensures c.in-Face.is
 
 pub loop-at-init : goal.loop-at-init
 loop-at-init c = scanning_start _ _
@@ -29,7 +29,7 @@ pub loop-at-smaller : goal.loop-at-smaller
 loop-at-smaller c =
     let loop = c.loop-at in
     let start = c in
-    let h = line_shorter start.args.s.now loop.at c.a.given.0.1.1.1.0 _ (read c.before.before.before) in
+    let h = line_shorter start.args.s.now loop.at c.in-Face.next _ (read c.before.before.before) in
     omega arith
 
 pub loop-at-preserved : goal.loop-at-preserved
@@ -47,7 +47,7 @@ returns-in-Malformed c =
     let loop = c.loop-at in
     let start = c in
     scanning_wrong _ _ _ _ _ _ loop.invariant c.loop-at-test.true
-    (line_not start.args.s.now _ _ c.line_at.ensures c.enum_told.given.1)
+    (line_not start.args.s.now _ _ c.line_at.ensures c.in-Malformed.is)
 
 pub returns : goal.returns
 returns c = scanning_end _ _ _ _ _ _ c.loop-at.invariant c.loop-at-test.false

@@ -16,8 +16,8 @@ use Rattle.face_lines.proofs.store_faces.Goals as goal
 
 -- the line that was read
 read : (c : In-Face-2) → line (drop c.loop-at.at c.args.s.now)
-    ≡ parsed (face c.a.given.0.0 c.a.given.0.1.0 c.a.given.0.1.1.0) (drop c.a.given.0.1.1.1.0 c.args.s.now)
-read c = line_got c.args.s.now _ _ _ _ _ _ c.line_at.ensures c.a.given.1
+    ≡ parsed (face c.in-Face.a c.in-Face.b c.in-Face.c) (drop c.in-Face.next c.args.s.now)
+read c = line_got c.args.s.now _ _ _ _ _ _ c.line_at.ensures c.in-Face.is
 
 pub loop-at-init : goal.loop-at-init
 loop-at-init c = (refl, λ r. storing_start _ _ r)
@@ -43,7 +43,7 @@ loop-at-smaller c =
     let a = c.a in
     let loop = c.loop-at in
     let start = c in
-    let h = line_shorter start.args.s.now loop.at a.given.0.1.1.1.0 _ (read after-a) in
+    let h = line_shorter start.args.s.now loop.at c.in-Face.next _ (read after-a) in
     omega arith
 
 pub loop-at-preserved : goal.loop-at-preserved
@@ -65,7 +65,7 @@ returns-in-Malformed c =
     let start = c in
     let r = start.requires in
     absurd (storing_never _ _ r _ _ _ (loop.invariant.1 r) c.loop-at-test.true
-    (line_not start.args.s.now _ _ c.line_at.ensures c.enum_told.given.1))
+    (line_not start.args.s.now _ _ c.line_at.ensures c.in-Malformed.is))
 
 pub shape_of-words : goal.shape_of-words
 shape_of-words c = c.loop-at.invariant.0

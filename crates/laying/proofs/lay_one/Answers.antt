@@ -137,7 +137,7 @@ returns-in-Nothing c =
     let t = c in
     let s = start_of t in (
       no_seed s.args.p.rule s.args.p.radius s.pre.0 t.clear-c.ensures t.find_seed_triangle-search.ensures.0
-          t.find_seed_triangle-search.ensures.1 t.find_seed_triangle-search.auto.w c.enum_told.given.1,
+          t.find_seed_triangle-search.ensures.1 t.find_seed_triangle-search.auto.w c.in-Nothing.is,
       nothing_kept {s = s.args.p.scene}
           s.args.points.now t.find_seed_triangle-search.result.upto t.find_seed_triangle-search.ensures.1 t.find_seed_triangle-search.ensures.3,
     )

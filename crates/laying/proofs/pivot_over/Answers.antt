@@ -71,4 +71,4 @@ returns-in-Nowhere c =
     let t = c in
     let s = start_of t in
     pivot_missed s.args.p.radius s.pre t.try_ball_pivot-found.ensures.0 t.try_ball_pivot-found.ensures.1 t.try_ball_pivot-found.auto.w
-    c.enum_told.given.1 c.miss.ensures
+    c.in-Nowhere.is c.miss.ensures

@@ -11,27 +11,27 @@ use Rattle.face_lines.proofs.line.line_at.Goals as goal
 
 -- the numbers that were read
 a_read : (c : In-Number-2) → point_number 44 (drop c.args.at c.args.s.now)
-    ≡ parsed c.a.given.0.0 (drop c.a.given.0.1.0 c.args.s.now)
-a_read c = number_got c.args.s.now _ _ _ _ c.number_at.ensures c.a.given.1
+    ≡ parsed c.in-Number.a (drop c.in-Number.second c.args.s.now)
+a_read c = number_got c.args.s.now _ _ _ _ c.number_at.ensures c.in-Number.is
 
-b_read : (c : In-Number-number_at-3) → point_number 44 (drop c.a.given.0.1.0 c.args.s.now)
-    ≡ parsed c.b.given.0.0 (drop c.b.given.0.1.0 c.args.s.now)
-b_read c = number_got c.args.s.now _ _ _ _ c.number_at-2.ensures c.b.given.1
+b_read : (c : In-Number-number_at-3) → point_number 44 (drop c.in-Number.second c.args.s.now)
+    ≡ parsed c.in-Number-number_at.b (drop c.in-Number-number_at.third c.args.s.now)
+b_read c = number_got c.args.s.now _ _ _ _ c.number_at-2.ensures c.in-Number-number_at.is
 
-c_read : (c : In-Number-number_at-2-2) → point_number 10 (drop c.b.given.0.1.0 c.args.s.now)
-    ≡ parsed c.c.given.0.0 (drop c.c.given.0.1.0 c.args.s.now)
-c_read c = number_got c.args.s.now _ _ _ _ c.number_at-3.ensures c.c.given.1
+c_read : (c : In-Number-number_at-2-2) → point_number 10 (drop c.in-Number-number_at.third c.args.s.now)
+    ≡ parsed c.in-Number-number_at-2.c (drop c.in-Number-number_at-2.next c.args.s.now)
+c_read c = number_got c.args.s.now _ _ _ _ c.number_at-3.ensures c.in-Number-number_at-2.is
 
 pub returns-in_default : goal.returns-in_default
 unfolding line_means line then
-returns-in_default c = rw (number_not c.args.s.now _ _ c.number_at.ensures c.enum_told.given.1)
+returns-in_default c = rw (number_not c.args.s.now _ _ c.number_at.ensures c.in_default.is)
 
 pub returns-in_default-number_at : goal.returns-in_default-number_at
 unfolding line_means line then
 returns-in_default-number_at c =
     let after-a = c.before.before.before.before in
     let start = c in
-    rw (a_read after-a, number_not start.args.s.now _ _ c.number_at-2.ensures c.enum-told2.given.1)
+    rw (a_read after-a, number_not start.args.s.now _ _ c.number_at-2.ensures c.in_default-number_at.is)
 
 pub returns-in_default-number_at-2 : goal.returns-in_default-number_at-2
 unfolding line_means line then
@@ -39,7 +39,7 @@ returns-in_default-number_at-2 c =
     let after-b = c.before.before.before.before in
     let after-a = c.before.before.before.before.before.before.before.before in
     let start = c in
-    rw (a_read after-a, b_read after-b, number_not start.args.s.now _ _ c.number_at-3.ensures c.enum-told3.given.1)
+    rw (a_read after-a, b_read after-b, number_not start.args.s.now _ _ c.number_at-3.ensures c.in_default-number_at-2.is)
 
 pub returns : goal.returns
 unfolding line_means line then

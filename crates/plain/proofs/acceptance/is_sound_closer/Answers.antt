@@ -19,4 +19,4 @@ returns-then-is_wide c =
     let a = start.args in
     let h = start.requires in
     sym (wide_given a.p1 a.p2 a.p3 _ _ a.radius h.1 h.2 h.3 h.4 h.0.widest_is (mul-fits binary32 _ _) (mul-fits binary32 _ _)
-    h.5 h.6 _ h.0.beyond_fits (c.is_IsWide.ensures c.if-is_wide.true))
+    h.5 h.6 _ h.0.beyond_fits (c.is_wide.ensures c.if-is_wide.true))

@@ -6,7 +6,7 @@ use Rattle.verdict.proofs.numbered.numbered.Goals as goal
 
 pub returns-in-Refused : goal.returns-in-Refused
 unfolding verdict_numbers
-returns-in-Refused c = rw c.judgement.given.1
+returns-in-Refused c = rw c.in-Refused.is
 
 pub returns-in-Told : goal.returns-in-Told
-returns-in-Told c = c.kind_of.ensures ∙ ap verdict_numbers (sym c.judgement2.given.1)
+returns-in-Told c = c.kind_of.ensures ∙ ap verdict_numbers (sym c.in-Told.is)
