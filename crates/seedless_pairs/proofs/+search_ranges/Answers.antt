@@ -1,9 +1,7 @@
 -- `search_ranges` meets its contract. What falls is how many points the two ranges have together. Assumes nothing.
 use native.Mathlib.Omega.{arith}
-use borrow.Author.Rules.{rules}
-use borrow.Author.Tests.{not-false}
 use Rattle.seedless_pairs.proofs.Halves.{listed_fewer, none_later, refused_pairs, ranged, all_parts}
-use Prim.Native.Nat.{ℕ, ◌+◌, ◌-◌, ◌/◌, ◌<◌}
+use Prim.Native.Nat.{◌+◌, ◌-◌, ◌/◌}
 use Rattle.seedless_pairs.proofs.+search_ranges.Goals as goal
 
 pub returns-then-second-first : goal.returns-then-second-first
@@ -38,7 +36,7 @@ returns-then-is_refused_within t c =
     let shared-slice-known = c.type_inv.points in
     let start = c in
     let g = start.requires in
-    λ _. refused_pairs g shared-slice-known.given c.point_at-p.ensures (c.is_refused_within.ensures c.if-is_refused_within.true)
+    λ _. refused_pairs g shared-slice-known c.point_at-p.ensures (c.is_refused_within.ensures c.if-is_refused_within.true)
 
 pub overflow_add-x : goal.overflow_add-x
 overflow_add-x t c = let g = c.requires in

@@ -1,9 +1,5 @@
 -- `search_ranges` meets its contract. What falls is how many points the two ranges have together. Assumes nothing.
-use native.Mathlib.Omega.{arith}
-use borrow.Author.Rules.{rules}
-use borrow.Author.Tests.{not-false}
-use Rattle.seedless_pairs.proofs.Halves.{listed_fewer, none_later, refused_pairs, ranged, all_parts}
-use Prim.Native.Nat.{ℕ, ◌+◌, ◌-◌, ◌/◌, ◌<◌}
+use Prim.Native.Nat.{◌+◌, ◌-◌}
 use Rattle.seedless_pairs.proofs.+search_ranges.Given as goal
 
 abbrev pub decreases-search_ranges : goal.decreases-search_ranges

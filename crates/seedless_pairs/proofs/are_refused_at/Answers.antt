@@ -1,7 +1,6 @@
 -- `are_refused_at` meets its contract: both ranges are of the list. Assumes nothing.
 use native.Mathlib.Omega.{arith}
 use Rattle.seedless_pairs.proofs.Halves.{listed_fewer}
-use borrow.Author.Rules.{rules}
 use Rattle.seedless_pairs.proofs.are_refused_at.Goals as goal
 
 pub range_of-first-requires : goal.range_of-first-requires

@@ -1,12 +1,8 @@
 -- `search_beside` meets its contract. The loop's invariant: no point before the m-th makes a seed with points i and j,
 -- whichever comes first. Assumes nothing.
 use Prim.Native.Nat.{ℕ, ◌-◌, ◌≤◌, ◌<◌}
-use mathlib.Core.Path.{subst}
-use native.Mathlib.Omega.{arith}
 use Rattle.nearby.specs.Inner.Ready.{nth}
 use Rattle.three_points.specs.Inner.Judged.{Seedless}
-use Rattle.flatness.proofs.Below.{below_next}
-use borrow.Author.Rules.{rules}
 use Rattle.seedless_pairs.proofs.search_beside.Given as goal
 
 abbrev pub invariant-loop-m : goal.invariant-loop-m

@@ -1,12 +1,8 @@
 -- `search_each` meets its contract. The loop's invariant: no point before the m-th makes a seed with point i and a
 -- later one of the other range. Assumes nothing.
 use Prim.Native.Nat.{ℕ, ◌-◌, ◌≤◌, ◌<◌}
-use native.Mathlib.Omega.{arith}
-use mathlib.Core.Path.{subst}
-use borrow.Author.Rules.{rules}
 use Rattle.nearby.specs.Inner.Ready.{nth}
 use Rattle.three_points.specs.Inner.Judged.{Seedless}
-use Rattle.flatness.proofs.Below.{below_next}
 use Rattle.seedless_pairs.proofs.search_each.Given as goal
 
 abbrev pub invariant-loop-m : goal.invariant-loop-m
