@@ -4,7 +4,7 @@ use mathlib.Core.Bool.{Bool, true, false, cond, not, ◌&&◌}
 use mathlib.Core.List.{List, [], ◌∷◌}
 use Prim.Native.Nat.{ℕ, suc, ◌+◌, ◌-◌, ◌≤◌, ◌<◌}
 use native.Mathlib.Omega.{arith}
-use borrow.Author.Tests.{not-true, not-false, eqb-true}
+use borrow.Author.Tests.{eqb-true}
 use lib.Dec.{T, eqb}
 use lib.ListN.{length, take, drop, get_or, length-take, drop_of_length-le}
 use lib.Seq.{drop-cons}
@@ -110,21 +110,21 @@ module _ (near : ℕ → Bool) (pts : List Float) (i j : ℕ) (limit : Float) (k
   same : s ≡ squared (point_at pts j) (point_at pts i)
   same = cc
 
-  pub with_above : not (le s limit) ≡ true → kept ≡ with_square (within_limit limit near pts i) pts i j kept
+  pub with_above : le s limit ≡ false → kept ≡ with_square (within_limit limit near pts i) pts i j kept
   with_above e = sym (with_within near pts i j limit kept ∙ ap (λ (b : Bool). cond b (with_square near pts i j kept) kept)
-      (ap (λ (x : Float). le x limit) (sym same) ∙ not-true (le s limit) e))
+      (ap (λ (x : Float). le x limit) (sym same) ∙ e))
 
   -- not above the limit: as if there were none
-  upto : not (le s limit) ≡ false → with_square near pts i j kept ≡ with_square (within_limit limit near pts i) pts i j kept
+  upto : le s limit ≡ true → with_square near pts i j kept ≡ with_square (within_limit limit near pts i) pts i j kept
   upto e = sym (with_within near pts i j limit kept ∙ ap (λ (b : Bool). cond b (with_square near pts i j kept) kept)
-      (ap (λ (x : Float). le x limit) (sym same) ∙ not-false (le s limit) e))
+      (ap (λ (x : Float). le x limit) (sym same) ∙ e))
 
   module _ (b : Bool) (is : b ≡ (not (eqb j i) && near j)) where
-    pub with_none : not (le s limit) ≡ false → b ≡ false → kept ≡ with_square (within_limit limit near pts i) pts i j kept
+    pub with_none : le s limit ≡ true → b ≡ false → kept ≡ with_square (within_limit limit near pts i) pts i j kept
     unfolding with_square
     with_none l e = let f : (not (eqb j i) && near j) ≡ false = sym is ∙ e in (rw f) ∙ upto l
 
-    pub with_one : not (le s limit) ≡ false → b ≡ true → take 10 (insert s kept) ≡ with_square (within_limit limit near pts i) pts i j kept
+    pub with_one : le s limit ≡ true → b ≡ true → take 10 (insert s kept) ≡ with_square (within_limit limit near pts i) pts i j kept
     unfolding with_square
     with_one l e =
         let t : (not (eqb j i) && near j) ≡ true = sym is ∙ e in

@@ -1,11 +1,7 @@
 -- A look that finds ten squares decides, and so does the last one. Assumes nothing.
-use mathlib.Core.Path.{◌≡◌, refl, ◌∙◌}
-use Prim.Native.Nat.{◌-◌, ◌≤◌}
+use mathlib.Core.Path.{refl, ◌∙◌}
 use native.Mathlib.Omega.{arith}
-use lib.ListN.{length}
-use borrow.Author.Rules.{rules}
 use Rattle.grid.proofs.Near.{indexed_kept}
-use Rattle.neighbor_squares.specs.Inner.Squares.{SquaresKept}
 use Rattle.neighbor_squares.proofs.Deciding.{prepared_kept, kept_start, kept_then}
 use Rattle.neighbor_squares.proofs.find_squares.Goals as goal
 

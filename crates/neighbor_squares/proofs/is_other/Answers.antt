@@ -1,5 +1,4 @@
 -- `radii::nearest::is_other` meets its contract. Assumes nothing.
-use borrow.Author.Rules.{rules}
 use borrow.Author.Tests.{eq-eqb, ne_eqb}
 use Rattle.neighbor_squares.specs.Inner.Squares.{is_neighbor_cell}
 use Rattle.neighbor_squares.proofs.is_other.Goals as goal

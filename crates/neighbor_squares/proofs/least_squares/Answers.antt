@@ -1,14 +1,12 @@
 -- What is in hand, with the points to come, always gives the ten least squares. Assumes nothing.
-use mathlib.Core.Path.{◌≡◌, refl, sym, ◌∙◌}
-use Prim.Native.Nat.{◌+◌, ◌-◌, ◌*◌, ◌≤◌}
+use mathlib.Core.Path.{refl, sym, ◌∙◌}
+use Prim.Native.Nat.{◌+◌, ◌*◌}
 use native.Mathlib.Omega.{arith}
-use lib.ListN.{length, take, drop}
+use lib.ListN.{take, drop}
 use borrow.Author.Rules.{rules}
-use Rattle.sorting.specs.Sorted.{insert_all}
 use Rattle.lists.proofs.Members.{below_part}
-use Rattle.neighbor_squares.specs.Inner.Squares.{is_neighbor_cell, within_limit, squares_to, least_squares}
+use Rattle.neighbor_squares.specs.Inner.Squares.{is_neighbor_cell, within_limit, least_squares}
 use Rattle.neighbor_squares.proofs.Looking.{with_ordered, look_step, look_end}
-use Rattle.neighbor_squares.proofs.Rising.{Ordered}
 use Rattle.neighbor_squares.proofs.least_squares.Goals as goal
 
 pub loop-k-init : goal.loop-k-init
@@ -64,7 +62,7 @@ returns c =
       sym (l.invariant.3 ∙ look_end
           (within_limit s.args.limit (is_neighbor_cell s.args.around s.args.w.now s.args.n) s.args.points.now s.args.i)
           s.args.points.now s.args.i s.args.w.now (4 * s.args.n) s.args.found (omega (arith, s.requires.2, s.requires.4)) l.k
-          (drop s.args.n l.f) l.auto c.loop-k-test.false l.invariant.2),
+          (drop s.args.n l.f) l.kept c.loop-k-test.false l.invariant.2),
       l.invariant.2,
       l.invariant.4,
     )

@@ -1,13 +1,9 @@
 -- What is in hand, with the points to come, always gives the ten least squares. Assumes nothing.
-use mathlib.Core.Path.{◌≡◌, refl, sym, ◌∙◌}
-use Prim.Native.Nat.{◌+◌, ◌-◌, ◌*◌, ◌≤◌}
-use native.Mathlib.Omega.{arith}
+use mathlib.Core.Path.{◌≡◌}
+use Prim.Native.Nat.{◌-◌, ◌*◌, ◌≤◌}
 use lib.ListN.{length, take, drop}
-use borrow.Author.Rules.{rules}
 use Rattle.sorting.specs.Sorted.{insert_all}
-use Rattle.lists.proofs.Members.{below_part}
 use Rattle.neighbor_squares.specs.Inner.Squares.{is_neighbor_cell, within_limit, squares_to, least_squares}
-use Rattle.neighbor_squares.proofs.Looking.{with_ordered, look_step, look_end}
 use Rattle.neighbor_squares.proofs.Rising.{Ordered}
 use Rattle.neighbor_squares.proofs.least_squares.Given as goal
 

@@ -2,7 +2,6 @@
 use mathlib.Core.Path.{refl, ◌∙◌}
 use native.Mathlib.Omega.{arith}
 use lib.ListN.{take, drop}
-use borrow.Author.Rules.{rules}
 use Rattle.neighbor_squares.specs.Inner.Squares.{is_neighbor_cell}
 use Rattle.neighbor_squares.proofs.Looking.{with_above, with_none, with_one}
 use Rattle.neighbor_squares.proofs.look_at.Goals as goal

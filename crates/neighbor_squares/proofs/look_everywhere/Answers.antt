@@ -1,15 +1,11 @@
 -- What is in hand, with the points to come, always gives the ten least squares. Assumes nothing.
 use mathlib.Core.Path.{◌≡◌, refl, sym, ap, ◌∙◌}
-use Prim.Native.Nat.{◌-◌, ◌≤◌}
 use native.Mathlib.Omega.{arith}
-use lib.ListN.{length, take, drop}
+use lib.ListN.{take, drop}
 use lib.Ieee.{Float}
 use borrow.Author.Rules.{rules}
-use Rattle.lists.specs.Lists.{up_from}
-use Rattle.sorting.specs.Sorted.{insert_all}
-use Rattle.neighbor_squares.specs.Inner.Squares.{is_neighbor_cell, within_limit, squares_to, least_squares, with_square}
+use Rattle.neighbor_squares.specs.Inner.Squares.{is_neighbor_cell, within_limit, with_square}
 use Rattle.neighbor_squares.proofs.Looking.{with_tenth, with_ordered, all_start, all_step, all_end}
-use Rattle.neighbor_squares.proofs.Rising.{Ordered}
 use Rattle.neighbor_squares.proofs.look_everywhere.Goals as goal
 
 pub loop-j-init : goal.loop-j-init
@@ -68,7 +64,7 @@ returns c =
     let l = c.loop-j in
     let s = c in (
       sym (l.invariant.3 ∙ all_end (is_neighbor_cell s.args.around s.args.w.now s.args.n) s.args.points.now s.args.i s.args.n l.j
-          (drop s.args.n l.f) l.auto c.loop-j-test.false l.invariant.2),
+          (drop s.args.n l.f) l.kept c.loop-j-test.false l.invariant.2),
       l.invariant.2,
       l.invariant.4,
     )

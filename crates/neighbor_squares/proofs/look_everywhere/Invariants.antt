@@ -1,14 +1,10 @@
 -- What is in hand, with the points to come, always gives the ten least squares. Assumes nothing.
-use mathlib.Core.Path.{◌≡◌, refl, sym, ap, ◌∙◌}
+use mathlib.Core.Path.{◌≡◌}
 use Prim.Native.Nat.{◌-◌, ◌≤◌}
-use native.Mathlib.Omega.{arith}
 use lib.ListN.{length, take, drop}
-use lib.Ieee.{Float}
-use borrow.Author.Rules.{rules}
 use Rattle.lists.specs.Lists.{up_from}
 use Rattle.sorting.specs.Sorted.{insert_all}
-use Rattle.neighbor_squares.specs.Inner.Squares.{is_neighbor_cell, within_limit, squares_to, least_squares, with_square}
-use Rattle.neighbor_squares.proofs.Looking.{with_tenth, with_ordered, all_start, all_step, all_end}
+use Rattle.neighbor_squares.specs.Inner.Squares.{is_neighbor_cell, squares_to, least_squares}
 use Rattle.neighbor_squares.proofs.Rising.{Ordered}
 use Rattle.neighbor_squares.proofs.look_everywhere.Given as goal
 

@@ -1,7 +1,6 @@
 -- Both looks decide. Assumes nothing.
 use mathlib.Core.Path.{refl}
 use native.Mathlib.Omega.{arith}
-use borrow.Author.Rules.{rules}
 use Rattle.neighbor_squares.proofs.look_further.Goals as goal
 
 pub look_everywhere-requires : goal.look_everywhere-requires
@@ -18,7 +17,7 @@ returns-then-is_wide c =
 pub look_in_range-requires : goal.look_in_range-requires
 look_in_range-requires c =
     let s = c in
-    (s.requires.0, s.requires.1, c.is_IsWide.ensures c.if-is_wide.false)
+    (s.requires.0, s.requires.1, c.is_wide.ensures c.if-is_wide.false)
 
 pub returns : goal.returns
 returns c = c.look_in_range.ensures

@@ -1,7 +1,6 @@
 -- The points within bounds that hold every neighbour decide. Assumes nothing.
 use mathlib.Core.Path.{sym, subst}
 use native.Mathlib.Omega.{arith}
-use borrow.Author.Rules.{rules}
 use Rattle.vector.specs.declared.Point3f.{Point3f}
 use Rattle.vector.specs.Inner.Numbers.{Finite}
 use Rattle.neighbor_squares.proofs.Deciding.{found_in_range}

@@ -1,5 +1,4 @@
 -- `radii::nearest::tenth` meets its contract. Assumes nothing.
-use borrow.Author.Rules.{rules}
 use borrow.Author.Tests.{eq-eqb, ne_eqb}
 use Rattle.numbers.proofs.Compare.{infinite}
 use Rattle.neighbor_squares.specs.Inner.Squares.{tenth_of}

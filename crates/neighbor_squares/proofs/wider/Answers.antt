@@ -1,6 +1,5 @@
 -- `radii::nearest::wider` meets its contract. Assumes nothing.
 use native.Mathlib.Omega.{arith}
-use borrow.Author.Rules.{rules}
 use Rattle.sorting.proofs.Percentile.{small}
 use Rattle.neighbor_squares.proofs.wider.Goals as goal
 
