@@ -8,7 +8,6 @@ use Rattle.spatial_hash.specs.Inner.Near.{NearPlace}
 use Rattle.nearby.proofs.Keeping.{kept_on, held_kept}
 use Rattle.nearby.proofs.Narrowing.{near_kept, below_listed}
 use Rattle.seedless.proofs.Threes.{seedless_from}
-use borrow.Author.Rules.{rules}
 use Rattle.lists.proofs.Bools.{true_not_false}
 use Rattle.seedless.proofs.check_first.Goals as goal
 

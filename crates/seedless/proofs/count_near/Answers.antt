@@ -1,7 +1,5 @@
 -- `count_near` meets its contract: at most one is counted in each turn. Assumes nothing.
-use Prim.Native.Nat.{◌-◌, ◌≤◌}
 use native.Mathlib.Omega.{arith}
-use borrow.Author.Rules.{rules}
 use Rattle.seedless.proofs.count_near.Goals as goal
 
 pub loop-m-init : goal.loop-m-init

@@ -2,7 +2,6 @@
 use mathlib.Core.Path.{sym, subst}
 use native.Mathlib.Omega.{arith}
 use lib.Dec.{T}
-use borrow.Author.Rules.{rules}
 use Rattle.seedless.proofs.is_enough.Goals as goal
 
 pub returns-then-left-eq0 : goal.returns-then-left-eq0

@@ -1,13 +1,10 @@
 -- `is_exhausted` meets its contract. The loop's invariant: no three unused points of which one is below i make a seed.
 -- Assumes nothing.
-use Prim.Native.Nat.{◌-◌}
 use mathlib.Core.Path.{sym, ◌∙◌, subst}
 use native.Mathlib.Omega.{arith}
 use lib.Dec.{T}
-use borrow.Author.Tests.{not-false}
 use Rattle.nearby.proofs.Keeping.{kept_on, held_kept, hashed_search}
-use Rattle.seedless.proofs.Threes.{Exhausting, exhaust_start, exhaust_step}
-use borrow.Author.Rules.{rules}
+use Rattle.seedless.proofs.Threes.{exhaust_start, exhaust_step}
 use Rattle.seedless.proofs.is_exhausted.Goals as goal
 
 pub loop-i-init : goal.loop-i-init

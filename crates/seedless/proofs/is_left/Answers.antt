@@ -1,7 +1,5 @@
 -- `is_left` meets its contract: each test that fails is one of the definition's. Assumes nothing.
 use mathlib.Core.Path.{sym, ◌∙◌}
-use borrow.Author.Tests.{not-true, not-false}
-use borrow.Author.Rules.{rules}
 use Rattle.seedless.proofs.is_left.Goals as goal
 
 pub returns-then-not-is_other : goal.returns-then-not-is_other

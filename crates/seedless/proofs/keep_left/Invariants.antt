@@ -1,9 +1,7 @@
 -- `keep_left` meets its contract. The loop's invariant: those of the first m points that are to be kept stand at the
 -- list's start. Assumes nothing.
 use Prim.Native.Nat.{◌-◌}
-use native.Mathlib.Omega.{arith}
-use borrow.Author.Rules.{rules}
-use Rattle.seedless.proofs.Threes.{Leaving, left_start, left_below, left_skip, left_take, left_end}
+use Rattle.seedless.proofs.Threes.{Leaving}
 use Rattle.seedless.proofs.keep_left.Given as goal
 
 abbrev pub invariant-loop-m : goal.invariant-loop-m

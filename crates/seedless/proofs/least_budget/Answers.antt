@@ -2,7 +2,6 @@
 use Prim.Native.Nat.{◌*◌, ◌≤◌}
 use native.Mathlib.Nat.{mul-le-mul}
 use native.Mathlib.Omega.{arith}
-use borrow.Author.Rules.{rules}
 use Rattle.seedless.proofs.least_budget.Goals as goal
 
 pub overflow_mul-result-then-begun : goal.overflow_mul-result-then-begun

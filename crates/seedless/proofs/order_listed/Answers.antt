@@ -1,6 +1,5 @@
 -- `order_listed` meets its contract. Assumes nothing.
 use Rattle.seedless.proofs.Reordering.{reordered}
-use borrow.Author.Rules.{rules}
 use Rattle.seedless.proofs.order_listed.Goals as goal
 
 pub returns : goal.returns

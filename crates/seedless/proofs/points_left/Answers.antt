@@ -1,6 +1,5 @@
 -- `points_left` meets its contract. Assumes nothing.
 use native.Mathlib.Omega.{arith}
-use borrow.Author.Rules.{rules}
 use Rattle.seedless.proofs.points_left.Goals as goal
 
 pub returns-then-from-n : goal.returns-then-from-n

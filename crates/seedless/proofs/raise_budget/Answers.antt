@@ -4,7 +4,6 @@ use native.Mathlib.Omega.{arith}
 use Rattle.vector.specs.Inner.Numbers.{Finite}
 use Rattle.nearby.proofs.Keeping.{kept_self, held_kept}
 use Rattle.nearby.proofs.Narrowing.{near_kept, below_listed}
-use borrow.Author.Rules.{rules}
 use Rattle.seedless.proofs.raise_budget.Goals as goal
 
 pub returns-then-i-search : goal.returns-then-i-search

@@ -1,7 +1,6 @@
 -- `search_found` meets its contract. Assumes nothing.
 use Rattle.nearby.proofs.Keeping.{held_kept, kept_on}
 use Rattle.seedless.proofs.Threes.{left_seedless}
-use borrow.Author.Rules.{rules}
 use Rattle.seedless.proofs.search_found.Goals as goal
 
 pub search_pairs-requires : goal.search_pairs-requires

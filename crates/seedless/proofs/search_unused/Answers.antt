@@ -1,14 +1,12 @@
 -- `search_unused` meets its contract: of the unused points after i those that are not looked at are too far away.
 -- Assumes nothing.
 use mathlib.Core.Path.{sym, ◌∙◌, subst}
-use borrow.Author.Tests.{not-true}
 use Rattle.vector.specs.declared.Point3f.{Point3f}
 use Rattle.vector.specs.Inner.Numbers.{Finite}
 use Rattle.spatial_hash.specs.Inner.Near.{NearPlace}
 use Rattle.nearby.proofs.Keeping.{kept_self, kept_on, held_kept}
 use Rattle.nearby.proofs.Narrowing.{near_kept, below_listed}
 use Rattle.seedless.proofs.Threes.{seedless_from}
-use borrow.Author.Rules.{rules}
 use Rattle.lists.proofs.Bools.{true_not_false}
 use Rattle.seedless.proofs.search_unused.Goals as goal
 
