@@ -25,7 +25,7 @@ pub loop-i-init : goal.loop-i-init
 loop-i-init c =
     let start = c in
     let a = start.args in (
-      cover_start start.requires.0 c.begin-c.ensures.0 c.begin-c.ensures.1,
+      cover_start start.requires.0 c.begin-c.ensures.begins c.begin-c.ensures.only_in,
       nothing_yet a.s a.points.now
           (used_in_scene a.s c.begin-c.new.w),
       marks_start a.rule a.s a.points.now a.radii,
@@ -80,10 +80,10 @@ loop-i-preserved c =
     let l = loop in
     let o = lay-one in
     let t = loop-test.true in
-    let on = cover_step l.invariant.0 _ t (omega (arith, start.well_formed.1.1.0.1.0.1, t, start.requires.1)) o.ensures.0 o.auto.faces in (
+    let on = cover_step l.invariant.0 _ t (omega (arith, t, start.requires.1)) o.ensures.0 o.auto.faces in (
       on,
       o.ensures.1,
-      marks_step l.marks on (omega (arith, t, start.requires.1)) (omega (arith, start.well_formed.1.1.0.1.0.1, t, start.requires.1)) l.invariant.2,
+      marks_step l.marks on (omega (arith, t, start.requires.1)) (omega (arith, t, start.requires.1)) l.invariant.2,
     )
 
 pub shape_of-faces : goal.shape_of-faces

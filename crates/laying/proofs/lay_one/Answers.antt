@@ -7,23 +7,7 @@ use Rattle.known_radii.proofs.Larger.{nothing_yet}
 use Rattle.seed.proofs.Known.{nothing_kept}
 use Rattle.laying.proofs.Radii.{searched, free_seed, seed_room, seed_between_looks, seed_laid, no_seed}
 use borrow.Author.Rules.{rules}
-use Rattle.laying.proofs.lay_one.Goals.{After-find_seed_triangle-search, After-lay_seed-first, After-remove_three, After-run-last, In-Triangle-2, Start}
 use Rattle.laying.proofs.lay_one.Goals as goal
-
-abbrev start_of : After-find_seed_triangle-search → Start
-start_of t = t
-
-abbrev search_of : In-Triangle-2 → After-find_seed_triangle-search
-search_of f = f
-
-abbrev seed_of_lem : After-remove_three → In-Triangle-2
-seed_of_lem r = r.before.before.before
-
-abbrev remove_of : After-lay_seed-first → After-remove_three
-remove_of l = l
-
-abbrev lay_of : After-run-last → After-lay_seed-first
-lay_of u = u
 
 pub find_seed_triangle-search-requires : goal.find_seed_triangle-search-requires
 find_seed_triangle-search-requires c =
@@ -33,13 +17,13 @@ find_seed_triangle-search-requires c =
 
 pub remove_three-requires : goal.remove_three-requires
 remove_three-requires c =
-    let f = c.before.before in
-    let t = search_of f in
-    let s = start_of t in
-    let g = free_seed s.args.p.rule s.args.p.radius s.pre.0 t.clear.ensures t.find-seed-triangle.ensures.0
-    t.find-seed-triangle.ensures.1 t.find-seed-triangle.auto.1.1.0 f.seed.given.1 in (
-      (searched s.args.p.rule s.args.p.radius s.pre.0 t.clear.ensures t.find-seed-triangle.ensures.0
-          t.find-seed-triangle.ensures.1 t.find-seed-triangle.auto.1.1.0).hashed.linked,
+    let f = c in
+    let t = f in
+    let s = t in
+    let g = free_seed s.args.p.rule s.args.p.radius s.requires.0 t.clear-c.ensures t.find_seed_triangle-search.ensures.0
+    t.find_seed_triangle-search.ensures.1 t.find_seed_triangle-search.auto.w c.in-Triangle.is in (
+      (searched s.args.p.rule s.args.p.radius s.requires.0 t.clear-c.ensures t.find_seed_triangle-search.ensures.0
+          t.find_seed_triangle-search.ensures.1 t.find_seed_triangle-search.auto.w).hashed.linked,
       g.first.below,
       g.second.below,
       g.third.below,
@@ -48,86 +32,86 @@ remove_three-requires c =
 pub overflow_cast-i : goal.overflow_cast-i
 overflow_cast-i c =
     let r = c in
-    let f = seed_of_lem r in
-    let t = search_of f in
-    let s = start_of t in
+    let f = r in
+    let t = f in
+    let s = t in
     omega (
       arith,
-      (free_seed s.args.p.rule s.args.p.radius s.pre.0 t.clear.ensures t.find-seed-triangle.ensures.0
-          t.find-seed-triangle.ensures.1 t.find-seed-triangle.auto.1.1.0 f.seed.given.1).first.below,
-      s.pre.0.searchable.held.few,
+      (free_seed s.args.p.rule s.args.p.radius s.requires.0 t.clear-c.ensures t.find_seed_triangle-search.ensures.0
+          t.find_seed_triangle-search.ensures.1 t.find_seed_triangle-search.auto.w c.in-Triangle.is).first.below,
+      s.requires.0.searchable.held.few,
     )
 
 pub overflow_cast-j : goal.overflow_cast-j
 overflow_cast-j c =
     let r = c in
-    let f = seed_of_lem r in
-    let t = search_of f in
-    let s = start_of t in
+    let f = r in
+    let t = f in
+    let s = t in
     omega (
       arith,
-      (free_seed s.args.p.rule s.args.p.radius s.pre.0 t.clear.ensures t.find-seed-triangle.ensures.0
-          t.find-seed-triangle.ensures.1 t.find-seed-triangle.auto.1.1.0 f.seed.given.1).second.below,
-      s.pre.0.searchable.held.few,
+      (free_seed s.args.p.rule s.args.p.radius s.requires.0 t.clear-c.ensures t.find_seed_triangle-search.ensures.0
+          t.find_seed_triangle-search.ensures.1 t.find_seed_triangle-search.auto.w c.in-Triangle.is).second.below,
+      s.requires.0.searchable.held.few,
     )
 
 pub overflow_cast-k : goal.overflow_cast-k
 overflow_cast-k c =
     let r = c in
-    let f = seed_of_lem r in
-    let t = search_of f in
-    let s = start_of t in
+    let f = r in
+    let t = f in
+    let s = t in
     omega (
       arith,
-      (free_seed s.args.p.rule s.args.p.radius s.pre.0 t.clear.ensures t.find-seed-triangle.ensures.0
-          t.find-seed-triangle.ensures.1 t.find-seed-triangle.auto.1.1.0 f.seed.given.1).third.below,
-      s.pre.0.searchable.held.few,
+      (free_seed s.args.p.rule s.args.p.radius s.requires.0 t.clear-c.ensures t.find_seed_triangle-search.ensures.0
+          t.find_seed_triangle-search.ensures.1 t.find_seed_triangle-search.auto.w c.in-Triangle.is).third.below,
+      s.requires.0.searchable.held.few,
     )
 
 pub lay_seed-first-requires : goal.lay_seed-first-requires
 lay_seed-first-requires c =
     let r = c in
-    let f = seed_of_lem r in
-    let t = search_of f in
-    let s = start_of t in
-    seed_room s.args.p.rule s.args.p.radius s.pre.0 t.clear.ensures t.find-seed-triangle.ensures.0
-    t.find-seed-triangle.ensures.1 t.find-seed-triangle.auto.1.1.0 f.seed.given.1 r.remove_three.ensures r.remove_three.auto.w
+    let f = r in
+    let t = f in
+    let s = t in
+    seed_room s.args.p.rule s.args.p.radius s.requires.0 t.clear-c.ensures t.find_seed_triangle-search.ensures.0
+    t.find_seed_triangle-search.ensures.1 t.find_seed_triangle-search.auto.w c.in-Triangle.is r.remove_three.ensures r.remove_three.auto.w
 
 pub run-last-requires : goal.run-last-requires
 run-last-requires c =
     let l = c in
-    let r = remove_of l in
-    let f = seed_of_lem r in
-    let t = search_of f in
-    let s = start_of t in
-    seed_between_looks s.args.p.rule s.args.p.radius s.pre.0 t.clear.ensures t.find-seed-triangle.ensures.0
-    t.find-seed-triangle.ensures.1 t.find-seed-triangle.auto.1.1.0 f.seed.given.1 r.remove-three.ensures r.remove-three.auto.1.0
-    l.lay_seed-first.ensures.0 l.lay_seed-first.ensures.1
+    let r = l in
+    let f = r in
+    let t = f in
+    let s = t in
+    seed_between_looks s.args.p.rule s.args.p.radius s.requires.0 t.clear-c.ensures t.find_seed_triangle-search.ensures.0
+    t.find_seed_triangle-search.ensures.1 t.find_seed_triangle-search.auto.w c.in-Triangle.is r.remove_three.ensures r.remove_three.auto.w
+    l.lay_seed-first.ensures.takes l.lay_seed-first.ensures.only_in
 
 pub shape_of-w-in-Triangle : goal.shape_of-w-in-Triangle
 shape_of-w-in-Triangle c =
     let u = c in
-    let l = lay_of u in
-    let r = remove_of l in
-    let f = seed_of_lem r in
-    let t = search_of f in
-    let s = start_of t in
-    (seed_laid s.args.p.rule s.args.p.radius s.pre.0 t.clear.ensures t.find-seed-triangle.ensures.0
-    t.find-seed-triangle.ensures.1 t.find-seed-triangle.auto.1.1.0 f.seed.given.1 r.remove-three.ensures r.remove-three.auto.1.0
-    l.lay-seed.ensures.0 l.lay-seed.ensures.1 u.run-last.ensures).length_same
+    let l = u in
+    let r = l in
+    let f = r in
+    let t = f in
+    let s = t in
+    (seed_laid s.args.p.rule s.args.p.radius s.requires.0 t.clear-c.ensures t.find_seed_triangle-search.ensures.0
+    t.find_seed_triangle-search.ensures.1 t.find_seed_triangle-search.auto.w c.in-Triangle.is r.remove_three.ensures r.remove_three.auto.w
+    l.lay_seed-first.ensures.takes l.lay_seed-first.ensures.only_in u.run-last.ensures).length_same
 
 pub returns-in-Triangle : goal.returns-in-Triangle
 returns-in-Triangle c =
     let u = c in
-    let l = lay_of u in
-    let r = remove_of l in
-    let f = seed_of_lem r in
-    let t = search_of f in
-    let s = start_of t in (
-      seed_laid s.args.p.rule s.args.p.radius s.pre.0 t.clear.ensures t.find-seed-triangle.ensures.0
-          t.find-seed-triangle.ensures.1 t.find-seed-triangle.auto.1.1.0 f.seed.given.1 r.remove-three.ensures
-          r.remove-three.auto.1.0
-          l.lay-seed.ensures.0 l.lay-seed.ensures.1 u.run-last.ensures,
+    let l = u in
+    let r = l in
+    let f = r in
+    let t = f in
+    let s = t in (
+      seed_laid s.args.p.rule s.args.p.radius s.requires.0 t.clear-c.ensures t.find_seed_triangle-search.ensures.0
+          t.find_seed_triangle-search.ensures.1 t.find_seed_triangle-search.auto.w c.in-Triangle.is r.remove_three.ensures
+          r.remove_three.auto.w
+          l.lay_seed-first.ensures.takes l.lay_seed-first.ensures.only_in u.run-last.ensures,
       nothing_yet s.args.p.scene s.args.points.now
           (used_in_scene s.args.p.scene u.run-last.new.w),
     )
@@ -135,8 +119,8 @@ returns-in-Triangle c =
 pub returns-in-Nothing : goal.returns-in-Nothing
 returns-in-Nothing c =
     let t = c in
-    let s = start_of t in (
-      no_seed s.args.p.rule s.args.p.radius s.pre.0 t.clear-c.ensures t.find_seed_triangle-search.ensures.0
+    let s = t in (
+      no_seed s.args.p.rule s.args.p.radius s.requires.0 t.clear-c.ensures t.find_seed_triangle-search.ensures.0
           t.find_seed_triangle-search.ensures.1 t.find_seed_triangle-search.auto.w c.in-Nothing.is,
       nothing_kept {s = s.args.p.scene}
           s.args.points.now t.find_seed_triangle-search.result.upto t.find_seed_triangle-search.ensures.1 t.find_seed_triangle-search.ensures.3,
