@@ -1,5 +1,4 @@
 -- `cloud::read_cloud` meets its contract: the radius line decides which case of `file` holds. Assumes nothing.
-use borrow.Author.Rules.{rules}
 use lib.ListN.{length}
 use Rattle.cloud.proofs.Answer.{answer_refused, outcome_radius, outcome_no_radius}
 use Rattle.cloud_lines.proofs.Means.{number_got, number_not}
@@ -8,9 +7,9 @@ use Rattle.cloud.proofs.read_cloud.Goals as goal
 pub returns-in-Number : goal.returns-in-Number
 returns-in-Number c =
     let s = c.args in
-    let v = c.value.given in
-    let e = number_got s.bytes.now _ _ _ _ c.radius_at.ensures v.1 in
-    rw (outcome_radius s.bytes.now (length s.points.now) (length s.normals.now) v.0.0 v.0.1.0 e)
+    let v = c.in-Number in
+    let e = number_got s.bytes.now _ _ _ _ c.radius_at.ensures v.is in
+    rw (outcome_radius s.bytes.now (length s.points.now) (length s.normals.now) v.value v.next e)
     c.read_points.ensures
 
 pub returns-in-Malformed : goal.returns-in-Malformed

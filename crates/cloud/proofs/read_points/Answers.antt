@@ -1,62 +1,44 @@
 -- `cloud::read_points` meets its contract: each way out is a case of `judged`. Assumes nothing.
-use mathlib.Core.List.{List}
-use mathlib.Core.Path.{◌≡◌, sym, ◌∙◌}
+use mathlib.Core.Path.{sym, ◌∙◌}
 use native.Mathlib.Omega.{arith}
-use borrow.Author.Rules.{rules}
-use lib.ListN.{length, drop}
 use Rattle.cloud.specs.Answers.{read_of}
-use Rattle.cloud.specs.Format.{body, good, wrong}
 use Rattle.cloud.specs.Inner.Ready.{laid_out}
-use Rattle.cloud_lines.specs.declared.line.Point.{Point}
 use Rattle.cloud.proofs.Answer.{answer_refused, answer_accepted, outcome_wrong, outcome_fits, outcome_long, outcome_long_normals}
 use Rattle.cloud.proofs.Lines.{counted_good, counted_wrong, body_within}
-use Rattle.cloud.proofs.read_points.Goals.{In-Lines-2, In-Malformed-2}
 use Rattle.cloud.proofs.read_points.Goals as goal
-
--- the points of the lines that were counted
-counted_points : (c : In-Lines-2) → (ps : List Point)
-    × ((body (drop c.args.from c.args.bytes.now)
-    ≡ good ps) × (length ps ≡ c.in-Lines.count))
-counted_points c = counted_good _ _ (sym c.count_points.ensures ∙ c.in-Lines.is)
-
--- the malformed line that was met
-wrong_line_lem : (c : In-Malformed-2)
-    → body (drop c.args.from c.args.bytes.now)
-    ≡ wrong c.in-Malformed.line
-wrong_line_lem c = counted_wrong _ _ (sym c.count_points.ensures ∙ c.in-Malformed.is)
 
 pub overflow_add-line : goal.overflow_add-line
 overflow_add-line c =
     let h = body_within c.args.bytes.now
-    c.args.from _ (wrong_line_lem c.before) in omega arith
+    c.args.from _ (counted_wrong _ _ (sym c.count_points.ensures ∙ c.in-Malformed.is)) in omega arith
 
 pub returns-then-points-count : goal.returns-then-points-count
 returns-then-points-count c =
-    let ps = counted_points c.before.before.before in let len = ps.1.1 in
+    let ps = counted_good _ _ (sym c.count_points.ensures ∙ c.in-Lines.is) in let len = ps.1.1 in
     let h = c.if-points-count.true in
     answer_refused _ 11 0 _ _ _ (outcome_long _ _ _ _ ps.0 ps.1.0 (omega arith)) c.refused-then-points-count.ensures
 
 pub returns-then-normals-count : goal.returns-then-normals-count
 returns-then-normals-count c =
-    let ps = counted_points c.before.before.before.before in let len = ps.1.1 in
+    let ps = counted_good _ _ (sym c.count_points.ensures ∙ c.in-Lines.is) in let len = ps.1.1 in
     let h = c.if-points-count.false in
     let g = c.if-normals-count.true in
     answer_refused _ 11 0 _ _ _ (outcome_long_normals _ _ _ _ ps.0 ps.1.0 (omega arith) (omega arith)) c.refused-then-normals-count.ensures
 
 pub store_points-requires : goal.store_points-requires
 store_points-requires c =
-    let ps = counted_points c.before.before.before.before.before in let len = ps.1.1 in
+    let ps = counted_good _ _ (sym c.count_points.ensures ∙ c.in-Lines.is) in let len = ps.1.1 in
     let h = c.if-points-count.false in
     let g = c.if-normals-count.false in
     record { read = ps.0; lines_good = ps.1.0; as_many = len; points_fit = omega arith; normals_fit = omega arith }
 
 pub returns-in-Malformed : goal.returns-in-Malformed
-returns-in-Malformed c = answer_refused _ _ _ _ _ _ (outcome_wrong _ _ _ _ _ (wrong_line_lem c.before.before)) c.refused.ensures
+returns-in-Malformed c = answer_refused _ _ _ _ _ _ (outcome_wrong _ _ _ _ _ (counted_wrong _ _ (sym c.count_points.ensures ∙ c.in-Malformed.is))) c.refused.ensures
 
 pub returns-else-normals-count : goal.returns-else-normals-count
 unfolding read_of laid_out
 returns-else-normals-count c =
-    let ps = counted_points c.before.before.before.before.before.before.before.before.before.before in let len = ps.1.1 in
+    let ps = counted_good _ _ (sym c.count_points.ensures ∙ c.in-Lines.is) in let len = ps.1.1 in
     let h = c.if-points-count.false in
     let g = c.if-normals-count.false in
     let w = c.store_points.ensures in

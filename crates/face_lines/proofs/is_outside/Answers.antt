@@ -1,5 +1,4 @@
 -- `face_lines::is_outside` meets its contract: the tests are those of `outside`. Assumes nothing.
-use borrow.Author.Rules.{rules}
 use borrow.Author.Tests.{le-leb, lt-leb}
 use Rattle.face_lines.specs.Format.{outside}
 use Rattle.face_lines.proofs.is_outside.Goals as goal

@@ -1,5 +1,4 @@
 -- `face_lines::is_twice` meets its contract: the tests are those of `twice`. Assumes nothing.
-use borrow.Author.Rules.{rules}
 use borrow.Author.Tests.{eq-eqb, ne_eqb}
 use Rattle.face_lines.specs.Format.{twice}
 use Rattle.face_lines.proofs.is_twice.Goals as goal

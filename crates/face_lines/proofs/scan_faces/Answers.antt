@@ -1,22 +1,9 @@
 -- `face_lines::scan_faces` meets its contract: what was found so far and the lines that are left come to the whole. The
 -- measure is the bytes left. Assumes nothing.
-use Prim.Native.Nat.{◌-◌}
-use mathlib.Core.Path.{◌≡◌}
 use native.Mathlib.Omega.{arith}
-use borrow.Author.Rules.{rules}
-use lib.ListN.{length, drop}
-use Rattle.numerals.specs.Format.{parsed}
-use Rattle.patch.specs.Lay.{face}
-use Rattle.face_lines.specs.Format.{line}
 use Rattle.face_lines.proofs.Parts.{line_got, line_not, line_shorter}
-use Rattle.face_lines.proofs.Scanning.{Scanning, scanning_start, scanning_end, scanning_wrong, scanning_next}
-use Rattle.face_lines.proofs.scan_faces.Goals.{In-Face-2}
+use Rattle.face_lines.proofs.Scanning.{scanning_start, scanning_end, scanning_wrong, scanning_next}
 use Rattle.face_lines.proofs.scan_faces.Goals as goal
-
--- the line that was read
-read : (c : In-Face-2) → line (drop c.loop-at.at c.args.s.now)
-    ≡ parsed (face c.in-Face.a c.in-Face.b c.in-Face.c) (drop c.in-Face.next c.args.s.now)
-read c = line_got c.args.s.now _ _ _ _ _ _ c.line_at.ensures c.in-Face.is
 
 pub loop-at-init : goal.loop-at-init
 loop-at-init c = scanning_start _ _
@@ -29,14 +16,14 @@ pub loop-at-smaller : goal.loop-at-smaller
 loop-at-smaller c =
     let loop = c.loop-at in
     let start = c in
-    let h = line_shorter start.args.s.now loop.at c.in-Face.next _ (read c.before.before.before) in
+    let h = line_shorter start.args.s.now loop.at c.in-Face.next _ (line_got c.args.s.now _ _ _ _ _ _ c.line_at.ensures c.in-Face.is) in
     omega arith
 
 pub loop-at-preserved : goal.loop-at-preserved
 loop-at-preserved c =
     let loop-test = c.loop-at-test in
     let loop = c.loop-at in
-    scanning_next _ _ _ _ _ _ loop.invariant loop-test.true _ _ _ _ (read c.before.before.before) c.is_outside-outside.ensures c.is_twice-twice.ensures
+    scanning_next _ _ _ _ _ _ loop.invariant loop-test.true _ _ _ _ (line_got c.args.s.now _ _ _ _ _ _ c.line_at.ensures c.in-Face.is) c.is_outside-outside.ensures c.is_twice-twice.ensures
 
 pub overflow_add-result : goal.overflow_add-result
 overflow_add-result c = let i = c.loop-at.invariant.few in

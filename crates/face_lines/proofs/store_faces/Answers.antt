@@ -1,23 +1,10 @@
 -- `face_lines::store_faces` meets its contract: the faces that stand in the slice and those left are all; a malformed
 -- line is never met. The measure is the bytes left. Assumes nothing.
-use Prim.Native.Nat.{◌-◌}
-use mathlib.Core.Path.{◌≡◌, refl, ◌∙◌}
+use mathlib.Core.Path.{refl, ◌∙◌}
 use native.Mathlib.Omega.{arith}
-use borrow.Author.Rules.{rules}
-use lib.ListN.{length, drop}
-use Rattle.numerals.specs.Format.{parsed}
-use Rattle.patch.specs.Lay.{face}
-use Rattle.face_lines.specs.Format.{line}
-use Rattle.face_lines.specs.Inner.Answers.{Readable}
 use Rattle.face_lines.proofs.Parts.{line_got, line_not, line_shorter}
-use Rattle.face_lines.proofs.Storing.{Storing, storing_start, storing_few, storing_end, storing_never, storing_next}
-use Rattle.face_lines.proofs.store_faces.Goals.{In-Face-2}
+use Rattle.face_lines.proofs.Storing.{storing_start, storing_few, storing_end, storing_never, storing_next}
 use Rattle.face_lines.proofs.store_faces.Goals as goal
-
--- the line that was read
-read : (c : In-Face-2) → line (drop c.loop-at.at c.args.s.now)
-    ≡ parsed (face c.in-Face.a c.in-Face.b c.in-Face.c) (drop c.in-Face.next c.args.s.now)
-read c = line_got c.args.s.now _ _ _ _ _ _ c.line_at.ensures c.in-Face.is
 
 pub loop-at-init : goal.loop-at-init
 loop-at-init c = (refl, λ r. storing_start _ _ r)
@@ -39,20 +26,17 @@ overflow_add-count c =
 
 pub loop-at-smaller : goal.loop-at-smaller
 loop-at-smaller c =
-    let after-a = c.before.before.before.before.before in
-    let a = c.a in
     let loop = c.loop-at in
     let start = c in
-    let h = line_shorter start.args.s.now loop.at c.in-Face.next _ (read after-a) in
+    let h = line_shorter start.args.s.now loop.at c.in-Face.next _ (line_got c.args.s.now _ _ _ _ _ _ c.line_at.ensures c.in-Face.is) in
     omega arith
 
 pub loop-at-preserved : goal.loop-at-preserved
 loop-at-preserved c =
-    let after-a = c.before.before.before.before.before in
     let loop-test = c.loop-at-test in
     let loop = c.loop-at in (
       c.put_face.auto.faces ∙ loop.invariant.0,
-      λ r. storing_next _ _ r _ _ _ (loop.invariant.1 r) loop-test.true _ _ _ (read after-a)
+      λ r. storing_next _ _ r _ _ _ (loop.invariant.1 r) loop-test.true _ _ _ (line_got c.args.s.now _ _ _ _ _ _ c.line_at.ensures c.in-Face.is)
           c.put_face.ensures,
     )
 

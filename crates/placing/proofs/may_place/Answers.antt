@@ -1,7 +1,6 @@
 -- `placing::may_place` meets its contract: by cases. Assumes nothing.
 use native.Mathlib.Omega.{arith}
 use Rattle.placing.proofs.Keeping.{known_le, fitting_none, fitting_shared, fitting_apart}
-use borrow.Author.Rules.{rules}
 use Rattle.placing.proofs.may_place.Goals as goal
 
 pub overflow_add-reached : goal.overflow_add-reached

@@ -5,7 +5,6 @@ use borrow.Author.Tests.{eq-eqb, ne_eqb}
 use Rattle.placing.specs.Inner.Placing.{opens}
 use Rattle.placing.proofs.Sides.{or_left, or_right}
 use Rattle.placing.proofs.Keeping.{open_none, open_met, open_flip}
-use borrow.Author.Rules.{rules}
 use Rattle.placing.proofs.open_side.Goals as goal
 
 pub returns-then-ux-eq0 : goal.returns-then-ux-eq0

@@ -2,11 +2,9 @@
 use native.Mathlib.Omega.{arith}
 use mathlib.Core.Bool.{true, false}
 use Prim.Native.Nat.{◌*◌}
-use borrow.Author.Tests.{not-true, not-false}
 use Rattle.placing.specs.Inner.Placing.{opens}
 use Rattle.corners.proofs.Chain.{bound_same}
 use Rattle.placing.proofs.Keeping.{front_same, around_first, around_second, around_third, opens_as}
-use borrow.Author.Rules.{rules}
 use Rattle.placing.proofs.open_sides.Goals as goal
 
 pub returns-then-not-open_side : goal.returns-then-not-open_side
@@ -45,7 +43,7 @@ returns-then-not-open_side-2 c =
     let q = c.open_side-2 in
     around_second a.n a.count a.a a.b a.c (opens a.ua a.ub) (opens a.ub a.uc) (opens a.uc a.ua) start.requires.1
     a.words.now o.new.words q.new.words
-    (opens_as a.n a.count a.a a.b a.words.now o.new.words (opens a.ua a.ub) o.result true (not-false o.result if1.false)
+    (opens_as a.n a.count a.a a.b a.words.now o.new.words (opens a.ua a.ub) o.result true if1.false
     o.ensures)
     (opens_as a.n a.count a.b a.c o.new.words q.new.words (opens a.ub a.uc) q.result false
     (c.if-not-open_side-2.true) q.ensures)
@@ -83,9 +81,9 @@ returns c =
     let s = c.open_side-3 in
     around_third a.n a.count a.a a.b a.c (opens a.ua a.ub) (opens a.ub a.uc) (opens a.uc a.ua) start.requires.1 a.words.now
     o.new.words q.new.words
-    (opens_as a.n a.count a.a a.b a.words.now o.new.words (opens a.ua a.ub) o.result true (not-false o.result if1.false)
+    (opens_as a.n a.count a.a a.b a.words.now o.new.words (opens a.ua a.ub) o.result true if1.false
     o.ensures)
     s.new.words s.result
     (opens_as a.n a.count a.b a.c o.new.words q.new.words (opens a.ub a.uc) q.result true
-    (not-false q.result if2.false) q.ensures)
+    if2.false q.ensures)
     s.ensures

@@ -1,10 +1,7 @@
 -- `placing::place` meets its contract: the laws of a face that fits. Assumes nothing.
-use Prim.Native.Nat.{◌*◌}
 use mathlib.Core.Path.{sym, ◌∙◌}
 use native.Mathlib.Omega.{arith}
-use borrow.Author.Tests.{not-true, not-false}
 use Rattle.placing.proofs.Keeping.{points_below, place_unfit, place_done, marked_bound}
-use borrow.Author.Rules.{rules}
 use Rattle.placing.proofs.place.Goals as goal
 
 pub overflow_cast-ua : goal.overflow_cast-ua
@@ -200,5 +197,5 @@ returns c =
     let m = reach in
     let o = c.open_sides in
     place_done a.n a.count a.i start.requires.1 start.requires.2 a.words.now start.requires.4 a.shared r.new.words o.new.words
-    o.result (sym may-place.ensures ∙ not-false may-place.result if1.false) r.ensures (omega (arith, start.requires.3, r.auto.words))
+    o.result (sym may-place.ensures ∙ if1.false) r.ensures (omega (arith, start.requires.3, r.auto.words))
     m.new.words m.ensures o.ensures

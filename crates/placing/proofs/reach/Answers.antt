@@ -1,7 +1,6 @@
 -- `placing::reach` meets its contract: three stores. Assumes nothing.
 use native.Mathlib.Omega.{arith}
 use lib.ListN.{length-set}
-use borrow.Author.Rules.{rules}
 use Rattle.placing.proofs.reach.Goals as goal
 
 pub bounds-words-n-2 : goal.bounds-words-n-2

@@ -1,5 +1,4 @@
 -- `cloud::point_lines::store_points` meets its contract: it is what one reader leaves. Assumes nothing.
-use borrow.Author.Rules.{rules}
 use Rattle.cloud.proofs.Stored.{carried_all}
 use Rattle.cloud.proofs.point_lines.store_points.Goals as goal
 
