@@ -5,7 +5,6 @@ use Prim.Native.Nat.{ℕ}
 use native.Mathlib.Omega.{arith}
 use lib.Ieee.{Float}
 use lib.ListN.{replicate, take}
-use borrow.Author.Rules.{rules}
 use Rattle.numbers.specs.Rounded.{f32}
 use Rattle.radii.specs.Radii.{densities_from, step_of, sample_count}
 use Rattle.radii.specs.Inner.Steps.{RadiiListed}

@@ -1,7 +1,6 @@
 -- `radii::nearest::around_of` meets its contract. Assumes nothing.
 use mathlib.Core.Path.{ap, ◌∙◌}
 use Prim.Native.Nat.{ℕ}
-use borrow.Author.Rules.{rules}
 use Rattle.grid.specs.declared.Cell.{Cell}
 use Rattle.grid.specs.Grid.{range_of}
 use Rattle.neighbor_squares.specs.declared.Around.{Around}

@@ -2,7 +2,6 @@
 use Prim.Native.Nat.{◌+◌}
 use native.Mathlib.Omega.{arith}
 use lib.Seq.{take-set-le}
-use borrow.Author.Rules.{rules}
 use Rattle.radii.proofs.nearest.clear_tenth.Goals as goal
 
 pub returns : goal.returns

@@ -2,7 +2,6 @@
 use mathlib.Core.Path.{◌≡◌, ap, ◌∙◌}
 use mathlib.Core.List.{map}
 use native.Mathlib.Omega.{arith}
-use borrow.Author.Rules.{rules}
 use Rattle.numbers.specs.Root.{root}
 use Rattle.lists.specs.Lists.{up_from}
 use Rattle.grid.proofs.Near.{indexed_kept}

@@ -1,6 +1,5 @@
 -- `radii::nearest::reach_of` meets its contract. Assumes nothing.
 use native.Mathlib.Omega.{arith}
-use borrow.Author.Rules.{rules}
 use Rattle.sorting.proofs.Percentile.{small}
 use Rattle.radii.proofs.nearest.reach_of.Goals as goal
 

@@ -1,7 +1,5 @@
 -- `radii::nearest::take_roots` meets its contract. Assumes nothing.
-use Prim.Native.Nat.{◌-◌}
-use borrow.Author.Rules.{rules}
-use Rattle.radii.proofs.Summing.{Rooted, roots_start, roots_step, roots_end}
+use Rattle.radii.proofs.Summing.{roots_start, roots_step, roots_end}
 use Rattle.radii.proofs.nearest.take_roots.Goals as goal
 
 pub loop-k-init : goal.loop-k-init

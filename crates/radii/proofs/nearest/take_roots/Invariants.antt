@@ -1,7 +1,6 @@
 -- `radii::nearest::take_roots` meets its contract. Assumes nothing.
 use Prim.Native.Nat.{◌-◌}
-use borrow.Author.Rules.{rules}
-use Rattle.radii.proofs.Summing.{Rooted, roots_start, roots_step, roots_end}
+use Rattle.radii.proofs.Summing.{Rooted}
 use Rattle.radii.proofs.nearest.take_roots.Given as goal
 
 abbrev pub invariant-loop-k : goal.invariant-loop-k
