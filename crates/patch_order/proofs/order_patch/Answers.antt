@@ -13,7 +13,7 @@ use Rattle.patch_order.proofs.order_patch.Goals as goal
 
 -- where no line is malformed
 lines_good : (c : Else-seen-ne0)
-    → Good c.args.point-count (face_file c.args.bytes.now) c.scan_faces-seen.result
+    → Good c.args.point_count (face_file c.args.bytes.now) c.scan_faces-seen.result
 lines_good c = scanned_good _ _ _ c.scan_faces-seen.ensures c.if-seen-ne0.false
 
 pub returns-then-seen-ne0 : goal.returns-then-seen-ne0
