@@ -1,7 +1,6 @@
 -- `ask_at` meets its contract. Assumes nothing.
 use Rattle.nearby.specs.Inner.Ready.{used_in_scene}
 use Rattle.known_radii.proofs.Larger.{silent_nothing}
-use borrow.Author.Rules.{rules}
 use Rattle.known_radii.proofs.ask_at.Goals as goal
 
 pub is_seedless_to-requires : goal.is_seedless_to-requires

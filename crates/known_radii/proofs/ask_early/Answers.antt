@@ -3,7 +3,6 @@ use mathlib.Core.Path.{sym, subst}
 use native.Mathlib.Omega.{arith}
 use lib.Dec.{T}
 use Rattle.nearby.proofs.Keeping.{kept_self}
-use borrow.Author.Rules.{rules}
 use Rattle.known_radii.proofs.ask_early.Goals as goal
 
 pub returns-then-not-asks : goal.returns-then-not-asks

@@ -1,8 +1,6 @@
 -- `is_growing` meets its contract. Assumes nothing.
 use mathlib.Core.Path.{sym, subst}
 use lib.Dec.{T}
-use borrow.Author.Tests.{not-false}
-use borrow.Author.Rules.{rules}
 use Rattle.known_radii.proofs.is_growing.Goals as goal
 
 pub returns-then-not-is_number : goal.returns-then-not-is_number

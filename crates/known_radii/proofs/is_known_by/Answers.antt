@@ -1,8 +1,6 @@
 -- `is_known_by` meets its contract. Assumes nothing.
 use mathlib.Core.Path.{sym, subst}
 use lib.Dec.{T}
-use borrow.Author.Tests.{not-false}
-use borrow.Author.Rules.{rules}
 use Rattle.known_radii.proofs.is_known_by.Goals as goal
 
 pub returns-then-not-told : goal.returns-then-not-told

@@ -1,11 +1,9 @@
 -- `is_seedless_to` meets its contract: what is known at a radius is known at every smaller one. Assumes nothing.
 use mathlib.Core.Path.{sym, subst}
 use lib.Dec.{T}
-use borrow.Author.Tests.{not-false}
 use Rattle.nearby.specs.Inner.Ready.{used_in_scene}
 use Rattle.nearby.proofs.Keeping.{kept_self}
 use Rattle.known_radii.proofs.Larger.{larger_nothing}
-use borrow.Author.Rules.{rules}
 use Rattle.known_radii.proofs.is_seedless_to.Goals as goal
 
 pub returns-then-not-is_growing : goal.returns-then-not-is_growing

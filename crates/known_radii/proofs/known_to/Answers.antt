@@ -2,7 +2,6 @@
 use Rattle.nearby.specs.Inner.Ready.{used_in_scene}
 use Rattle.nearby.proofs.Keeping.{kept_self}
 use Rattle.known_radii.proofs.Larger.{nothing_yet, silent_nothing}
-use borrow.Author.Rules.{rules}
 use Rattle.known_radii.proofs.known_to.Goals as goal
 
 pub returns-then-told : goal.returns-then-told
