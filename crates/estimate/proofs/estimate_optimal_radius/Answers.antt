@@ -5,7 +5,6 @@ use native.Mathlib.Omega.{arith}
 use lib.ListN.{length, replicate}
 use Rattle.numbers.specs.Rounded.{f32}
 use Rattle.estimate.proofs.Outcome.{outcome_refused, outcome_passed, in_domain, cloud_ready}
-use borrow.Author.Rules.{rules}
 use Rattle.estimate.proofs.estimate_optimal_radius.Goals as goal
 
 pub returns-then-refusal-ne0 : goal.returns-then-refusal-ne0

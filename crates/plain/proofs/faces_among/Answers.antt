@@ -1,11 +1,8 @@
 -- `plain::faces_among` meets its contract. The loop's invariant: what is left of the faces leads to all of them.
 -- Assumes nothing.
-use Prim.Native.Nat.{◌-◌, ◌≤◌}
-use lib.ListN.{length, take, drop}
-use mathlib.Core.Path.{◌≡◌, refl}
-use Rattle.plain.specs.Plain.{faces_at}
+use mathlib.Core.Path.{refl}
 use Rattle.plain.proofs.Plain.{at_step_lem, at_end}
-use Rattle.plain.proofs.Laid.{Leads, leads_start, leads_step, leads_end}
+use Rattle.plain.proofs.Laid.{leads_start, leads_step, leads_end}
 use borrow.Author.Rules.{rules}
 use Rattle.plain.proofs.faces_among.Goals as goal
 

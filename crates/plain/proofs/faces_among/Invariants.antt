@@ -2,11 +2,9 @@
 -- Assumes nothing.
 use Prim.Native.Nat.{◌-◌, ◌≤◌}
 use lib.ListN.{length, take, drop}
-use mathlib.Core.Path.{◌≡◌, refl}
+use mathlib.Core.Path.{◌≡◌}
 use Rattle.plain.specs.Plain.{faces_at}
-use Rattle.plain.proofs.Plain.{at_step_lem, at_end}
-use Rattle.plain.proofs.Laid.{Leads, leads_start, leads_step, leads_end}
-use borrow.Author.Rules.{rules}
+use Rattle.plain.proofs.Laid.{Leads}
 use Rattle.plain.proofs.faces_among.Given as goal
 
 abbrev pub invariant-loop-at : goal.invariant-loop-at

@@ -4,7 +4,6 @@ use native.Mathlib.Omega.{arith}
 use Rattle.plain.specs.Plain.{faces_at}
 use Rattle.plain.proofs.Laid.{lays_full, lays_as}
 use Rattle.plain.proofs.Reached.{listed_paired}
-use borrow.Author.Rules.{rules}
 use Rattle.plain.proofs.faces_at.Goals as goal
 
 pub returns-then-count-ge-MAX_TRIANGLES : goal.returns-then-count-ge-MAX_TRIANGLES

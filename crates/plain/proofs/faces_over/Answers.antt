@@ -1,13 +1,10 @@
 -- `plain::faces_over` meets its contract. The loop's invariant: what is left of the faces over a leads to all of them.
 -- Assumes nothing.
-use Prim.Native.Nat.{◌+◌, ◌-◌, ◌≤◌}
-use lib.ListN.{length, take, drop, get_or}
-use lib.Ieee.{nan}
-use mathlib.Core.Path.{◌≡◌, refl}
+use lib.ListN.{get_or}
+use mathlib.Core.Path.{refl}
 use native.Mathlib.Omega.{arith}
-use Rattle.plain.specs.Plain.{faces_over}
 use Rattle.plain.proofs.Plain.{over_step, over_end}
-use Rattle.plain.proofs.Laid.{lays_full, Leads, leads_start, leads_step, leads_end}
+use Rattle.plain.proofs.Laid.{lays_full, leads_start, leads_step, leads_end}
 use borrow.Author.Rules.{rules}
 use Rattle.plain.proofs.faces_over.Goals as goal
 

@@ -3,12 +3,9 @@
 use Prim.Native.Nat.{◌+◌, ◌-◌, ◌≤◌}
 use lib.ListN.{length, take, drop, get_or}
 use lib.Ieee.{nan}
-use mathlib.Core.Path.{◌≡◌, refl}
-use native.Mathlib.Omega.{arith}
+use mathlib.Core.Path.{◌≡◌}
 use Rattle.plain.specs.Plain.{faces_over}
-use Rattle.plain.proofs.Plain.{over_step, over_end}
-use Rattle.plain.proofs.Laid.{lays_full, Leads, leads_start, leads_step, leads_end}
-use borrow.Author.Rules.{rules}
+use Rattle.plain.proofs.Laid.{Leads}
 use Rattle.plain.proofs.faces_over.Given as goal
 
 abbrev pub invariant-loop-k : goal.invariant-loop-k

@@ -1,15 +1,13 @@
 -- `plain::simple_triangulate` meets its contract. The loop's invariant: what is left of the faces leads to all of them.
 -- Assumes nothing.
-use Rattle.lists.specs.Lists.{up_from}
 use lib.ListN.{length}
-use mathlib.Core.Path.{◌≡◌, refl, ap}
-use Prim.Native.Nat.{◌-◌, ◌/◌, ◌≤◌}
+use mathlib.Core.Path.{refl, ap}
+use Prim.Native.Nat.{◌/◌}
 use Rattle.plain.proofs.Plain.{up_start, of_more, of_none}
 use Rattle.plain.specs.Plain.{plain_faces_from, plain_faces}
-use Rattle.plain.specs.Inner.Listed.{RadiusLimited}
 use Rattle.plain.specs.Reached.{plain_reached}
-use Rattle.plain.proofs.Laid.{Leads, leads_start, leads_step, leads_end, lays_whole}
-use Rattle.plain.proofs.Reached.{Tracking, track_start, track_step, track_end}
+use Rattle.plain.proofs.Laid.{leads_start, leads_step, leads_end, lays_whole}
+use Rattle.plain.proofs.Reached.{track_start, track_step, track_end}
 use borrow.Author.Rules.{rules}
 use Rattle.plain.proofs.simple_triangulate.Goals as goal
 

@@ -2,15 +2,12 @@
 -- Assumes nothing.
 use Rattle.lists.specs.Lists.{up_from}
 use lib.ListN.{length}
-use mathlib.Core.Path.{◌≡◌, refl, ap}
+use mathlib.Core.Path.{◌≡◌}
 use Prim.Native.Nat.{◌-◌, ◌/◌, ◌≤◌}
-use Rattle.plain.proofs.Plain.{up_start, of_more, of_none}
-use Rattle.plain.specs.Plain.{plain_faces_from, plain_faces}
+use Rattle.plain.specs.Plain.{plain_faces_from}
 use Rattle.plain.specs.Inner.Listed.{RadiusLimited}
-use Rattle.plain.specs.Reached.{plain_reached}
-use Rattle.plain.proofs.Laid.{Leads, leads_start, leads_step, leads_end, lays_whole}
-use Rattle.plain.proofs.Reached.{Tracking, track_start, track_step, track_end}
-use borrow.Author.Rules.{rules}
+use Rattle.plain.proofs.Laid.{Leads}
+use Rattle.plain.proofs.Reached.{Tracking}
 use Rattle.plain.proofs.simple_triangulate.Given as goal
 
 abbrev pub invariant-loop-i : goal.invariant-loop-i

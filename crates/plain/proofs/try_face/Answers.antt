@@ -1,10 +1,8 @@
 -- `plain::try_face` meets its contract. Assumes nothing.
 use native.Mathlib.Omega.{arith}
-use borrow.Author.Tests.{not-true, not-false}
 use mathlib.Core.Path.{◌∙◌}
 use Rattle.plain.proofs.Laid.{lays_full, lays_none, lays_one}
 use Rattle.plain.proofs.Plain.{valid_is}
-use borrow.Author.Rules.{rules}
 use Rattle.plain.proofs.try_face.Goals as goal
 
 pub returns-then-count-ge-MAX_TRIANGLES : goal.returns-then-count-ge-MAX_TRIANGLES

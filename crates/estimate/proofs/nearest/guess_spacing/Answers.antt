@@ -1,6 +1,4 @@
-use Prim.Native.Nat.{◌-◌, ◌≤◌}
 use native.Mathlib.Omega.{arith}
-use borrow.Author.Rules.{rules}
 use Rattle.sorting.proofs.Percentile.{small}
 use Rattle.estimate.proofs.nearest.guess_spacing.Goals as goal
 

@@ -1,11 +1,8 @@
 -- A look that finds a square not above its limit decides, and the last one always does. Assumes nothing.
-use mathlib.Core.Path.{◌≡◌, refl, sym, ◌∙◌, subst}
-use Prim.Native.Nat.{◌-◌, ◌≤◌}
+use mathlib.Core.Path.{refl, sym, ◌∙◌, subst}
 use lib.Dec.{T}
-use lib.ListN.{length}
 use lib.Ieee.{Float, le}
 use borrow.Author.Rules.{rules}
-use Rattle.spatial_hash.specs.Inner.Near.{HashedAll}
 use Rattle.estimate.proofs.nearest.least_distance.Goals as goal
 
 pub loop-tries-init : goal.loop-tries-init

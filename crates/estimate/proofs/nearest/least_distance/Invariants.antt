@@ -1,10 +1,7 @@
 -- A look that finds a square not above its limit decides, and the last one always does. Assumes nothing.
-use mathlib.Core.Path.{◌≡◌, refl, sym, ◌∙◌, subst}
+use mathlib.Core.Path.{◌≡◌}
 use Prim.Native.Nat.{◌-◌, ◌≤◌}
-use lib.Dec.{T}
 use lib.ListN.{length}
-use lib.Ieee.{Float, le}
-use borrow.Author.Rules.{rules}
 use Rattle.spatial_hash.specs.Inner.Near.{HashedAll}
 use Rattle.estimate.proofs.nearest.least_distance.Given as goal
 

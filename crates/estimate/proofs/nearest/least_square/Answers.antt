@@ -1,10 +1,9 @@
 -- What is in hand, with the points to come, is always the whole least square. Assumes nothing.
-use Prim.Native.Nat.{◌+◌, ◌-◌, ◌*◌, ◌≤◌}
-use mathlib.Core.Path.{◌≡◌, sym, ap, ◌∙◌}
-use mathlib.Core.Bool.{false}
+use Prim.Native.Nat.{◌+◌, ◌*◌}
+use mathlib.Core.Path.{sym, ap, ◌∙◌}
 use native.Mathlib.Omega.{arith}
 use lib.ListN.{take, drop}
-use lib.Ieee.{Float, inf}
+use lib.Ieee.{Float}
 use borrow.Author.Rules.{rules}
 use Rattle.estimate.specs.Inner.Squares.{least_square}
 use Rattle.lists.proofs.Members.{below_part}

@@ -1,14 +1,10 @@
 -- What is in hand, with the points to come, is always the whole least square. Assumes nothing.
-use Prim.Native.Nat.{◌+◌, ◌-◌, ◌*◌, ◌≤◌}
-use mathlib.Core.Path.{◌≡◌, sym, ap, ◌∙◌}
+use Prim.Native.Nat.{◌-◌, ◌*◌, ◌≤◌}
+use mathlib.Core.Path.{◌≡◌}
 use mathlib.Core.Bool.{false}
-use native.Mathlib.Omega.{arith}
 use lib.ListN.{take, drop}
-use lib.Ieee.{Float, inf}
-use borrow.Author.Rules.{rules}
+use lib.Ieee.{inf}
 use Rattle.estimate.specs.Inner.Squares.{least_square}
-use Rattle.lists.proofs.Members.{below_part}
-use Rattle.estimate.proofs.Looking.{square_step, square_end}
 use Rattle.estimate.proofs.nearest.least_square.Given as goal
 
 abbrev pub invariant-loop-k : goal.invariant-loop-k

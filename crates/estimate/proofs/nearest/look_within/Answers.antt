@@ -4,7 +4,6 @@ use native.Mathlib.Omega.{arith}
 use Rattle.vector.specs.declared.Point3f.{Point3f}
 use Rattle.vector.specs.Inner.Numbers.{Finite}
 use Rattle.estimate.proofs.Looking.{looked}
-use borrow.Author.Rules.{rules}
 use Rattle.estimate.proofs.nearest.look_within.Goals as goal
 
 pub gather_within-found-requires : goal.gather_within-found-requires

@@ -7,7 +7,6 @@ use lib.Dec.{T}
 use lib.Ieee.{binary32, fits, of_bits, to_bits}
 use lib.Ieee.Bits.{of_bits-fits, nan_bits_above}
 use borrow.Author.Tests.{le-ltb}
-use borrow.Author.Rules.{rules}
 use Rattle.numbers.proofs.RootSpecial.{not_self}
 use Rattle.plain.proofs.acceptance.guess_root.Goals as goal
 

@@ -4,7 +4,6 @@ use lib.Dec.{T}
 use lib.Ieee.{Float, le}
 use Rattle.plain.specs.Inner.Bounds.{thin}
 use Rattle.plain.proofs.Judged.{thin_unsound, holds}
-use borrow.Author.Rules.{rules}
 use Rattle.plain.proofs.acceptance.is_sound.Goals as goal
 
 pub is_sound_long-requires : goal.is_sound_long-requires

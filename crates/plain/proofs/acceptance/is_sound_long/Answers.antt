@@ -3,7 +3,6 @@ use mathlib.Core.Path.{sym}
 use lib.Ieee.{binary32}
 use lib.Ieee.Fits.{mul-fits}
 use Rattle.plain.proofs.Judged.{narrow_given, wide_given}
-use borrow.Author.Rules.{rules}
 use Rattle.plain.proofs.acceptance.is_sound_long.Goals as goal
 
 pub returns-then-is_narrow : goal.returns-then-is_narrow

@@ -1,7 +1,6 @@
 -- `plain::acceptance::is_sound_measured` meets its contract. Assumes nothing.
 use mathlib.Core.Path.{sym}
 use Rattle.plain.specs.Plain.{sound}
-use borrow.Author.Rules.{rules}
 use Rattle.plain.proofs.acceptance.is_sound_measured.Goals as goal
 
 pub returns-then-normal_length : goal.returns-then-normal_length

@@ -1,5 +1,4 @@
 -- `plain::acceptance::normal_length` meets its contract. Assumes nothing.
-use borrow.Author.Rules.{rules}
 use Rattle.plain.proofs.acceptance.normal_length.Goals as goal
 
 pub returns : goal.returns

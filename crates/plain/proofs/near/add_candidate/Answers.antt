@@ -1,7 +1,6 @@
 -- `plain::near::add_candidate` meets its contract. Assumes nothing.
 use Rattle.plain.proofs.Judged.{holds}
 use Rattle.plain.proofs.Listing.{far_none, apart_is, near_is, adds_none, adds_one}
-use borrow.Author.Rules.{rules}
 use Rattle.plain.proofs.near.add_candidate.Goals as goal
 
 pub returns-then-s-limits : goal.returns-then-s-limits
