@@ -18,8 +18,8 @@ pub struct OrderCheck {
 // Sets the words from one place to another to zeros.
 fn clear_part(words: &mut [u32], from: usize, to: usize)
     requires { (from ≤ to) × (to ≤ length words.old) }
-    ensures by_index { (k : ℕ) → from ≤ k → k < to → get_or words.new k 0 ≡ 0 }
-    ensures by_index_2 { (k : ℕ) → (k < from) ⊎ (to ≤ k)
+    ensures zeros { (k : ℕ) → from ≤ k → k < to → get_or words.new k 0 ≡ 0 }
+    ensures outside { (k : ℕ) → (k < from) ⊎ (to ≤ k)
         → get_or words.new k 0 ≡ get_or words.old k 0 }
 {
     let mut k: usize = from;

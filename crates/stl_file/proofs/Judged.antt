@@ -1,10 +1,10 @@
 -- The answers, one law for each way out. Assumes nothing.
 use mathlib.Core.Path.{◌≡◌, refl, sym, ap, ◌∙◌}
-use mathlib.Core.Bool.{Bool, true, false, not, cond}
+use mathlib.Core.Bool.{Bool, true, false, cond}
 use mathlib.Core.List.{List, ◌++◌}
 use Prim.Native.Nat.{ℕ, ◌+◌, ◌*◌, ◌/◌, ◌%◌, ◌≤◌, ◌<◌}
 use native.Mathlib.Omega.{arith}
-use borrow.Author.Tests.{le-leb, lt-leb, lt-ltb, le-ltb, eq-eqb, ne_eqb, not-true, not-false}
+use borrow.Author.Tests.{le-leb, lt-leb, lt-ltb, le-ltb, eq-eqb, ne_eqb}
 use lib.Dec.{T, leb, ltb, eqb}
 use lib.ListN.{length, get_or, drop}
 use lib.Seq.{sets, sets-eq}
@@ -66,13 +66,13 @@ module _ (points : List Float) (faces bytes : List ℕ) (told : StlWritten) (hel
           f : ltb (first_outside farthest points) (length points / 3) ≡ false
           f = ap (λ (k : ℕ). ltb k (length points / 3)) (sym first) ∙ le-ltb bad (length points / 3) inside
 
-          pub missing : told ≡ not_written 14 0 → not named ≡ true → Wrote points faces bytes told bytes
+          pub missing : told ≡ not_written 14 0 → named ≡ false → Wrote points faces bytes told bytes
           unfolding stl_outcome
-          missing e h = let t : all_below (length points / 3) faces ≡ false = sym test ∙ not-true named h in refused 14 0 e (rw (a, b, d, f, t)) refl
+          missing e h = let t : all_below (length points / 3) faces ≡ false = sym test ∙ h in refused 14 0 e (rw (a, b, d, f, t)) refl
 
-          module _ (all : not named ≡ false) where
+          module _ (all : named ≡ true) where
             g : all_below (length points / 3) faces ≡ true
-            g = sym test ∙ not-false named all
+            g = sym test ∙ all
 
             pub names : NamesPoints points faces
             names = below_known points faces g

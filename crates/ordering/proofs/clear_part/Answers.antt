@@ -1,9 +1,8 @@
 -- `ordering::clear_part` meets its contract. The loop's invariant: the words up to k are zeros, and nothing outside the
 -- part changed. Assumes nothing.
-use Rattle.ordering.proofs.Slices.{Clearing, clearing_start, clearing_step}
-use lib.ListN.{length, length-set}
-use mathlib.Core.Path.{◌≡◌, refl}
-use Prim.Native.Nat.{◌-◌, ◌≤◌}
+use Rattle.ordering.proofs.Slices.{clearing_start, clearing_step}
+use lib.ListN.{length-set}
+use mathlib.Core.Path.{refl}
 use native.Mathlib.Omega.{arith}
 use borrow.Author.Rules.{rules}
 use Rattle.ordering.proofs.clear_part.Goals as goal
@@ -28,4 +27,4 @@ shape_of-words c = c.loop-k.invariant.2
 pub returns : goal.returns
 returns c =
     let l = c.loop-k in
-    ((λ k a b. l.invariant.3.zeros k a (omega arith)), l.invariant.3.outside)
+    record { zeros = λ k a b. l.invariant.3.zeros k a (omega arith); outside = l.invariant.3.outside }

@@ -1,11 +1,9 @@
 -- `ordering::clear_part` meets its contract. The loop's invariant: the words up to k are zeros, and nothing outside the
 -- part changed. Assumes nothing.
-use Rattle.ordering.proofs.Slices.{Clearing, clearing_start, clearing_step}
-use lib.ListN.{length, length-set}
-use mathlib.Core.Path.{◌≡◌, refl}
+use Rattle.ordering.proofs.Slices.{Clearing}
+use lib.ListN.{length}
+use mathlib.Core.Path.{◌≡◌}
 use Prim.Native.Nat.{◌-◌, ◌≤◌}
-use native.Mathlib.Omega.{arith}
-use borrow.Author.Rules.{rules}
 use Rattle.ordering.proofs.clear_part.Given as goal
 
 abbrev pub invariant-loop-k : goal.invariant-loop-k

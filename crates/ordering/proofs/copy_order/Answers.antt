@@ -2,10 +2,9 @@
 -- nothing.
 use Rattle.regions.specs.Inner.Ordering.{placed_at}
 use Rattle.ordering.proofs.Slices.{paste_step, paste_end}
-use lib.Seq.{paste, paste-zero}
-use lib.ListN.{length, length-set, drop}
-use mathlib.Core.Path.{◌≡◌, refl}
-use Prim.Native.Nat.{◌-◌, ◌≤◌}
+use lib.Seq.{paste-zero}
+use lib.ListN.{length-set, drop}
+use mathlib.Core.Path.{refl}
 use native.Mathlib.Omega.{arith}
 use borrow.Author.Rules.{rules}
 use Rattle.ordering.proofs.copy_order.Goals as goal

@@ -1,13 +1,10 @@
 -- `ordering::copy_order` meets its contract. The loop's invariant: the first j entries are the order's. Assumes
 -- nothing.
 use Rattle.regions.specs.Inner.Ordering.{placed_at}
-use Rattle.ordering.proofs.Slices.{paste_step, paste_end}
-use lib.Seq.{paste, paste-zero}
-use lib.ListN.{length, length-set, drop}
-use mathlib.Core.Path.{◌≡◌, refl}
+use lib.Seq.{paste}
+use lib.ListN.{length, drop}
+use mathlib.Core.Path.{◌≡◌}
 use Prim.Native.Nat.{◌-◌, ◌≤◌}
-use native.Mathlib.Omega.{arith}
-use borrow.Author.Rules.{rules}
 use Rattle.ordering.proofs.copy_order.Given as goal
 
 abbrev pub invariant-loop-j : goal.invariant-loop-j

@@ -1,11 +1,9 @@
 -- `ordering::order_faces` meets its contract: none is placed, then all are, or one does not fit. Assumes nothing.
 use Rattle.ordering.proofs.Slices.{start_bound, start_faces, start_kept, ordered_yes, ordered_no}
-use borrow.Author.Tests.{not-true, not-false}
 use lib.ListN.{get_or}
 use native.Mathlib.Omega.{arith}
 use mathlib.Core.Logic.{inl}
 use Prim.Native.Nat.{◌+◌, ◌*◌}
-use borrow.Author.Rules.{rules}
 use Rattle.ordering.proofs.order_faces.Goals as goal
 
 pub link_corners-requires : goal.link_corners-requires
@@ -17,8 +15,8 @@ link_corners-requires c =
       p.0,
       p.1,
       omega (arith, p.3, w.auto.words),
-      (λ s l. rw (w.ensures.1 s (inl (omega (arith, p.1)))) (p.4 s l)),
-      λ x l. w.ensures.0 (6 * a.n + x)
+      (λ s l. rw (w.ensures.outside s (inl (omega (arith, p.1)))) (p.4 s l)),
+      λ x l. w.ensures.zeros (6 * a.n + x)
           (omega arith) (omega arith),
     )
 
@@ -36,7 +34,7 @@ place_all-found-requires c =
       p.1,
       omega (arith, p.3, w.auto.words, v.auto.words, t.auto.words),
       start_bound a.n a.count p.1 a.words.now w.new.words
-          v.new.words t.new.words w.ensures.0 w.ensures.1 v.ensures t.ensures,
+          v.new.words t.new.words w.ensures.zeros w.ensures.outside v.ensures t.ensures,
     )
 
 pub returns-then-not-ok : goal.returns-then-not-ok
@@ -54,9 +52,9 @@ returns-then-not-ok c =
     λ fs told. ordered_no a.n a.count fs told.many s.result.seeds s.new.words a.order.now s.result.ok
     (c.if-not-ok.true)
     (s.ensures.finds (λ k. get_or w.new.words k 0) fs told.many told.different
-    (start_faces a.n a.count p.1 a.words.now w.new.words v.new.words t.new.words w.ensures.0 w.ensures.1 v.ensures
+    (start_faces a.n a.count p.1 a.words.now w.new.words v.new.words t.new.words w.ensures.zeros w.ensures.outside v.ensures
     t.ensures fs told)
-    (start_kept a.n a.count p.1 a.words.now w.new.words v.new.words t.new.words w.ensures.0 w.ensures.1 v.ensures
+    (start_kept a.n a.count p.1 a.words.now w.new.words v.new.words t.new.words w.ensures.zeros w.ensures.outside v.ensures
     t.ensures fs told))
 
 pub returns : goal.returns
@@ -75,9 +73,9 @@ returns c =
     let s = place-all in
     let o = c.copy_order in
     λ fs told. ordered_yes a.n a.count fs told.many s.result.seeds s.new.words a.order.now o.new.order
-    (omega (arith, p.1, p.3, w.auto.words, v.auto.words, t.auto.words, s.auto.words)) s.result.ok (not-false s.result.ok if1.false)
+    (omega (arith, p.1, p.3, w.auto.words, v.auto.words, t.auto.words, s.auto.words)) s.result.ok if1.false
     (s.ensures.finds (λ k. get_or w.new.words k 0) fs told.many told.different
-    (start_faces a.n a.count p.1 a.words.now w.new.words v.new.words t.new.words w.ensures.0 w.ensures.1 v.ensures
+    (start_faces a.n a.count p.1 a.words.now w.new.words v.new.words t.new.words w.ensures.zeros w.ensures.outside v.ensures
     t.ensures fs told)
-    (start_kept a.n a.count p.1 a.words.now w.new.words v.new.words t.new.words w.ensures.0 w.ensures.1 v.ensures
+    (start_kept a.n a.count p.1 a.words.now w.new.words v.new.words t.new.words w.ensures.zeros w.ensures.outside v.ensures
     t.ensures fs told)) o.ensures

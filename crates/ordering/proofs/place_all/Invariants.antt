@@ -1,18 +1,10 @@
 -- `ordering::place_all` meets its contract. The loop's invariant: for any faces that the words tell, the greedy order
 -- so far. Assumes nothing.
-use Rattle.regions.specs.Inner.Ordering.{tree_at, placed_at}
-use Rattle.ordering.proofs.Running.{Runs, runs_start, runs_astray, runs_refused, runs_step, runs_end, places_as, placed_bound}
-use Rattle.ordering.specs.Inner.Ordering.{least_face}
+use Rattle.ordering.proofs.Running.{Runs}
 use Rattle.corners.specs.Corners.{Bound}
-use Rattle.lists.proofs.Counts.{bit_le}
-use borrow.Author.Tests.{not-true, not-false}
-use lib.ListN.{length, set, get_or, length-set}
-use lib.Dec.{ltb}
-use mathlib.Core.Bool.{true, false, not}
-use mathlib.Core.Path.{◌≡◌, refl, ap, ◌∙◌}
-use Prim.Native.Nat.{◌+◌, ◌-◌, ◌*◌, ◌≤◌}
-use native.Mathlib.Omega.{arith}
-use borrow.Author.Rules.{rules}
+use lib.ListN.{length}
+use mathlib.Core.Path.{◌≡◌}
+use Prim.Native.Nat.{◌-◌, ◌*◌, ◌≤◌}
 use Rattle.ordering.proofs.place_all.Given as goal
 
 abbrev pub invariant-loop-k : goal.invariant-loop-k

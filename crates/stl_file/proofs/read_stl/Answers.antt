@@ -1,7 +1,6 @@
 -- `read_stl` meets its contract: one law for each way out. Assumes nothing.
 use mathlib.Core.Path.{refl}
 use Rattle.stl_file.proofs.Judged.{no_head, wrong_length, no_room_lem, got}
-use borrow.Author.Rules.{rules}
 use Rattle.stl_file.proofs.read_stl.Goals as goal
 
 pub returns-then-bytes-lt84 : goal.returns-then-bytes-lt84

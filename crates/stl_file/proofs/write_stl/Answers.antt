@@ -1,37 +1,32 @@
 -- `write_stl` meets its contract: one law for each way out. Assumes nothing.
 use mathlib.Core.Path.{refl}
 use Rattle.stl_file.proofs.Judged.{points_odd, faces_odd, many, outside, missing, names, short, written}
-use borrow.Author.Rules.{rules}
 use Rattle.stl_file.proofs.write_stl.Goals as goal
 
 pub returns-then-points-ne0 : goal.returns-then-points-ne0
 returns-then-points-ne0 c =
-    let shared-slice-known = c.type_inv.points in
     let start = c in
-    points_odd start.args.points.now start.args.faces.now start.args.bytes.now _ shared-slice-known.given c.not_written.ensures
+    points_odd start.args.points.now start.args.faces.now start.args.bytes.now _ c.type_inv.points c.not_written.ensures
     c.if-points-ne0.true
 
 pub returns-then-faces-ne0 : goal.returns-then-faces-ne0
 returns-then-faces-ne0 c =
-    let shared-slice-known = c.type_inv.points in
     let start = c in
-    faces_odd start.args.points.now start.args.faces.now start.args.bytes.now _ shared-slice-known.given c.if-points-ne0.false
+    faces_odd start.args.points.now start.args.faces.now start.args.bytes.now _ c.type_inv.points c.if-points-ne0.false
     c.not_written-then-faces-ne0.ensures c.if-faces-ne0.true
 
 pub returns-then-n-gt1000000 : goal.returns-then-n-gt1000000
 returns-then-n-gt1000000 c =
-    let shared-slice-known = c.type_inv.points in
     let start = c in
-    many start.args.points.now start.args.faces.now start.args.bytes.now _ shared-slice-known.given c.if-points-ne0.false
+    many start.args.points.now start.args.faces.now start.args.bytes.now _ c.type_inv.points c.if-points-ne0.false
     c.if-faces-ne0.false c.not_written-then-n-gt1000000.ensures c.if-n-gt1000000.true
 
 pub returns-then-bad-points : goal.returns-then-bad-points
 returns-then-bad-points c =
     let if2 = c.if-faces-ne0 in
     let if1 = c.if-points-ne0 in
-    let shared-slice-known = c.type_inv.points in
     let start = c in
-    outside start.args.points.now start.args.faces.now start.args.bytes.now _ shared-slice-known.given if1.false if2.false
+    outside start.args.points.now start.args.faces.now start.args.bytes.now _ c.type_inv.points if1.false if2.false
     c.if-n-gt1000000.false _ c.first_outside-bad.ensures c.not_written-then-bad-points.ensures c.if-bad-points.true
 
 pub returns-then-not-names_points : goal.returns-then-not-names_points
@@ -40,9 +35,8 @@ returns-then-not-names_points c =
     let if3 = c.if-n-gt1000000 in
     let if2 = c.if-faces-ne0 in
     let if1 = c.if-points-ne0 in
-    let shared-slice-known = c.type_inv.points in
     let start = c in
-    missing start.args.points.now start.args.faces.now start.args.bytes.now _ shared-slice-known.given if1.false if2.false if3.false _
+    missing start.args.points.now start.args.faces.now start.args.bytes.now _ c.type_inv.points if1.false if2.false if3.false _
     first-outside.ensures c.if-bad-points.false _ c.names_points.ensures c.not_written-then-not-names_points.ensures
     c.if-not-names_points.true
 
@@ -53,9 +47,8 @@ returns-then-bytes-n c =
     let if3 = c.if-n-gt1000000 in
     let if2 = c.if-faces-ne0 in
     let if1 = c.if-points-ne0 in
-    let shared-slice-known = c.type_inv.points in
     let start = c in
-    short start.args.points.now start.args.faces.now start.args.bytes.now _ shared-slice-known.given if1.false if2.false if3.false _
+    short start.args.points.now start.args.faces.now start.args.bytes.now _ c.type_inv.points if1.false if2.false if3.false _
     first-outside.ensures if4.false _ c.names_points.ensures c.if-not-names_points.false c.not_written-then-bytes-n.ensures
     c.if-bytes-n.true
 
@@ -66,12 +59,11 @@ put_file-requires c =
     let if3 = c.if-n-gt1000000 in
     let if2 = c.if-faces-ne0 in
     let if1 = c.if-points-ne0 in
-    let shared-slice-known = c.type_inv.points in
     let start = c in (
       c.if-bytes-n.false,
       if3.false,
       names start.args.points.now start.args.faces.now start.args.bytes.now
-          (record { answer = 0; detail = 0; length = 0 }) shared-slice-known.given if1.false if2.false if3.false _ first-outside.ensures
+          (record { answer = 0; detail = 0; length = 0 }) c.type_inv.points if1.false if2.false if3.false _ first-outside.ensures
           if4.false _
           c.names_points.ensures c.if-not-names_points.false,
     )
@@ -86,7 +78,6 @@ returns c =
     let if3 = c.if-n-gt1000000 in
     let if2 = c.if-faces-ne0 in
     let if1 = c.if-points-ne0 in
-    let shared-slice-known = c.type_inv.points in
     let start = c in
-    written start.args.points.now start.args.faces.now start.args.bytes.now _ shared-slice-known.given if1.false if2.false if3.false _
+    written start.args.points.now start.args.faces.now start.args.bytes.now _ c.type_inv.points if1.false if2.false if3.false _
     first-outside.ensures if4.false _ names-points.ensures if5.false _ if6.false refl c.put_file.ensures

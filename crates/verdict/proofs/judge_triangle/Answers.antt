@@ -1,5 +1,4 @@
 -- `verdict::judge_triangle` meets its contract. Assumes nothing.
-use borrow.Author.Rules.{rules}
 use Rattle.verdict.proofs.Checks.{judged_refused, judged_told, judged_inside}
 use Rattle.verdict.specs.Judged.{verdict_at}
 use Rattle.verdict.proofs.judge_triangle.Goals as goal

@@ -1,5 +1,4 @@
 -- `verdict::stretch` meets its contract. Assumes nothing.
-use borrow.Author.Rules.{rules}
 use Rattle.verdict.proofs.stretch.Goals as goal
 
 pub returns : goal.returns

@@ -1,6 +1,5 @@
 -- `verdict::verdict_of` meets its contract: each way out is a case of `verdict_of`. Assumes nothing.
 use Rattle.verdict.specs.Verdict.{verdict_of}
-use borrow.Author.Rules.{rules}
 use Rattle.verdict.proofs.verdict_of.Goals as goal
 
 pub returns-then-area : goal.returns-then-area

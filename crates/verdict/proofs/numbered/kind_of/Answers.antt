@@ -1,5 +1,4 @@
 -- `verdict::numbered::kind_of` meets its contract. Assumes nothing.
-use borrow.Author.Rules.{rules}
 use Rattle.verdict.specs.Verdict.{kind_of, measured_of}
 use Rattle.verdict.specs.Numbered.{verdict_numbers}
 use Rattle.verdict.proofs.numbered.kind_of.Goals as goal

@@ -1,5 +1,4 @@
 -- `verdict::numbered::numbered` meets its contract. Assumes nothing.
-use borrow.Author.Rules.{rules}
 use mathlib.Core.Path.{sym, ap, ◌∙◌}
 use Rattle.verdict.specs.Numbered.{verdict_numbers}
 use Rattle.verdict.proofs.numbered.numbered.Goals as goal

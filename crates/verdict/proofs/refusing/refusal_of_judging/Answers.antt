@@ -1,5 +1,4 @@
 -- `verdict::refusing::refusal_of_judging` meets its contract. Assumes nothing.
-use borrow.Author.Rules.{rules}
 use Rattle.verdict.proofs.Checks.{judge_first, judge_numbers}
 use Rattle.verdict.proofs.refusing.refusal_of_judging.Goals as goal
 
