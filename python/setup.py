@@ -1,9 +1,10 @@
 """Builds the shared library of the port into the package; everything else stands in pyproject.toml.
 
-With YARROWBLEAT_ARCHIVE set that static library is taken. Otherwise `rt staticlib exports` proves and builds it first.
+With YARROWBLEAT_ARCHIVE set that static library is taken. Otherwise `tools/build exports` proves and builds it first.
 """
 import os
 import re
+import shutil
 import subprocess
 import sys
 import tempfile
@@ -33,10 +34,9 @@ def archive() -> Path:
     named = os.environ.get("YARROWBLEAT_ARCHIVE")
     if named:
         return Path(named).resolve()
-    try:
-        subprocess.run(["rt", "staticlib", "exports"], cwd=ROOT, check=True)
-    except FileNotFoundError:
+    if shutil.which("rt") is None:
         sys.exit("set YARROWBLEAT_ARCHIVE to libyarrowbleat.a, or put `rt` on the path: there is no library to link")
+    subprocess.run([ROOT / "tools/build", "exports"], check=True)
     return ROOT / "target/staticlib/libexports.a"
 
 

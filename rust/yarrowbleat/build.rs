@@ -40,9 +40,9 @@ fn main() {
 
 /// The repository's library, not older than any source.
 fn from_sources(root: &Path) -> PathBuf {
-    let sources = [root.join("crates.txt"), root.join("crates")];
     let archive = root.join("target/staticlib/libexports.a");
-    if !sources.iter().all(|path| path.exists()) {
+    let sources = sources(root);
+    if sources.len() < 2 || !sources[0].exists() {
         fail(&format!("set {VARIABLE} to libyarrowbleat.a: this crate stands in no repository that could build it"));
     }
     sources.iter().for_each(|path| println!("cargo:rerun-if-changed={}", path.display()));
@@ -54,14 +54,23 @@ fn from_sources(root: &Path) -> PathBuf {
     archive
 }
 
+/// The list of the crates and the folders of their sources; what a check leaves beside these, in `out`, is none.
+fn sources(root: &Path) -> Vec<PathBuf> {
+    let crates = fs::read_dir(root.join("crates")).into_iter().flatten().flatten().map(|entry| entry.path());
+    let folders = crates.flat_map(|path| ["src", "specs", "proofs"].map(|part| path.join(part)));
+    [root.join("crates.txt")].into_iter().chain(folders.filter(|path| path.exists())).collect()
+}
+
 fn build(root: &Path, archive: &Path) {
-    println!("cargo:warning=the library was missing or older than its Rattle sources: `rt staticlib exports` proves");
+    println!("cargo:warning=the library was missing or older than its Rattle sources: `tools/build exports` proves");
     println!("cargo:warning=and builds it, which takes minutes where much has changed, seconds where little has");
-    match Command::new("rt").args(["staticlib", "exports"]).current_dir(root).status() {
+    match Command::new(root.join("tools/build")).arg("exports").status() {
         Ok(status) if status.success() => {}
-        Ok(_) => fail("`rt staticlib exports` failed: the library would be older than its sources"),
-        Err(error) => fail(&format!(
-            "the library is missing or older than its sources, and `rt` can't be run ({error}): {VARIABLE} may name one"
+        Ok(status) if status.code() != Some(127) => {
+            fail("`tools/build exports` failed: the library would be older than its sources")
+        }
+        _ => fail(&format!(
+            "the library is missing or older than its sources, and `rt` can't be run: {VARIABLE} may name one"
         )),
     }
     // What was proved before is not built again: the library is then as new as its sources are.
