@@ -7,6 +7,7 @@ use mathlib.Core.Option.{Option, none, some}
 use native.Mathlib.Omega.{arith}
 use Rattle.patch.specs.Search.{Floats, is_second, third_of}
 use Rattle.nearby.proofs.Laws.{chosen, passed}
+use Rattle.seed.specs.declared.Seed.{Seed}
 use Rattle.seed.specs.declared.Seed.TheVariants.{Triangle, Nothing}
 use Rattle.seed.specs.Inner.Found.{seed_found}
 use Rattle.seedless.specs.Inner.Parts.{with_second}
@@ -21,6 +22,11 @@ else_hit (some t) y a b c h = h
 pub else_miss : (x y : Option (ℕ × ℕ × ℕ)) → seed_found x ≡ Nothing → or_else x y ≡ y
 else_miss none y h = refl
 else_miss (some t) y h = absurd (let z : ◌≡◌ {A = ℕ} 0 1 = cc in omega arith)
+
+-- what is no triangle is nothing
+pub no_triangle : (f : Seed) → ((a b c : ℕ) → f ≡ Triangle a b c → ⊥) → f ≡ Nothing
+no_triangle (Triangle a b c) h = absurd (h a b c refl)
+no_triangle Nothing h = refl
 
 -- ---- the second point
 module _ {R : Type 0} (floats : Floats R) (r : R) (used : List ℕ) where

@@ -9,7 +9,6 @@ use Rattle.seedless.proofs.Nothing.{refuses_all_nothing}
 use Rattle.known_radii.proofs.Larger.{nothing_yet}
 use Rattle.seed.proofs.Known.{nothing_kept, nothing_back}
 use Rattle.seed.proofs.WithArea.{seed_area}
-use borrow.Author.Rules.{rules}
 use Rattle.seed.proofs.find_seed_triangle.Goals as goal
 
 pub returns-then-t : goal.returns-then-t

@@ -1,19 +1,16 @@
 -- `find_from` meets its contract. The loop's invariant: the points below i have been tried, `left` more unused ones may
 -- be, and no three of which one is from lo on and below i make a seed. Assumes nothing.
-use Prim.Native.Nat.{◌-◌, ◌≤◌}
 use mathlib.Core.Path.{refl, sym, ap, ◌∙◌}
 use native.Mathlib.Omega.{arith}
-use borrow.Author.Tests.{not-true, not-false}
 use Rattle.lists.proofs.Bools.{true_not_false}
 use Rattle.nearby.specs.Inner.Ready.{used_in_scene}
 use Rattle.nearby.proofs.Keeping.{kept_on}
+use Rattle.seed.proofs.Laws.{no_triangle}
 use Rattle.seed.specs.Inner.Found.{seed_found}
-use Rattle.seed.proofs.State.{Seeking, seek_start, seek_end, seek_spent, seek_used, seek_kept, seek_hit, seek_miss}
-use Rattle.seedless.specs.Inner.Seedless.{SeedlessBetween}
+use Rattle.seed.proofs.State.{seek_start, seek_end, seek_spent, seek_used, seek_kept, seek_hit, seek_miss}
 use Rattle.seedless.proofs.Threes.{seedless_used, unused_kept}
 use Rattle.seed.proofs.Known.{seedless_on, unused_back, nothing_back, told_nothing}
 use Rattle.seed.proofs.First.{before_kept}
-use borrow.Author.Rules.{rules}
 use Rattle.seed.proofs.triples.find_from.Goals as goal
 
 pub loop-i-init : goal.loop-i-init
@@ -124,7 +121,7 @@ returns-in-Triangle c =
     let q = seek_kept l.invariant.0 e.new.w e.ensures.1 e.auto.w in
     let f = try-first in
     let free = unused_kept {s = a.p.scene} l.i e.ensures.1 (sym u.ensures ∙ if2.false) in (
-      seek_hit q loop-test.true if1.false free f.ensures.0.same c.found.given.1,
+      seek_hit q loop-test.true if1.false free f.ensures.0.same c.in-Triangle.is,
       λ h. absurd (true_not_false h refl),
       kept_on q.kept f.ensures.1,
     )
@@ -160,7 +157,7 @@ loop-i-preserved c =
     let f = try-first in
     let m = c.known_from-lo in
     let free = unused_kept {s = a.p.scene} l.i e.ensures.1 (sym u.ensures ∙ if2.false) in (
-      seek_miss q f.new.w loop-test.true if1.false free f.ensures.0.same c.enum_told.given.1 f.ensures.1
+      seek_miss q f.new.w loop-test.true if1.false free f.ensures.0.same (no_triangle _ c.in_default.not-Triangle) f.ensures.1
           f.auto.w,
       m.ensures.inside,
       seedless_on {w₀ = a.w.now} l.invariant.2 q.kept f.ensures.0.told m.ensures,

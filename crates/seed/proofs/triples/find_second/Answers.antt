@@ -1,9 +1,8 @@
 -- `find_second` meets its contract. The loop's invariant: what is found among the neighbours asked for is found among
 -- those from m on. Assumes nothing.
-use Prim.Native.Nat.{◌-◌}
 use native.Mathlib.Omega.{arith}
-use borrow.Author.Rules.{rules}
-use Rattle.seed.proofs.Steps.{Second, second_start, second_found, second_on, second_none}
+use Rattle.seed.proofs.Laws.{no_triangle}
+use Rattle.seed.proofs.Steps.{second_start, second_found, second_on, second_none}
 use Rattle.seed.proofs.triples.find_second.Goals as goal
 
 pub loop-m-init : goal.loop-m-init
@@ -24,14 +23,14 @@ returns-in-Triangle c =
     let listed-point = c.listed_point-j in
     let loop-test = c.loop-m-test in
     let loop = c.loop-m in
-    second_found loop.invariant loop-test.true listed-point.ensures.0 c.try_second-found.ensures c.found.given.1
+    second_found loop.invariant loop-test.true listed-point.ensures.0 c.try_second-found.ensures c.in-Triangle.is
 
 pub loop-m-preserved : goal.loop-m-preserved
 loop-m-preserved c =
     let loop-test = c.loop-m-test in
     let loop = c.loop-m in
     second_on loop.invariant loop-test.true c.listed_point-j.ensures.0 c.try_second-found.ensures
-    c.enum_told.given.1
+    (no_triangle _ c.in_default.not-Triangle)
 
 pub returns : goal.returns
 returns c = second_none c.loop-m.invariant c.loop-m-test.false

@@ -1,9 +1,7 @@
 -- `find_second` meets its contract. The loop's invariant: what is found among the neighbours asked for is found among
 -- those from m on. Assumes nothing.
 use Prim.Native.Nat.{◌-◌}
-use native.Mathlib.Omega.{arith}
-use borrow.Author.Rules.{rules}
-use Rattle.seed.proofs.Steps.{Second, second_start, second_found, second_on, second_none}
+use Rattle.seed.proofs.Steps.{Second}
 use Rattle.seed.proofs.triples.find_second.Given as goal
 
 abbrev pub invariant-loop-m : goal.invariant-loop-m

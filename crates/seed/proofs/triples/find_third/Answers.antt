@@ -1,8 +1,7 @@
 -- `find_third` meets its contract. The loop's invariant: what is found among all neighbours is found among those from m
 -- on. Assumes nothing.
-use Prim.Native.Nat.{◌-◌}
 use borrow.Author.Rules.{rules}
-use Rattle.seed.proofs.Steps.{Third, third_start, third_found, third_on, third_none}
+use Rattle.seed.proofs.Steps.{third_start, third_found, third_on, third_none}
 use Rattle.seed.proofs.triples.find_third.Goals as goal
 
 pub loop-m-init : goal.loop-m-init

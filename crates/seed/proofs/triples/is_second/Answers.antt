@@ -1,7 +1,6 @@
 -- `is_second` meets its contract: its tests are those of `is_second`, in their order. Assumes nothing.
 use mathlib.Core.Path.{sym}
-use borrow.Author.Rules.{rules}
-use borrow.Author.Tests.{not-true, not-false, eq-eqb, ne_eqb}
+use borrow.Author.Tests.{eq-eqb, ne_eqb}
 use Rattle.patch.specs.Search.{is_second}
 use Rattle.decisions.specs.Decisions.{floats_of}
 use Rattle.seed.proofs.triples.is_second.Goals as goal
@@ -23,6 +22,5 @@ returns c =
     rw (
       ne_eqb a.i a.j c.if-i-j.false,
       sym c.is_unused.ensures,
-      not-false
-          c.is_unused.result c.if-not-is_unused.false,
+      c.if-not-is_unused.false,
     ) c.is_close.ensures

@@ -1,8 +1,7 @@
 -- `is_third` meets its contract: its tests are those of `is_third`, in their order, but for two that ask limits and for
 -- slivers first. Assumes nothing.
 use mathlib.Core.Path.{sym}
-use borrow.Author.Rules.{rules}
-use borrow.Author.Tests.{not-true, not-false, eq-eqb, ne_eqb}
+use borrow.Author.Tests.{eq-eqb, ne_eqb}
 use Rattle.patch.specs.Search.{is_third}
 use Rattle.decisions.specs.Decisions.{floats_of}
 use Rattle.decisions.specs.Inner.Completes.{completes}

@@ -1,7 +1,6 @@
 -- `known_from` meets its contract. Assumes nothing.
 use mathlib.Core.Path.{refl}
 use native.Mathlib.Omega.{arith}
-use borrow.Author.Rules.{rules}
 use Rattle.lists.proofs.Bools.{true_not_false}
 use Rattle.seed.proofs.triples.known_from.Goals as goal
 

@@ -1,12 +1,12 @@
 -- `try_first` meets its contract: the first second points give a seed, or the others are all that may. Assumes nothing.
 use mathlib.Core.Path.{refl, ◌∙◌, subst}
-use borrow.Author.Rules.{rules}
 use Rattle.vector.specs.declared.Point3f.{Point3f}
 use Rattle.lists.proofs.Bools.{true_not_false}
 use Rattle.decisions.specs.Decisions.{reach}
 use Rattle.nearby.specs.Inner.Ready.{used_in_scene}
 use Rattle.nearby.specs.Inner.Narrow.{Filters}
 use Rattle.nearby.proofs.Keeping.{kept_on}
+use Rattle.seed.proofs.Laws.{no_triangle}
 use Rattle.seed.proofs.Seconds.{seconds_all, seconds_hit, seconds_none}
 use Rattle.seed.proofs.First.{searchable_kept, before_kept, seconds_kept, seconds_back, first_back, first_seedless}
 use Rattle.seed.proofs.triples.try_first.Goals as goal
@@ -92,7 +92,7 @@ returns-in-Triangle c =
     let fs = subst (λ (q : Point3f). Filters a.p.scene q q (reach a.p.radius) f.result) point_at_lem.ensures f.ensures in (
       record {
         same = seconds_hit a.p.scene a.points.now a.p.radius (used_in_scene a.p.scene a.w.now) f.result a.i fs (seconds_back k t.0)
-            c.found.given.1;
+            c.in-Triangle.is;
         told = λ h. absurd (true_not_false h refl);
       },
       kept_on k t.1,
@@ -113,7 +113,7 @@ try_rest-requires c =
       searchable_kept v start.requires.0 kept (t.auto.w ∙ k.auto.w),
       subst (λ (q : Point3f). Filters a.p.scene q q (reach a.p.radius) filter-of.result) point_at_lem.ensures filter-of.ensures,
       before_kept start.requires.1 kept,
-      seconds_none (seconds_kept t.ensures.1 t.ensures.0) c.enum_told.given.1,
+      seconds_none (seconds_kept t.ensures.1 t.ensures.0) (no_triangle _ c.in_default.not-Triangle),
     )
 
 pub shape_of-w : goal.shape_of-w

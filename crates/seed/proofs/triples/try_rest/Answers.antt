@@ -1,6 +1,5 @@
 -- `try_rest` meets its contract: the second points before one give nothing, so the others give all. Assumes nothing.
 use mathlib.Core.Path.{refl, ◌∙◌}
-use borrow.Author.Rules.{rules}
 use Rattle.lists.proofs.Bools.{true_not_false}
 use Rattle.nearby.specs.Inner.Ready.{used_in_scene}
 use Rattle.nearby.proofs.Keeping.{kept_on}

@@ -1,6 +1,5 @@
 -- `try_second` meets its contract. Assumes nothing.
 use mathlib.Core.Path.{sym, ◌∙◌}
-use borrow.Author.Tests.{not-true, not-false}
 use Rattle.decisions.specs.Decisions.{floats_of}
 use Rattle.nearby.specs.Inner.Ready.{used_in_scene, neighbors_listed}
 use Rattle.seedless.proofs.Nothing.{close_second}

@@ -1,7 +1,6 @@
 -- `try_seconds` meets its contract: what is left of the points near point i are those that pass its filter. Assumes
 -- nothing.
 use mathlib.Core.Path.{refl, sym, ◌∙◌, subst}
-use borrow.Author.Rules.{rules}
 use Rattle.vector.specs.Inner.Numbers.{Finite}
 use Rattle.nearby.proofs.Keeping.{kept_on, held_kept, cells_kept}
 use Rattle.nearby.proofs.Narrowing.{collected_listed, sought}
