@@ -1,6 +1,5 @@
 -- `patch_order::first_answer` meets its contract: each way out is the first check that fails. Assumes nothing.
 use Prim.Native.Nat.{◌+◌, ◌*◌}
-use borrow.Author.Rules.{rules}
 use borrow.Author.Tests.{le-leb, lt-leb}
 use Rattle.domain.specs.Refusals.{first_refusal, roomy}
 use Rattle.patch_order.proofs.first_answer.Goals as goal

@@ -3,35 +3,24 @@
 use Prim.Native.Nat.{ℕ}
 use mathlib.Core.Path.{◌≡◌, ap, ◌∙◌}
 use native.Mathlib.Omega.{arith}
-use borrow.Author.Rules.{rules}
 use lib.ListN.{length, replicate}
-use Rattle.face_lines.specs.Format.{face_file}
-use Rattle.face_lines.proofs.Scanning.{Good, scanned_good, scanned_wrong}
+use Rattle.face_lines.proofs.Scanning.{scanned_good, scanned_wrong}
 use Rattle.patch_order.proofs.Whole.{first_is, whole_wrong, whole_first, whole_last, checked}
-use Rattle.patch_order.proofs.order_patch.Goals.{Else-seen-ne0}
 use Rattle.patch_order.proofs.order_patch.Goals as goal
-
--- where no line is malformed
-lines_good : (c : Else-seen-ne0)
-    → Good c.args.point_count (face_file c.args.bytes.now) c.scan_faces-seen.result
-lines_good c = scanned_good _ _ _ c.scan_faces-seen.ensures c.if-seen-ne0.false
 
 pub returns-then-seen-ne0 : goal.returns-then-seen-ne0
 returns-then-seen-ne0 c = whole_wrong _ _ _ _ _ _ (scanned_wrong _ _ _ c.scan_faces-seen.ensures c.if-seen-ne0.true) _ c.refused.ensures
 
 pub returns-then-first-ne0 : goal.returns-then-first-ne0
 returns-then-first-ne0 c =
-    let start = c in
-    let g = lines_good c.before.before.before in
-    whole_first start.args.bytes.now _ _ start.args.words.now start.args.floats.now g.faces g.lines _
+    let g = scanned_good _ _ _ c.scan_faces-seen.ensures c.if-seen-ne0.false in
+    whole_first c.args.bytes.now _ _ c.args.words.now c.args.floats.now g.faces g.lines _
     (first_is _ _ _ g _ _ _ c.first_answer-first.ensures) c.if-first-ne0.true _ c.refused-then-first-ne0.ensures
 
 pub order_lines-ordered-requires : goal.order_lines-ordered-requires
 order_lines-ordered-requires c =
-    let else1 = c.before.before.before.before in
-    let start = c in
-    let g = lines_good else1 in
-    checked start.args.bytes.now _ start.args.order.now start.args.words.now start.args.floats.now g.faces g.lines _
+    let g = scanned_good _ _ _ c.scan_faces-seen.ensures c.if-seen-ne0.false in
+    checked c.args.bytes.now _ c.args.order.now c.args.words.now c.args.floats.now g.faces g.lines _
     (first_is _ _ _ g _ _ _ c.first_answer-first.ensures) c.if-first-ne0.false _ g.many
 
 pub returns : goal.returns
@@ -40,11 +29,9 @@ returns c =
     let order-lines = c.order_lines-ordered in
     let if2 = c.if-first-ne0 in
     let first-answer = c.first_answer-first in
-    let else1 = c.before.before.before.before.before.before.before.before.before.before.before.before.before.before.before.before.before in
-    let start = c in
-    let g = lines_good else1 in
+    let g = scanned_good _ _ _ c.scan_faces-seen.ensures c.if-seen-ne0.false in
     let o = order-lines in
-    let same : length o.new.words ≡ length start.args.words.now = omega arith in
-    whole_last start.args.bytes.now _ _ start.args.words.now start.args.floats.now g.faces g.lines _
+    let same : length o.new.words ≡ length c.args.words.now = omega arith in
+    whole_last c.args.bytes.now _ _ c.args.words.now c.args.floats.now g.faces g.lines _
     (first_is _ _ _ g _ _ _ first-answer.ensures) if2.false _ _ _ _ o.ensures
     (clear-u32.ensures ∙ ap (λ (n : ℕ). replicate n 0) same) c.clear_f32.ensures
