@@ -1,12 +1,7 @@
 -- `copy_numbers` meets its contract. Assumes nothing.
-use mathlib.Core.Path.{refl}
 use Prim.Native.Nat.{◌-◌}
-use native.Mathlib.Omega.{arith}
 use lib.ListN.{length}
-use borrow.Author.Rules.{rules}
-use Rattle.face_order.proofs.Told.{Copied, copied_start, copied_step}
-use Rattle.face_order.proofs.copy_numbers.Reads as reads
-use Rattle.face_order.proofs.copy_numbers.Lts as lts
+use Rattle.face_order.proofs.Told.{Copied}
 use Rattle.face_order.proofs.copy_numbers.Given as goal
 
 abbrev pub invariant-loop-k : goal.invariant-loop-k

@@ -1,13 +1,6 @@
 -- `order_checked` meets its contract: each way out is one of the last two checks, or an order. Assumes nothing.
 use mathlib.Core.Path.{refl, sym, ◌∙◌}
 use Rattle.face_order.proofs.Told.{short_refused, many_refused, copy_fits, between_looks, found_order, found_none}
-use borrow.Author.Rules.{rules}
-use Rattle.face_order.proofs.order_checked.Reads as reads
-use Rattle.face_order.proofs.order_checked.Lts as lts
-use Rattle.face_order.proofs.copy_numbers.Reads as copy-numbers-reads
-use Rattle.ordering.proofs.order_faces.Reads as order-faces-reads
-use Rattle.patch_order.proofs.is_too_many.Reads as is-too-many-reads
-use Rattle.patch_order.proofs.refused.Reads as refused-reads
 use Rattle.face_order.proofs.order_checked.Goals as goal
 
 pub returns-then-order-count : goal.returns-then-order-count

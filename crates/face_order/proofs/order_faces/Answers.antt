@@ -5,15 +5,6 @@ use mathlib.Core.Path.{◌≡◌, ap, ◌∙◌}
 use native.Mathlib.Omega.{arith}
 use lib.ListN.{length, replicate}
 use Rattle.face_order.proofs.Whole.{whole_threes, whole_first, whole_last, ready, first_is}
-use borrow.Author.Rules.{rules}
-use Rattle.face_order.proofs.order_faces.Reads as reads
-use Rattle.face_order.proofs.order_faces.Lts as lts
-use Rattle.clearing.proofs.clear_f32.Reads as clear-f32-reads
-use Rattle.clearing.proofs.clear_u32.Reads as clear-u32-reads
-use Rattle.face_order.proofs.look_at.Reads as look-at-reads
-use Rattle.face_order.proofs.order_checked.Reads as order-checked-reads
-use Rattle.patch_order.proofs.first_answer.Reads as first-answer-reads
-use Rattle.patch_order.proofs.refused.Reads as refused-reads
 use Rattle.face_order.proofs.order_faces.Goals as goal
 
 pub returns-then-faces-ne0 : goal.returns-then-faces-ne0
