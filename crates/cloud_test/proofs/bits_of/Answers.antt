@@ -1,5 +1,4 @@
 -- `cloud_test::bits_of` meets its contract: the float is no not-a-number where its pattern is read. Assumes nothing.
-use borrow.Author.Rules.{rules}
 use Rattle.numbers.proofs.RootSpecial.{not_self}
 use Rattle.cloud_test.proofs.bits_of.Goals as goal
 

@@ -1,6 +1,5 @@
 -- `cloud_test::write_slice` meets its contract: the measure is what is left of the slice. Assumes nothing.
 use Prim.Native.Nat.{◌-◌, ◌≤◌}
-use borrow.Author.Rules.{rules}
 use lib.ListN.{length}
 use Rattle.cloud_test.proofs.write_slice.Given as goal
 
