@@ -4,7 +4,6 @@ use lib.Dec.{T}
 use lib.Ieee.Compare.{differs_from_itself}
 use Rattle.numbers.specs.Acos.{acos}
 use Rattle.numbers.proofs.Compare.{is_nan_lem}
-use borrow.Author.Rules.{rules}
 use Rattle.arc_cosine.proofs.acos.Goals as goal
 
 pub returns-then-v : goal.returns-then-v

@@ -1,6 +1,5 @@
 -- `area_bound` meets its contract.
 use Rattle.area_bounds.specs.Inner.AreaBound.{area_bound}
-use borrow.Author.Rules.{rules}
 use Rattle.area_bounds.proofs.area_bound.Goals as goal
 
 pub returns : goal.returns

@@ -1,7 +1,6 @@
 -- `area_limit` meets its contract: its guess is tested.
 use lib.Ieee.{binary32}
 use lib.Ieee.Fits.{mul-fits}
-use borrow.Author.Rules.{rules}
 use Rattle.area_bounds.proofs.AreaBound.{limit_is, no_limit}
 use Rattle.area_bounds.proofs.area_limit.Goals as goal
 

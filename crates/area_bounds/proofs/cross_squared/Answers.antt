@@ -1,6 +1,5 @@
 -- `cross_squared` meets its contract.
 use Rattle.area_bounds.specs.Inner.AreaBound.{cross_squared}
-use borrow.Author.Rules.{rules}
 use Rattle.area_bounds.proofs.cross_squared.Goals as goal
 
 pub returns : goal.returns

@@ -2,10 +2,6 @@
 -- it.
 use mathlib.Core.Path.{sym, subst}
 use lib.Dec.{T}
-use lib.Ieee.{le}
-use borrow.Author.Rules.{rules}
-use borrow.Author.Tests.{not-false}
-use Rattle.quality.specs.Measures.{tiny}
 use Rattle.area_bounds.proofs.Refused.{too_long_is}
 use Rattle.area_bounds.proofs.is_too_long.Goals as goal
 

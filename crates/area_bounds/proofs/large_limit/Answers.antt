@@ -3,7 +3,6 @@ use mathlib.Core.Path.{sym, subst}
 use lib.Dec.{T}
 use lib.Ieee.{Float, binary32}
 use lib.Ieee.Fits.{add-fits}
-use borrow.Author.Rules.{rules}
 use Rattle.numbers.specs.Rounded.{◌⊗◌}
 use Rattle.quality.specs.Measures.{half}
 use Rattle.area_bounds.specs.Inner.AreaBound.{TooLong}

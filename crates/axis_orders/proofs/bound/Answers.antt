@@ -1,5 +1,4 @@
 use Rattle.axis_orders.proofs.Ends.{bounding}
-use borrow.Author.Rules.{rules}
 use Rattle.axis_orders.proofs.bound.Goals as goal
 
 pub returns : goal.returns

@@ -1,6 +1,5 @@
 -- `box_of` meets its contract: the ends of the three orders are the corners, coordinate by coordinate. Assumes nothing.
 use Rattle.axis_orders.proofs.Ends.{ends_box_is}
-use borrow.Author.Rules.{rules}
 use Rattle.axis_orders.proofs.box_of.Goals as goal
 
 pub returns : goal.returns

@@ -1,4 +1,3 @@
-use borrow.Author.Rules.{rules}
 use Rattle.axis_orders.proofs.corner.Goals as goal
 
 pub returns : goal.returns

@@ -2,7 +2,6 @@ use mathlib.Core.Path.{refl}
 use native.Mathlib.Omega.{arith}
 use Rattle.axis_orders.proofs.Halves.{divided}
 use Rattle.axis_orders.proofs.Ends.{order_sizes}
-use borrow.Author.Rules.{rules}
 use Rattle.axis_orders.proofs.divide.Goals as goal
 
 pub put_along-requires : goal.put_along-requires

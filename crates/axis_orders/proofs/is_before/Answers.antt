@@ -1,5 +1,4 @@
 use Rattle.axis_orders.specs.Inner.Parted.{is_before_pivot}
-use borrow.Author.Rules.{rules}
 use Rattle.axis_orders.proofs.is_before.Goals as goal
 
 pub returns-then-x-at : goal.returns-then-x-at

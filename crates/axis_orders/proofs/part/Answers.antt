@@ -1,6 +1,5 @@
 use native.Mathlib.Omega.{arith}
 use Rattle.axis_orders.proofs.Sifting.{parted_own, parted_other}
-use borrow.Author.Rules.{rules}
 use Rattle.axis_orders.proofs.part.Goals as goal
 
 pub returns-then-own-axis : goal.returns-then-own-axis

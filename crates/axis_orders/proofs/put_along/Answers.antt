@@ -1,5 +1,4 @@
 use Rattle.axis_orders.proofs.Sifting.{along_x, along_y, along_z}
-use borrow.Author.Rules.{rules}
 use Rattle.axis_orders.proofs.put_along.Goals as goal
 
 pub returns-then-axis-eq0 : goal.returns-then-axis-eq0

@@ -1,7 +1,4 @@
-use Prim.Native.Nat.{◌-◌}
-use lib.ListN.{length}
-use Rattle.axis_orders.proofs.Sifting.{Putting, put_start, put_step, put_end}
-use borrow.Author.Rules.{rules}
+use Rattle.axis_orders.proofs.Sifting.{put_start, put_step, put_end}
 use Rattle.axis_orders.proofs.put_from.Goals as goal
 
 pub loop-i-init : goal.loop-i-init

@@ -1,7 +1,6 @@
 use Prim.Native.Nat.{◌-◌}
 use lib.ListN.{length}
-use Rattle.axis_orders.proofs.Sifting.{Putting, put_start, put_step, put_end}
-use borrow.Author.Rules.{rules}
+use Rattle.axis_orders.proofs.Sifting.{Putting}
 use Rattle.axis_orders.proofs.put_from.Given as goal
 
 abbrev pub invariant-loop-i : goal.invariant-loop-i

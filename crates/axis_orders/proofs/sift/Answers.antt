@@ -1,8 +1,4 @@
-use Prim.Native.Nat.{◌-◌}
-use lib.ListN.{length}
-use Rattle.axis_orders.specs.Inner.Parted.{is_before_pivot}
-use Rattle.axis_orders.proofs.Sifting.{Sifting, sift_start, sift_keep, sift_leave, sift_end}
-use borrow.Author.Rules.{rules}
+use Rattle.axis_orders.proofs.Sifting.{sift_start, sift_keep, sift_leave, sift_end}
 use Rattle.axis_orders.proofs.sift.Goals as goal
 
 pub loop-i-init : goal.loop-i-init

@@ -1,8 +1,7 @@
 use Prim.Native.Nat.{◌-◌}
 use lib.ListN.{length}
 use Rattle.axis_orders.specs.Inner.Parted.{is_before_pivot}
-use Rattle.axis_orders.proofs.Sifting.{Sifting, sift_start, sift_keep, sift_leave, sift_end}
-use borrow.Author.Rules.{rules}
+use Rattle.axis_orders.proofs.Sifting.{Sifting}
 use Rattle.axis_orders.proofs.sift.Given as goal
 
 abbrev pub invariant-loop-i : goal.invariant-loop-i

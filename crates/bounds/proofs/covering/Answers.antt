@@ -1,6 +1,5 @@
 -- `bounds::covering` meets its contract. Assumes nothing.
 use Rattle.bounds.proofs.Beyond.{covers}
-use borrow.Author.Rules.{rules}
 use Rattle.bounds.proofs.covering.Goals as goal
 
 pub returns : goal.returns

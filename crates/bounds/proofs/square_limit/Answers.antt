@@ -4,7 +4,6 @@ use lib.Dec.{T}
 use lib.Ieee.{Float, binary32, lt}
 use lib.Ieee.Fits.{add-fits}
 use Rattle.bounds.proofs.Beyond.{limit_tested, limit_none}
-use borrow.Author.Rules.{rules}
 use Rattle.bounds.proofs.square_limit.Goals as goal
 
 pub returns-then-sqrt-r : goal.returns-then-sqrt-r

@@ -1,10 +1,9 @@
 -- `search` meets its contract, by induction on how many points the part has. A box beyond the limit is left out
 -- (`left_out`), a leaf is scanned, and otherwise the nearer half is searched first: since a scan finds the same in any
 -- order, the two halves' scans are the whole one's, also where the second half is left out. Assumes nothing.
-use Prim.Native.Nat.{ℕ, ◌/◌, ◌<◌}
+use Prim.Native.Nat.{◌/◌, ◌<◌}
 use mathlib.Core.Path.{sym}
 use native.Mathlib.Omega.{arith}
-use borrow.Author.Rules.{rules}
 use lib.ListN.{length}
 use lib.Seq.{length-take-le}
 use Rattle.box_search.proofs.Halves.{second_size, here, left_out, first_held, second_held, first_ready, second_ready, first_size, second_length, in_turn}
@@ -16,9 +15,9 @@ returns-then-best-far t c = left_out c.requires c.if-best-far.true
 
 pub scan_leaf-requires : goal.scan_leaf-requires
 scan_leaf-requires t c = let r = c.requires in record {
-      best_limited = (r.best_limit, r.best_length);
-      numbers_of_points = ((here r).known, finite_here r);
-    }
+  best_limited = (r.best_limit, r.best_length);
+  numbers_of_points = ((here r).known, finite_here r);
+}
 
 pub returns-then-n-le8 : goal.returns-then-n-le8
 returns-then-n-le8 t c = c.scan_leaf.ensures

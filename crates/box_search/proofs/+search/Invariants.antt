@@ -1,14 +1,7 @@
 -- `search` meets its contract, by induction on how many points the part has. A box beyond the limit is left out
 -- (`left_out`), a leaf is scanned, and otherwise the nearer half is searched first: since a scan finds the same in any
 -- order, the two halves' scans are the whole one's, also where the second half is left out. Assumes nothing.
-use Prim.Native.Nat.{ℕ, ◌/◌, ◌<◌}
-use mathlib.Core.Path.{sym}
-use native.Mathlib.Omega.{arith}
-use borrow.Author.Rules.{rules}
 use lib.ListN.{length}
-use lib.Seq.{length-take-le}
-use Rattle.box_search.proofs.Halves.{second_size, here, left_out, first_held, second_held, first_ready, second_ready, first_size, second_length, in_turn}
-use Rattle.box_search.proofs.Halves.{turned, finite_here}
 use Rattle.box_search.proofs.+search.Given as goal
 
 abbrev pub decreases-search : goal.decreases-search

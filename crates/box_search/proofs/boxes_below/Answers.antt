@@ -1,7 +1,6 @@
 use native.Mathlib.Omega.{arith}
 use borrow.Author.Tests.{le-leb, lt-leb}
 use Rattle.box_search.specs.Boxes.{boxes_below}
-use borrow.Author.Rules.{rules}
 use Rattle.box_search.proofs.boxes_below.Reads as reads
 use Rattle.box_search.proofs.boxes_below.Lts as lts
 use Rattle.box_search.proofs.boxes_below.Goals as goal

@@ -1,5 +1,4 @@
 use Rattle.box_search.proofs.Bounds.{gap_of}
-use borrow.Author.Rules.{rules}
 use Rattle.box_search.proofs.gap.Reads as reads
 use Rattle.box_search.proofs.gap.Lts as lts
 use Rattle.nearest.proofs.greater.Reads as greater-reads

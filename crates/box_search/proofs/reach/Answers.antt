@@ -1,6 +1,5 @@
 use native.Mathlib.Omega.{arith}
 use Rattle.box_search.proofs.Bounds.{reach_is, gap_is, six_at}
-use borrow.Author.Rules.{rules}
 use Rattle.box_search.proofs.reach.Reads as reads
 use Rattle.box_search.proofs.reach.Lts as lts
 use Rattle.box_search.proofs.gap.Reads as gap-reads

@@ -1,10 +1,8 @@
 -- `clearing::clear_u32` meets its contract. The loop's invariant: what is passed is zeros, the rest as lent. Assumes
 -- nothing.
 use Rattle.clearing.proofs.Cleared.{fill_step, fill_end}
-use lib.ListN.{length, drop, replicate, length-set}
-use mathlib.Core.List.{◌++◌}
-use mathlib.Core.Path.{◌≡◌, refl}
-use Prim.Native.Nat.{◌-◌, ◌≤◌}
+use lib.ListN.{length-set}
+use mathlib.Core.Path.{refl}
 use native.Mathlib.Omega.{arith}
 use borrow.Author.Rules.{rules}
 use Rattle.clearing.proofs.clear_u32.Goals as goal

@@ -1,12 +1,9 @@
 -- `clearing::clear_u32` meets its contract. The loop's invariant: what is passed is zeros, the rest as lent. Assumes
 -- nothing.
-use Rattle.clearing.proofs.Cleared.{fill_step, fill_end}
-use lib.ListN.{length, drop, replicate, length-set}
+use lib.ListN.{length, drop, replicate}
 use mathlib.Core.List.{◌++◌}
-use mathlib.Core.Path.{◌≡◌, refl}
+use mathlib.Core.Path.{◌≡◌}
 use Prim.Native.Nat.{◌-◌, ◌≤◌}
-use native.Mathlib.Omega.{arith}
-use borrow.Author.Rules.{rules}
 use Rattle.clearing.proofs.clear_u32.Given as goal
 
 abbrev pub invariant-loop-k : goal.invariant-loop-k

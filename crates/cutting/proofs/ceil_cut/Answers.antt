@@ -6,7 +6,6 @@ use lib.Dec.{T, le→leb}
 use lib.Ieee.{Float, fin, le, to_unsigned, of_bits, in_float}
 use lib.IntN.{pos}
 use mathlib.Core.Bool.{false}
-use borrow.Author.Rules.{rules}
 use Rattle.cutting.proofs.Cuts.{ceil_large, ceil_up, ceil_stay, cut_small}
 use Rattle.cutting.proofs.ceil_cut.Goals as goal
 

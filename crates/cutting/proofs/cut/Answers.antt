@@ -3,7 +3,6 @@
 use mathlib.Core.Path.{◌≡◌, sym, ◌∙◌, subst}
 use lib.Dec.{T}
 use lib.Ieee.{Float, binary32, fits, to_bits, to_unsigned}
-use borrow.Author.Rules.{rules}
 use Rattle.numbers.proofs.RootSpecial.{not_self, pattern_lt, by_bits}
 use Rattle.cutting.proofs.FieldCases.{pattern_cut, nan_cut}
 use Rattle.cutting.proofs.cut.Goals.{Start}

@@ -1,5 +1,4 @@
 -- `apart_at` meets its contract: the distance of two points that are read from the slice. Assumes nothing.
-use borrow.Author.Rules.{rules}
 use Rattle.decisions.specs.Decisions.{apart}
 use Rattle.decisions.proofs.apart_at.Goals as goal
 

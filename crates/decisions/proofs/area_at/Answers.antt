@@ -1,6 +1,5 @@
 -- `area_at` meets its contract: the area of three points that are read from the slice. Assumes nothing.
 use Rattle.decisions.specs.Found.{area_at}
-use borrow.Author.Rules.{rules}
 use Rattle.decisions.proofs.area_at.Goals as goal
 
 pub returns : goal.returns

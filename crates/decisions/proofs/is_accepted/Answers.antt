@@ -1,5 +1,4 @@
 -- `is_accepted` meets its contract: the scene's thresholds in the order in which the test takes them. Assumes nothing.
-use borrow.Author.Rules.{rules}
 use Rattle.decisions.specs.Decisions.{accepts}
 use Rattle.decisions.proofs.is_accepted.Goals as goal
 

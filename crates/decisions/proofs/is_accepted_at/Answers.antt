@@ -2,7 +2,6 @@
 -- Assumes nothing.
 use Rattle.quality.proofs.Shapes.{shape_own, quality_own}
 use Rattle.decisions.proofs.Completed.{accepted_shape, accepted_at}
-use borrow.Author.Rules.{rules}
 use Rattle.decisions.proofs.is_accepted_at.Goals as goal
 
 pub returns-then-is_shape_refused : goal.returns-then-is_shape_refused

@@ -1,5 +1,4 @@
 -- `is_close` meets its contract. Assumes nothing.
-use borrow.Author.Rules.{rules}
 use Rattle.decisions.specs.Decisions.{is_close}
 use Rattle.decisions.proofs.is_close.Goals as goal
 

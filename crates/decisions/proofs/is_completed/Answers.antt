@@ -1,6 +1,5 @@
 -- `is_completed` meets its contract: its tests are those of `completes`, in their order. Assumes nothing.
 use Rattle.decisions.proofs.Completed.{completed_far, completed_far_too, completed_near}
-use borrow.Author.Rules.{rules}
 use Rattle.decisions.proofs.is_completed.Goals as goal
 
 pub returns-then-to_i-radius : goal.returns-then-to_i-radius

@@ -1,6 +1,5 @@
 -- `is_pivotable` meets its contract. Assumes nothing.
 use mathlib.Core.Path.{sym}
-use borrow.Author.Rules.{rules}
 use Rattle.decisions.specs.Decisions.{pivotable}
 use Rattle.decisions.proofs.is_pivotable.Goals as goal
 

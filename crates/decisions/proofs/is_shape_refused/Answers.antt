@@ -1,5 +1,4 @@
 -- `is_shape_refused` meets its contract. Assumes nothing.
-use borrow.Author.Rules.{rules}
 use Rattle.decisions.proofs.Completed.{shape_low, shape_long}
 use Rattle.decisions.proofs.is_shape_refused.Goals as goal
 

@@ -1,5 +1,4 @@
 -- `middle_of` meets its contract, axis by axis. Assumes nothing.
-use borrow.Author.Rules.{rules}
 use Rattle.decisions.specs.Decisions.{middle}
 use Rattle.decisions.proofs.middle_of.Goals as goal
 

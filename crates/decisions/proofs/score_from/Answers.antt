@@ -1,11 +1,8 @@
 -- `score_from` meets its contract: the bound refuses only what is below `top`. Assumes nothing.
 use mathlib.Core.Path.{sym, ap, ◌∙◌}
-use lib.Ieee.{le}
-use borrow.Author.Tests.{not-true, not-false}
 use Rattle.quality.proofs.Shapes.{shape_own, quality_own}
 use Rattle.decisions.specs.Found.{score_found}
 use Rattle.decisions.proofs.Scores.{score_bound_lem, score_low, score_refused, score_kept}
-use borrow.Author.Rules.{rules}
 use Rattle.decisions.proofs.score_from.Goals as goal
 
 pub returns-then-score_bound-top : goal.returns-then-score_bound-top

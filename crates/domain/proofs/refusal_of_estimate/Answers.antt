@@ -7,7 +7,6 @@ use Rattle.ranges.proofs.Tests.{passed, failed}
 use Rattle.domain.specs.declared.Refusal.{Refusal}
 use Rattle.domain.specs.Refusals.{check, points_checks, work_checks, estimate_refusal}
 use Rattle.domain.proofs.Refusals.{check_passed, check_failed, numbered, row_refused, row_passed, size_accepted}
-use borrow.Author.Rules.{rules}
 use Rattle.domain.proofs.refusal_of_estimate.Goals as goal
 
 pub returns-then-refusal-ne0 : goal.returns-then-refusal-ne0

@@ -1,6 +1,6 @@
 -- `domain::refusal_of_input` meets its contract. Assumes nothing.
 use mathlib.Core.Path.{sym, ap, ◌∙◌}
-use mathlib.Core.List.{[], ◌∷◌}
+use mathlib.Core.List.{◌∷◌}
 use Prim.Native.Nat.{◌/◌}
 use native.Mathlib.Omega.{arith}
 use lib.ListN.{length}
@@ -8,7 +8,6 @@ use borrow.Author.Tests.{eq-eqb, ne_eqb}
 use Rattle.settings.specs.Settings.{first_bad_setting}
 use Rattle.domain.specs.Refusals.{refusal, first_refusal, setting_check}
 use Rattle.domain.proofs.Refusals.{check_passed, check_failed, size_refused, size_sized, point_refused, points_passed}
-use borrow.Author.Rules.{rules}
 use Rattle.domain.proofs.refusal_of_input.Goals as goal
 
 pub returns-then-size-ne0 : goal.returns-then-size-ne0

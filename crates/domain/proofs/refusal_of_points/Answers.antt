@@ -1,12 +1,10 @@
 -- `domain::refusal_of_points` meets its contract. Assumes nothing.
 use mathlib.Core.Path.{sym, ◌∙◌}
-use mathlib.Core.List.{[]}
 use Prim.Native.Nat.{◌/◌}
 use native.Mathlib.Omega.{arith}
 use lib.ListN.{length}
 use Rattle.domain.specs.Refusals.{first_refusal}
 use Rattle.domain.proofs.Refusals.{size_refused, size_sized, point_refused, points_passed}
-use borrow.Author.Rules.{rules}
 use Rattle.domain.proofs.refusal_of_points.Goals as goal
 
 pub returns-then-size-ne0 : goal.returns-then-size-ne0

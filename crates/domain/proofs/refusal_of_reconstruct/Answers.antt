@@ -3,7 +3,6 @@ use mathlib.Core.Path.{refl, sym, ap, ◌∙◌}
 use Rattle.domain.specs.declared.Refusal.{Refusal}
 use Rattle.domain.specs.Refusals.{input_checks, reconstruct_refusal}
 use Rattle.domain.proofs.Refusals.{numbered, row_refused, row_passed, size_accepted}
-use borrow.Author.Rules.{rules}
 use Rattle.domain.proofs.refusal_of_reconstruct.Goals as goal
 
 pub returns-then-refusal-ne0 : goal.returns-then-refusal-ne0

@@ -2,7 +2,6 @@
 use mathlib.Core.Path.{◌∙◌}
 use Rattle.domain.specs.Refusals.{roomy}
 use Rattle.domain.proofs.Refusals.{work_refusal}
-use borrow.Author.Rules.{rules}
 use Rattle.domain.proofs.refusal_of_work.Goals as goal
 
 pub returns : goal.returns

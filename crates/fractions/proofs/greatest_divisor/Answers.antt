@@ -1,8 +1,6 @@
 -- `fractions::greatest_divisor` meets its contract: what is the greatest divisor of the two numbers left is that of the
 -- two at the start. Assumes nothing.
-use Prim.Native.Nat.{ℕ}
 use native.Mathlib.Nat.{mod-lt}
-use Rattle.fractions.specs.Terms.{Greatest}
 use Rattle.fractions.proofs.Divisors.{above_zero, at_zero, step, greatest_only}
 use Rattle.fractions.proofs.greatest_divisor.Goals as goal
 

@@ -1,7 +1,6 @@
 -- `fractions::lowest` meets its contract. Assumes nothing.
 use mathlib.Core.Path.{sym, subst}
 use Prim.Native.Nat.{ℕ, ◌<◌}
-use borrow.Author.Rules.{rules}
 use Rattle.fractions.specs.Terms.{lowest}
 use Rattle.fractions.proofs.LowestTerms.{divisor}
 use Rattle.fractions.proofs.lowest.Goals as goal

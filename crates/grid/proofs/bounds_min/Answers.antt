@@ -1,5 +1,4 @@
 -- `grid::bounds_min` meets its contract. Assumes nothing.
-use borrow.Author.Rules.{rules}
 use Rattle.grid.specs.Grid.{bounds_min}
 use Rattle.grid.proofs.bounds_min.Goals as goal
 

@@ -1,7 +1,6 @@
 -- `grid::build_spatial_grid` meets its contract. Assumes nothing.
 use mathlib.Core.Path.{ap}
 use native.Mathlib.Omega.{arith}
-use borrow.Author.Rules.{rules}
 use Rattle.vector.specs.declared.Point3f.{Point3f}
 use Rattle.grid.proofs.build_spatial_grid.Goals as goal
 

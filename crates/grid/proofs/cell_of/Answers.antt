@@ -1,5 +1,4 @@
 -- `grid::cell_of` meets its contract. Assumes nothing.
-use borrow.Author.Rules.{rules}
 use Rattle.grid.specs.Grid.{cell_of}
 use Rattle.grid.proofs.cell_of.Goals as goal
 

@@ -6,7 +6,6 @@ use Rattle.vector.specs.Vector.{squared}
 use Rattle.vector.proofs.Distances.{squared_fits}
 use Rattle.vector.specs.declared.Point3f.{Point3f}
 use Rattle.index_search.proofs.Own.{whole_length, first_six, started, nearest_found}
-use borrow.Author.Rules.{rules}
 use Rattle.index_search.proofs.nearest_in.Reads as reads
 use Rattle.index_search.proofs.nearest_in.Lts as lts
 use Rattle.nearest.proofs.limit_of.Reads as limit-of-reads

@@ -1,6 +1,5 @@
 use native.Mathlib.Omega.{arith}
-use Prim.Native.Nat.{◌-◌}
-use Rattle.index_search.proofs.Widths.{Grown, grown_start, grown_step, grown_end, power_some}
+use Rattle.index_search.proofs.Widths.{grown_start, grown_step, grown_end, power_some}
 use Rattle.index_search.proofs.width_of.Reads as reads
 use Rattle.index_search.proofs.width_of.Lts as lts
 use Rattle.index_search.proofs.width_of.Goals as goal

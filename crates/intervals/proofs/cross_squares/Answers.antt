@@ -1,6 +1,5 @@
 -- `cross_squares` meets its contract. Assumes nothing.
 use Rattle.intervals.proofs.Boxes.{cross_squares_held}
-use borrow.Author.Rules.{rules}
 use Rattle.intervals.proofs.cross_squares.Goals as goal
 
 pub returns : goal.returns

@@ -1,6 +1,5 @@
 -- `crosses` meets its contract. Assumes nothing.
 use Rattle.intervals.proofs.Boxes.{crosses_held}
-use borrow.Author.Rules.{rules}
 use Rattle.intervals.proofs.crosses.Goals as goal
 
 pub returns : goal.returns

@@ -1,6 +1,5 @@
 -- `differences` meets its contract. Assumes nothing.
 use Rattle.intervals.specs.Inner.Enclosed.{differences_of}
-use borrow.Author.Rules.{rules}
 use Rattle.intervals.proofs.differences.Goals as goal
 
 pub returns : goal.returns

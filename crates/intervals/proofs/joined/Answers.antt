@@ -1,5 +1,4 @@
 -- `joined` meets its contract. Assumes nothing.
-use borrow.Author.Rules.{rules}
 use Rattle.intervals.proofs.Boxes.{joined_held}
 use Rattle.intervals.proofs.joined.Goals as goal
 

@@ -1,6 +1,5 @@
 -- `magnitudes` meets its contract. Assumes nothing.
 use Rattle.intervals.proofs.Boxes.{magnitudes_held}
-use borrow.Author.Rules.{rules}
 use Rattle.intervals.proofs.magnitudes.Goals as goal
 
 pub returns : goal.returns

@@ -1,6 +1,5 @@
 -- `with_point` meets its contract. Assumes nothing.
 use Rattle.intervals.proofs.Boxes.{grown}
-use borrow.Author.Rules.{rules}
 use Rattle.intervals.proofs.with_point.Goals as goal
 
 pub returns : goal.returns

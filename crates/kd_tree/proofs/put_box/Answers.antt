@@ -1,5 +1,4 @@
 use Rattle.kd_tree.proofs.Writing.{room_1, room_2, room_3, room_4, room_5, box_written}
-use borrow.Author.Rules.{rules}
 use Rattle.kd_tree.proofs.put_box.Goals as goal
 
 pub bounds-boxes-at-2 : goal.bounds-boxes-at-2

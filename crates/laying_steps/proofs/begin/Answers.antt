@@ -1,5 +1,4 @@
 use Rattle.laying_steps.proofs.Work.{begin_holds}
-use borrow.Author.Rules.{rules}
 use Rattle.laying_steps.proofs.begin.Reads as reads
 use Rattle.laying_steps.proofs.begin.Lts as lts
 use Rattle.laying_words.proofs.clear_used.Reads as clear-used-reads

@@ -1,6 +1,5 @@
 -- `laying_steps::lay_pivot` meets its contract. Assumes nothing.
 use Rattle.laying_steps.proofs.Work.{pivot_takes, face_only}
-use borrow.Author.Rules.{rules}
 use Rattle.laying_steps.proofs.lay_pivot.Goals as goal
 
 pub returns : goal.returns

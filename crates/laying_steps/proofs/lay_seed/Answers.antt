@@ -1,6 +1,5 @@
 -- `laying_steps::lay_seed` meets its contract. Assumes nothing.
 use Rattle.laying_steps.proofs.Work.{seed_takes, face_only}
-use borrow.Author.Rules.{rules}
 use Rattle.laying_steps.proofs.lay_seed.Goals as goal
 
 pub returns : goal.returns

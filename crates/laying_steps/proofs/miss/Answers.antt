@@ -1,6 +1,5 @@
 -- `laying_steps::miss` meets its contract. Assumes nothing.
 use Rattle.laying_steps.proofs.Work.{miss_takes}
-use borrow.Author.Rules.{rules}
 use Rattle.laying_steps.proofs.miss.Goals as goal
 
 pub returns : goal.returns

@@ -2,7 +2,6 @@
 use Prim.Native.Nat.{◌*◌}
 use Rattle.laying_words.proofs.Slices.{only_none}
 use Rattle.laying_steps.proofs.Work.{by_queue, by_heap}
-use borrow.Author.Rules.{rules}
 use Rattle.laying_steps.proofs.pop.Reads as reads
 use Rattle.laying_steps.proofs.pop.Lts as lts
 use Rattle.laying_steps.proofs.pop_heap.Reads as pop-heap-reads

@@ -1,6 +1,5 @@
 -- `laying_steps::add_triangle_edges_to_frontier` meets its contract. Assumes nothing.
 use Rattle.laying_words.proofs.Parts.{pushed_three}
-use borrow.Author.Rules.{rules}
 use Rattle.laying_words.proofs.add_triangle_edges_to_frontier.Goals as goal
 
 pub returns : goal.returns

@@ -1,9 +1,8 @@
-use Prim.Native.Nat.{◌-◌}
-use mathlib.Core.Path.{◌≡◌, refl}
+use mathlib.Core.Path.{refl}
 use native.Mathlib.Omega.{arith}
-use lib.ListN.{length, length-set}
+use lib.ListN.{length-set}
 use borrow.Author.Rules.{rules}
-use Rattle.laying_words.proofs.Parts.{Clearing, clearing_start, clearing_step, clearing_end}
+use Rattle.laying_words.proofs.Parts.{clearing_start, clearing_step, clearing_end}
 use Rattle.laying_words.proofs.clear_used.Reads as reads
 use Rattle.laying_words.proofs.clear_used.Lts as lts
 use Rattle.laying_words.proofs.clear_used.Goals as goal

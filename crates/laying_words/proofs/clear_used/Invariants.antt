@@ -1,9 +1,7 @@
 use Prim.Native.Nat.{◌-◌}
-use mathlib.Core.Path.{◌≡◌, refl}
-use native.Mathlib.Omega.{arith}
-use lib.ListN.{length, length-set}
-use borrow.Author.Rules.{rules}
-use Rattle.laying_words.proofs.Parts.{Clearing, clearing_start, clearing_step, clearing_end}
+use mathlib.Core.Path.{◌≡◌}
+use lib.ListN.{length}
+use Rattle.laying_words.proofs.Parts.{Clearing}
 use Rattle.laying_words.proofs.clear_used.Reads as reads
 use Rattle.laying_words.proofs.clear_used.Lts as lts
 use Rattle.laying_words.proofs.clear_used.Given as goal

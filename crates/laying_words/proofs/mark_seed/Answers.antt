@@ -1,5 +1,4 @@
 use Rattle.laying_words.proofs.Parts.{marked_three}
-use borrow.Author.Rules.{rules}
 use Rattle.laying_words.proofs.mark_seed.Reads as reads
 use Rattle.laying_words.proofs.mark_seed.Lts as lts
 use Rattle.laying_words.proofs.mark_used.Reads as mark-used-reads

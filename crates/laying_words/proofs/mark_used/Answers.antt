@@ -1,5 +1,4 @@
 use Rattle.laying_words.proofs.Parts.{marked_one}
-use borrow.Author.Rules.{rules}
 use Rattle.laying_words.proofs.mark_used.Reads as reads
 use Rattle.laying_words.proofs.mark_used.Lts as lts
 use Rattle.laying_words.proofs.mark_used.Goals as goal

@@ -1,5 +1,4 @@
 use Rattle.laying_words.proofs.Parts.{taken}
-use borrow.Author.Rules.{rules}
 use Rattle.laying_words.proofs.pop_frontier.Reads as reads
 use Rattle.laying_words.proofs.pop_frontier.Lts as lts
 use Rattle.laying_words.proofs.heap.pop.Reads as pop-reads

@@ -1,7 +1,6 @@
 -- `laying_steps::push_edge` meets its contract. Assumes nothing.
 use Prim.Native.Nat.{◌+◌, ◌*◌}
 use Rattle.laying_words.proofs.Parts.{pushed_one}
-use borrow.Author.Rules.{rules}
 use Rattle.laying_words.proofs.push_edge.Goals as goal
 
 pub returns : goal.returns

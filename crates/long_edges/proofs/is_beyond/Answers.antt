@@ -1,5 +1,4 @@
 -- `is_beyond` meets its contract. Assumes nothing.
-use borrow.Author.Rules.{rules}
 use Rattle.long_edges.specs.Inner.LongEdges.{is_beyond}
 use Rattle.long_edges.proofs.is_beyond.Goals as goal
 

@@ -1,8 +1,6 @@
 -- `is_long` meets its contract: the shortest and the longest edge are two of the three. Assumes nothing.
 use mathlib.Core.Path.{sym, subst}
 use lib.Dec.{T}
-use borrow.Author.Rules.{rules}
-use borrow.Author.Tests.{not-false}
 use Rattle.long_edges.proofs.Edges.{long_is}
 use Rattle.long_edges.proofs.is_long.Goals as goal
 

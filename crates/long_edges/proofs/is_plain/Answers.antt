@@ -1,5 +1,4 @@
 -- `is_plain` meets its contract. Assumes nothing.
-use borrow.Author.Rules.{rules}
 use Rattle.long_edges.specs.Inner.LongEdges.{is_plain_triple}
 use Rattle.long_edges.proofs.is_plain.Goals as goal
 

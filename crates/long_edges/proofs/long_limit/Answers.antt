@@ -1,7 +1,6 @@
 -- `long_limit` meets its contract. Assumes nothing.
 use mathlib.Core.Path.{sym, subst}
 use lib.Dec.{T}
-use borrow.Author.Rules.{rules}
 use Rattle.numbers.proofs.RootSpecial.{no_number}
 use Rattle.long_edges.proofs.Limit.{limit_is, no_limit}
 use Rattle.long_edges.proofs.long_limit.Goals as goal

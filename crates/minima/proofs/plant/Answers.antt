@@ -1,5 +1,4 @@
 -- `minima::plant` meets its contract: leaves, then nodes. Assumes nothing.
-use borrow.Author.Rules.{rules}
 use Rattle.minima.proofs.Trees.{planted}
 use Rattle.minima.proofs.plant.Goals as goal
 

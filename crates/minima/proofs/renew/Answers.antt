@@ -1,10 +1,10 @@
 -- `minima::renew` meets its contract. The loop's invariant: only the node that comes next may be wrong, and no word but
 -- nodes changed. Assumes nothing.
-use Rattle.minima.proofs.Trees.{AllBut, InnerOnly, flat, beside, node_stored, inner_stored, renewed_all}
+use Rattle.minima.proofs.Trees.{flat, beside, node_stored, inner_stored, renewed_all}
 use lib.Seq.{get_or-set_same}
-use lib.ListN.{length, set, get_or, length-set}
+use lib.ListN.{set, length-set}
 use mathlib.Core.Path.{◌≡◌, refl, sym, ◌∙◌}
-use Prim.Native.Nat.{◌+◌, ◌*◌, ◌/◌, ◌≤◌, ◌<◌}
+use Prim.Native.Nat.{◌+◌, ◌/◌}
 use native.Mathlib.Omega.{arith}
 use borrow.Author.Rules.{rules}
 use Rattle.minima.proofs.renew.Goals as goal

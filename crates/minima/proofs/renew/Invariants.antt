@@ -1,12 +1,9 @@
 -- `minima::renew` meets its contract. The loop's invariant: only the node that comes next may be wrong, and no word but
 -- nodes changed. Assumes nothing.
-use Rattle.minima.proofs.Trees.{AllBut, InnerOnly, flat, beside, node_stored, inner_stored, renewed_all}
-use lib.Seq.{get_or-set_same}
-use lib.ListN.{length, set, get_or, length-set}
-use mathlib.Core.Path.{◌≡◌, refl, sym, ◌∙◌}
+use Rattle.minima.proofs.Trees.{AllBut, InnerOnly}
+use lib.ListN.{length, get_or}
+use mathlib.Core.Path.{◌≡◌}
 use Prim.Native.Nat.{◌+◌, ◌*◌, ◌/◌, ◌≤◌, ◌<◌}
-use native.Mathlib.Omega.{arith}
-use borrow.Author.Rules.{rules}
 use Rattle.minima.proofs.renew.Given as goal
 
 abbrev pub invariant-loop-k : goal.invariant-loop-k

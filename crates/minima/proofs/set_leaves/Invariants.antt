@@ -1,11 +1,9 @@
 -- `minima::set_leaves` meets its contract. The loop's invariant: the leaves below g are set, and nothing else changed.
 -- Assumes nothing.
-use Prim.Native.Nat.{◌+◌, ◌-◌, ◌*◌, ◌≤◌, ◌<◌}
-use mathlib.Core.Path.{◌≡◌, refl}
-use lib.ListN.{length, length-set}
-use Rattle.minima.proofs.Trees.{Leaves, LeavesOnly, leaves_stored, leaves_only}
-use native.Mathlib.Omega.{arith}
-use borrow.Author.Rules.{rules}
+use Prim.Native.Nat.{◌-◌, ◌≤◌}
+use mathlib.Core.Path.{◌≡◌}
+use lib.ListN.{length}
+use Rattle.minima.proofs.Trees.{Leaves, LeavesOnly}
 use Rattle.minima.proofs.set_leaves.Given as goal
 
 abbrev pub invariant-loop-g : goal.invariant-loop-g

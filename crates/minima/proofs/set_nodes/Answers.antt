@@ -3,7 +3,7 @@
 use Prim.Native.Nat.{◌+◌, ◌-◌, ◌*◌, ◌≤◌}
 use mathlib.Core.Path.{◌≡◌, refl}
 use lib.ListN.{length, length-set}
-use Rattle.minima.proofs.Trees.{NodesFrom, InnerOnly, nodes_stored, inner_stored}
+use Rattle.minima.proofs.Trees.{nodes_stored, inner_stored}
 use native.Mathlib.Omega.{arith}
 use borrow.Author.Rules.{rules}
 use Rattle.minima.proofs.set_nodes.Goals as goal

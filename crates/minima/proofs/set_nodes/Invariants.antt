@@ -1,11 +1,9 @@
 -- `minima::set_nodes` meets its contract. The loop's invariant: the nodes from k on are right, and nothing else
 -- changed. Assumes nothing.
-use Prim.Native.Nat.{◌+◌, ◌-◌, ◌*◌, ◌≤◌}
-use mathlib.Core.Path.{◌≡◌, refl}
-use lib.ListN.{length, length-set}
-use Rattle.minima.proofs.Trees.{NodesFrom, InnerOnly, nodes_stored, inner_stored}
-use native.Mathlib.Omega.{arith}
-use borrow.Author.Rules.{rules}
+use Prim.Native.Nat.{◌≤◌}
+use mathlib.Core.Path.{◌≡◌}
+use lib.ListN.{length}
+use Rattle.minima.proofs.Trees.{NodesFrom, InnerOnly}
 use Rattle.minima.proofs.set_nodes.Given as goal
 
 abbrev pub invariant-loop-k : goal.invariant-loop-k

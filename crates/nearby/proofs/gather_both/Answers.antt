@@ -1,7 +1,6 @@
 -- `gather_both` meets its contract: whoever is left out is beyond the limit of the one place or of the other. Assumes
 -- nothing.
 use native.Mathlib.Omega.{arith}
-use borrow.Author.Rules.{rules}
 use Rattle.nearby.proofs.Narrowing.{collected_both}
 use Rattle.nearby.proofs.gather_both.Goals as goal
 

@@ -1,5 +1,4 @@
 -- `gather_near` meets its contract. Assumes nothing.
-use borrow.Author.Rules.{rules}
 use Rattle.nearby.proofs.Narrowing.{collected}
 use Rattle.nearby.proofs.gather_near.Goals as goal
 

@@ -1,6 +1,5 @@
 -- `is_unused` meets its contract: word k of the region of used points. Assumes nothing.
 use lib.Seq.{get_or-take, get_or-drop}
-use borrow.Author.Rules.{rules}
 use Rattle.nearby.proofs.is_unused.Goals as goal
 
 pub returns : goal.returns

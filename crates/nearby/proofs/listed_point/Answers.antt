@@ -1,7 +1,6 @@
 -- `listed_point` meets its contract. Assumes nothing.
 use mathlib.Core.Path.{refl}
 use native.Mathlib.Omega.{arith}
-use borrow.Author.Rules.{rules}
 use Rattle.nearby.proofs.listed_point.Goals as goal
 
 pub overflow_cast-result : goal.overflow_cast-result

@@ -1,9 +1,6 @@
 -- `narrow` meets its contract. The loop's invariant: what is left of the list leads to the whole. Assumes nothing.
 use Prim.Native.Nat.{◌-◌}
-use native.Mathlib.Omega.{arith}
-use borrow.Author.Rules.{rules}
-use Rattle.nearby.proofs.Keeping.{held_kept, cells_kept}
-use Rattle.nearby.proofs.Narrowing.{Narrowing, narrow_start, narrow_below, narrow_skip, narrow_take, narrow_end}
+use Rattle.nearby.proofs.Narrowing.{Narrowing}
 use Rattle.nearby.proofs.narrow.Given as goal
 
 abbrev pub invariant-loop-m : goal.invariant-loop-m

@@ -1,7 +1,6 @@
 -- `clamp` meets its contract.
 use mathlib.Core.Path.{◌≡◌, sym}
 use mathlib.Core.Bool.{cond}
-use mathlib.Core.Logic.{⊎_elim}
 use lib.Ieee.{lt}
 use Rattle.numbers.specs.Order.{clamp}
 use Rattle.numbers.proofs.clamp.Goals.{Joined-w-lo, then-w-lo, else-w-lo}

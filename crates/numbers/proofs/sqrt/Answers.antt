@@ -1,11 +1,9 @@
 -- `sqrt` meets its contract: it is `root` for every f32.
 use mathlib.Core.Path.{◌≡◌, sym, ◌∙◌, subst}
-use mathlib.Core.Logic.{⊎_elim}
 use Prim.Native.Nat.{ℕ, ◌<◌}
 use native.Mathlib.Omega.{arith}
 use lib.Dec.{T}
 use lib.Ieee.{Float, nan, binary32, fits, of_bits, to_bits}
-use borrow.Author.Rules.{rules}
 use Rattle.numbers.specs.Root.{root}
 use Rattle.numbers.proofs.RootSpecial.{nan_root, not_self, zero_root, minus_root, inf_root, pattern_lt, pattern_le, by_bits, no_number}
 use Rattle.numbers.proofs.sqrt.Goals.{Else-b-eq2139095040, Start, then-b-gt0+else-b-lt2139095040, else-b-gt0}

@@ -1,8 +1,6 @@
 -- `try_ball_pivot` meets its contract: over an edge of a good length it is the search for the best point. Assumes
 -- nothing.
 use mathlib.Core.Path.{sym, ◌∙◌}
-use borrow.Author.Rules.{rules}
-use borrow.Author.Tests.{not-true, not-false}
 use Rattle.patch.specs.Lay.{edge}
 use Rattle.decisions.specs.Decisions.{floats_of}
 use Rattle.nearby.specs.Inner.Ready.{used_in_scene}

@@ -1,6 +1,5 @@
 use mathlib.Core.Path.{refl}
 use Rattle.points.specs.Points.{point_at}
-use borrow.Author.Rules.{rules}
 use Rattle.points.proofs.point_at.Goals as goal
 
 pub returns : goal.returns

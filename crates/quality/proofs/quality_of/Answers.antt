@@ -2,7 +2,6 @@
 use mathlib.Core.Path.{◌∙◌}
 use Rattle.quality.specs.Inner.Shape.{quality_of}
 use Rattle.quality.proofs.Shapes.{shape_full}
-use borrow.Author.Rules.{rules}
 use Rattle.quality.proofs.quality_of.Goals as goal
 
 pub returns-then-shape : goal.returns-then-shape

@@ -1,6 +1,5 @@
 -- `score` meets its contract.
 use Rattle.quality.specs.Measures.{score}
-use borrow.Author.Rules.{rules}
 use Rattle.quality.proofs.score.Goals as goal
 
 pub returns : goal.returns

@@ -1,6 +1,5 @@
 -- `shape_of` meets its contract.
 use Rattle.quality.specs.Inner.Shape.{shape_of}
-use borrow.Author.Rules.{rules}
 use Rattle.quality.proofs.shape_of.Goals as goal
 
 pub returns-then-area : goal.returns-then-area

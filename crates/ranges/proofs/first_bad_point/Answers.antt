@@ -3,7 +3,6 @@ use Rattle.ranges.specs.Range.{first_bad_point}
 use native.Mathlib.Nat.{min-eq_left, min-eq_right}
 use native.Mathlib.Omega.{arith}
 use mathlib.Core.Path.{sym, ◌∙◌}
-use borrow.Author.Rules.{rules}
 use Rattle.ranges.proofs.first_bad_point.Goals as goal
 
 pub returns-then-p-q : goal.returns-then-p-q

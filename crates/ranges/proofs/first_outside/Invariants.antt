@@ -1,12 +1,9 @@
 -- `ranges::first_outside` meets its contract. The loop's invariant: no value passed is outside. Assumes nothing.
-use Rattle.ranges.proofs.Range.{leading_start, leading_found, leading_passed, leading_end}
-use Rattle.ranges.specs.Range.{leading, first_outside}
-use borrow.Author.Tests.{not-true, not-false}
+use Rattle.ranges.specs.Range.{leading}
 use lib.Ieee.{neg}
 use lib.ListN.{length, drop}
-use mathlib.Core.Path.{◌≡◌, sym, ap}
-use Prim.Native.Nat.{ℕ, ◌+◌, ◌-◌, ◌/◌, ◌≤◌}
-use borrow.Author.Rules.{rules}
+use mathlib.Core.Path.{◌≡◌}
+use Prim.Native.Nat.{◌+◌, ◌-◌, ◌≤◌}
 use Rattle.ranges.proofs.first_outside.Given as goal
 
 abbrev pub invariant-loop-at : goal.invariant-loop-at

@@ -1,6 +1,5 @@
 -- `ranges::percentile_ok` meets its contract. Assumes nothing.
 use Rattle.ranges.specs.Range.{percentile_inside}
-use borrow.Author.Rules.{rules}
 use Rattle.ranges.proofs.percentile_ok.Goals as goal
 
 pub returns : goal.returns

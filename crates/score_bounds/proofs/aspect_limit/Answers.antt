@@ -1,5 +1,4 @@
 -- `aspect_limit` meets its contract: its guess is tested.
-use borrow.Author.Rules.{rules}
 use Rattle.numbers.proofs.RootSpecial.{no_number}
 use Rattle.score_bounds.proofs.Aspect.{aspect_limit_is, no_aspect_limit}
 use Rattle.score_bounds.proofs.aspect_limit.Goals as goal

@@ -1,6 +1,5 @@
 -- `score_bound` meets its contract.
 use Rattle.score_bounds.specs.Inner.Bound.{score_bound}
-use borrow.Author.Rules.{rules}
 use Rattle.score_bounds.proofs.score_bound.Goals as goal
 
 pub returns : goal.returns

@@ -1,7 +1,4 @@
 -- `score_near` meets its contract: its tests are those of `score_near`, in their order. Assumes nothing.
-use lib.Ieee.{le}
-use borrow.Author.Rules.{rules}
-use borrow.Author.Tests.{not-true, not-false}
 use Rattle.numbers.specs.Rounded.{◌⊗◌}
 use Rattle.numbers.specs.Root.{root}
 use Rattle.quality.specs.Measures.{half}

@@ -1,6 +1,5 @@
 -- `score_over` meets its contract: what the squares turn down has a score below `top`. Assumes nothing.
 use mathlib.Core.Path.{ap}
-use borrow.Author.Rules.{rules}
 use Rattle.scores.specs.declared.Side.{Side}
 use Rattle.scores.proofs.Over.{over_found, over_thin}
 use Rattle.scores.proofs.score_over.Goals as goal

@@ -1,5 +1,4 @@
 -- `side_of` meets its contract. Assumes nothing.
-use borrow.Author.Rules.{rules}
 use Rattle.scores.proofs.side_of.Goals as goal
 
 pub returns : goal.returns

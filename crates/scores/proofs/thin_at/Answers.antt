@@ -1,5 +1,4 @@
 -- `thin_at` meets its contract. Assumes nothing.
-use borrow.Author.Rules.{rules}
 use Rattle.scores.proofs.thin_at.Goals as goal
 
 pub returns : goal.returns

@@ -1,14 +1,8 @@
 -- `settings::all_in_range` meets its contract. The loop's invariant: no slot passed is outside. Assumes nothing.
-use borrow.Author.Tests.{lt-leb, le-leb}
-use Rattle.ranges.proofs.Range.{leading_start, leading_found, leading_passed}
 use Rattle.ranges.specs.Range.{leading}
-use Rattle.settings.specs.Settings.{list_inside}
-use borrow.Author.Tests.{not-true, not-false}
 use lib.ListN.{drop}
 use mathlib.Core.Path.{◌≡◌}
 use Prim.Native.Nat.{◌+◌, ◌-◌, ◌≤◌}
-use native.Mathlib.Omega.{arith}
-use borrow.Author.Rules.{rules}
 use Rattle.settings.proofs.all_in_range.Given as goal
 
 abbrev pub invariant-loop-k : goal.invariant-loop-k

@@ -1,7 +1,6 @@
 -- `settings::first_bad_setting` meets its contract. Assumes nothing.
 use Rattle.ranges.proofs.Tests.{passed, failed}
 use Rattle.settings.specs.Settings.{first_bad_setting, setting_tests, first_failing}
-use borrow.Author.Rules.{rules}
 use Rattle.settings.proofs.first_bad_setting.Goals as goal
 
 pub returns-then-not-in_range : goal.returns-then-not-in_range

@@ -1,7 +1,6 @@
 -- `settings::first_bad_threshold` meets its contract. Assumes nothing.
 use Rattle.settings.specs.Settings.{first_failing}
 use Rattle.ranges.proofs.Tests.{passed, failed}
-use borrow.Author.Rules.{rules}
 use Rattle.settings.proofs.first_bad_threshold.Goals as goal
 
 pub returns-then-not-in_range : goal.returns-then-not-in_range

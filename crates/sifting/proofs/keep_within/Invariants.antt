@@ -1,8 +1,6 @@
 -- `keep_within` meets its contract. The loop's invariant: what is left of the list leads to the whole. Assumes nothing.
 use Prim.Native.Nat.{◌-◌}
-use native.Mathlib.Omega.{arith}
-use borrow.Author.Rules.{rules}
-use Rattle.sifting.proofs.Sifting.{Sifting, sift_start, sift_below, sift_skip, sift_take, sift_end}
+use Rattle.sifting.proofs.Sifting.{Sifting}
 use Rattle.sifting.proofs.keep_within.Given as goal
 
 abbrev pub invariant-loop-m : goal.invariant-loop-m

@@ -1,8 +1,6 @@
 -- `angle_bound` meets its contract.
-use borrow.Author.Tests.{not-false}
 use Rattle.numbers.proofs.RootSpecial.{no_number}
 use Rattle.six_orders.proofs.Angles.{no_angle_bound, angles_bounded}
-use borrow.Author.Rules.{rules}
 use Rattle.six_orders.proofs.angle_bound.Goals as goal
 
 pub returns-then-not-is_same : goal.returns-then-not-is_same

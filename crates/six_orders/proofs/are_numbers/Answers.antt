@@ -1,8 +1,6 @@
 -- `are_numbers` meets its contract: what is compared is a number.
 use mathlib.Core.Path.{sym, subst}
 use lib.Dec.{T}
-use lib.Ieee.{le}
-use borrow.Author.Tests.{not-false}
 use Rattle.numbers.specs.Rounded.{f32}
 use Rattle.numbers.proofs.OrderLaws.{le_left}
 use Rattle.six_orders.proofs.are_numbers.Goals as goal

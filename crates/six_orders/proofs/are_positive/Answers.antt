@@ -1,8 +1,6 @@
 -- `are_positive` meets its contract.
 use mathlib.Core.Path.{sym, subst}
 use lib.Dec.{T}
-use borrow.Author.Tests.{not-false}
-use borrow.Author.Rules.{rules}
 use Rattle.six_orders.proofs.are_positive.Goals as goal
 
 pub returns-then-not-is_positive : goal.returns-then-not-is_positive

@@ -1,8 +1,6 @@
 -- `aspect_bound` meets its contract: every number that is divided by is above zero.
-use borrow.Author.Tests.{not-false}
 use Rattle.numbers.proofs.RootSpecial.{no_number}
 use Rattle.six_orders.proofs.Aspects.{no_aspect_bound, aspects_bounded}
-use borrow.Author.Rules.{rules}
 use Rattle.six_orders.proofs.aspect_bound.Goals as goal
 
 pub returns-then-not-are_positive : goal.returns-then-not-are_positive

@@ -1,7 +1,6 @@
 -- `edge_bound` meets its contract.
 use Rattle.numbers.proofs.RootSpecial.{no_number}
 use Rattle.six_orders.proofs.Edges.{no_edge_bound, edges_bounded}
-use borrow.Author.Rules.{rules}
 use Rattle.six_orders.proofs.edge_bound.Goals as goal
 
 pub returns-then-is_positive : goal.returns-then-is_positive

@@ -1,7 +1,6 @@
 -- `edge_from` meets its contract. Assumes nothing.
 use Rattle.numbers.proofs.RootSpecial.{no_number}
 use Rattle.six_orders.proofs.Edges.{edges_from, no_edge_from}
-use borrow.Author.Rules.{rules}
 use Rattle.six_orders.proofs.edge_from.Goals as goal
 
 pub returns-then-is_positive-2 : goal.returns-then-is_positive-2

@@ -1,6 +1,5 @@
 -- `is_low` meets its contract.
 use Rattle.six_orders.proofs.Scores.{second_below, third_below}
-use borrow.Author.Rules.{rules}
 use Rattle.six_orders.proofs.is_low.Goals as goal
 
 pub returns-then-a-b : goal.returns-then-a-b

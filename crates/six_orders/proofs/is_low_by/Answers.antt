@@ -1,13 +1,10 @@
 -- `is_low_by` meets its contract.
 use mathlib.Core.Path.{sym, subst}
 use lib.Dec.{T}
-use lib.Ieee.{lt, le}
-use borrow.Author.Tests.{not-false}
 use Rattle.numbers.specs.Rounded.{f32}
 use Rattle.numbers.proofs.OrderLaws.{le_left}
 use Rattle.six_orders.proofs.Aspects.{as_long}
 use Rattle.six_orders.proofs.Scores.{all_below_lem}
-use borrow.Author.Rules.{rules}
 use Rattle.six_orders.proofs.is_low_by.Goals as goal
 
 pub returns-then-not-threshold : goal.returns-then-not-threshold

@@ -1,12 +1,9 @@
 -- `is_low_from` meets its contract. Assumes nothing.
 use mathlib.Core.Path.{sym, subst}
 use lib.Dec.{T}
-use lib.Ieee.{lt, le}
-use borrow.Author.Tests.{not-false}
 use Rattle.numbers.specs.Rounded.{f32}
 use Rattle.numbers.proofs.OrderLaws.{le_left}
 use Rattle.six_orders.proofs.Scores.{all_below_from}
-use borrow.Author.Rules.{rules}
 use Rattle.six_orders.proofs.is_low_from.Goals as goal
 
 pub returns-then-not-threshold : goal.returns-then-not-threshold

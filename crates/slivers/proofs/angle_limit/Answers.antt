@@ -1,12 +1,8 @@
 -- `angle_limit` meets its contract.
 use mathlib.Core.Path.{sym, subst}
 use lib.Dec.{T}
-use lib.Ieee.{lt, le}
-use borrow.Author.Tests.{not-false}
-use Rattle.numbers.specs.Rounded.{f32}
 use Rattle.numbers.proofs.RootSpecial.{no_number}
 use Rattle.slivers.proofs.Angle.{angle_limit_is, no_angle_limit}
-use borrow.Author.Rules.{rules}
 use Rattle.slivers.proofs.angle_limit.Goals as goal
 
 pub returns-then-not-cosine : goal.returns-then-not-cosine

@@ -1,7 +1,6 @@
 -- `sliver_limits` meets its contract.
 use Rattle.numbers.proofs.RootSpecial.{no_number}
 use Rattle.slivers.proofs.Limits.{slivers_are, no_slivers}
-use borrow.Author.Rules.{rules}
 use Rattle.slivers.proofs.sliver_limits.Goals as goal
 
 pub returns-then-low : goal.returns-then-low

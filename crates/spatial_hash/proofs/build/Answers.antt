@@ -8,7 +8,6 @@ use lib.Seq.{take-take}
 use Rattle.spatial_hash.specs.Inner.Near.{HashSound, Heading}
 use Rattle.spatial_hash.proofs.Kept.{ready_same}
 use Rattle.spatial_hash.proofs.Heads.{hashed_all}
-use borrow.Author.Rules.{rules}
 use Rattle.spatial_hash.proofs.build.Goals as goal
 
 pub link_points-requires : goal.link_points-requires

@@ -1,6 +1,5 @@
 -- `spatial_hash::gather` meets its contract. Assumes nothing.
 use Rattle.spatial_hash.proofs.Gathering.{box_room, box_gathered}
-use borrow.Author.Rules.{rules}
 use Rattle.spatial_hash.proofs.gather.Goals as goal
 
 pub visit_planes-requires : goal.visit_planes-requires

@@ -1,7 +1,6 @@
 -- `gather_within` meets its contract: whoever lies outside the bounds is beyond the limit, and so is whoever is left
 -- out then. Assumes nothing.
 use native.Mathlib.Omega.{arith}
-use borrow.Author.Rules.{rules}
 use Rattle.spatial_hash.proofs.Nearby.{sifted_near}
 use Rattle.spatial_hash.proofs.gather_within.Goals as goal
 

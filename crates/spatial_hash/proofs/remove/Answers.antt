@@ -8,7 +8,6 @@ use Rattle.points.specs.Points.{point_at}
 use Rattle.spatial_hash.specs.Inner.Buckets.{row_for, place_for, links_of, is_out}
 use Rattle.spatial_hash.proofs.Sizes.{rows_few, joined_below}
 use Rattle.spatial_hash.proofs.Removing.{removed_before, leaving, removed}
-use borrow.Author.Rules.{rules}
 use Rattle.spatial_hash.proofs.remove.Goals as goal
 
 pub returns-then-is_out : goal.returns-then-is_out

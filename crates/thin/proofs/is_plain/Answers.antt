@@ -1,5 +1,4 @@
 -- `is_plain` meets its contract.
-use borrow.Author.Rules.{rules}
 use Rattle.thin.specs.Inner.Thin.{is_plain_triangle}
 use Rattle.thin.proofs.is_plain.Goals as goal
 

@@ -1,10 +1,6 @@
 -- `is_thin` meets its contract: what passes the test by squares has an aspect ratio below the bound.
 use mathlib.Core.Path.{sym, subst}
 use lib.Dec.{T}
-use lib.Ieee.{le}
-use borrow.Author.Rules.{rules}
-use borrow.Author.Tests.{not-false}
-use Rattle.numbers.specs.Rounded.{f32}
 use Rattle.thin.proofs.Thin.{thin_up_to}
 use Rattle.thin.proofs.is_thin.Goals as goal
 

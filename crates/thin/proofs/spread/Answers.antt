@@ -1,5 +1,4 @@
 -- `spread` meets its contract.
-use borrow.Author.Rules.{rules}
 use Rattle.thin.specs.Inner.Thin.{spread}
 use Rattle.thin.proofs.spread.Goals as goal
 

@@ -1,7 +1,6 @@
 -- `thin_limit` meets its contract.
 use mathlib.Core.Path.{sym, subst}
 use lib.Dec.{T}
-use borrow.Author.Rules.{rules}
 use Rattle.thin.proofs.Thin.{limit_is, no_limit}
 use Rattle.thin.proofs.thin_limit.Goals as goal
 

@@ -1,6 +1,5 @@
 -- `area_of` meets its contract.
 use Rattle.triangle.specs.Quality.{area}
-use borrow.Author.Rules.{rules}
 use Rattle.triangle.proofs.area_of.Goals as goal
 
 pub returns : goal.returns

@@ -1,7 +1,6 @@
 -- `compute_circumradius` meets its contract.
 use Rattle.triangle.specs.Quality.{circumradius}
 use Rattle.numbers.proofs.Compare.{infinite}
-use borrow.Author.Rules.{rules}
 use Rattle.triangle.proofs.compute_circumradius.Goals as goal
 
 pub returns-then-area : goal.returns-then-area

@@ -4,7 +4,6 @@ use mathlib.Core.Path.{ap}
 use Rattle.quality.specs.declared.Shape.{Shape}
 use Rattle.quality.proofs.Shapes.{shape_area, shape_own}
 use Rattle.triangle.proofs.Quality.{quality_is}
-use borrow.Author.Rules.{rules}
 use Rattle.triangle.proofs.compute_triangle_quality.Goals as goal
 
 pub quality_of-requires : goal.quality_of-requires

@@ -1,6 +1,5 @@
 -- `is_triangle_acceptable` meets its contract, test by test.
 use Rattle.triangle.specs.Quality.{source_acceptable, acceptable}
-use borrow.Author.Rules.{rules}
 use Rattle.triangle.proofs.is_triangle_acceptable.Goals as goal
 
 pub returns-then-quality : goal.returns-then-quality

@@ -1,6 +1,5 @@
 -- `distance_squared` meets its contract.
 use Rattle.vector.specs.Vector.{squared}
-use borrow.Author.Rules.{rules}
 use Rattle.vector.proofs.distance_squared.Goals as goal
 
 pub returns : goal.returns

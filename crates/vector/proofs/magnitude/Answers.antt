@@ -1,6 +1,5 @@
 -- `magnitude` meets its contract.
 use Rattle.vector.specs.Vector.{magnitude}
-use borrow.Author.Rules.{rules}
 use Rattle.vector.proofs.magnitude.Goals as goal
 
 pub returns : goal.returns

@@ -1,6 +1,5 @@
 -- `acos_high` meets its contract.
 use Rattle.numbers.specs.Acos.{acos_high}
-use borrow.Author.Rules.{rules}
 use Rattle.arc_cosine.proofs.arc.acos_high.Goals as goal
 
 pub returns : goal.returns

@@ -1,7 +1,6 @@
 -- `acos_inside` meets its contract, case by case.
 use Rattle.numbers.specs.Acos.{acos_inside}
 use Rattle.numbers.proofs.RootSpecial.{no_number}
-use borrow.Author.Rules.{rules}
 use Rattle.arc_cosine.proofs.arc.acos_inside.Goals as goal
 
 pub returns-then-m : goal.returns-then-m

@@ -1,6 +1,5 @@
 -- `acos_low` meets its contract.
 use Rattle.numbers.specs.Acos.{acos_low}
-use borrow.Author.Rules.{rules}
 use Rattle.arc_cosine.proofs.arc.acos_low.Goals as goal
 
 pub returns : goal.returns

@@ -1,6 +1,5 @@
 -- `acos_middle` meets its contract.
 use Rattle.numbers.specs.Acos.{acos_middle}
-use borrow.Author.Rules.{rules}
 use Rattle.arc_cosine.proofs.arc.acos_middle.Goals as goal
 
 pub returns : goal.returns

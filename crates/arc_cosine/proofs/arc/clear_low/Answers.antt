@@ -7,7 +7,6 @@ use lib.Dec.{T}
 use lib.Ieee.{binary32, to_bits}
 use lib.Ieee.Bits.{nan_bits_above}
 use borrow.Author.Tests.{le-ltb}
-use borrow.Author.Rules.{rules}
 use Rattle.numbers.specs.Acos.{high_part}
 use Rattle.numbers.proofs.Compare.{is_nan_lem}
 use Rattle.numbers.proofs.RootSpecial.{not_self, pattern_lt, pattern_le}

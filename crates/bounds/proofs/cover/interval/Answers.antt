@@ -1,7 +1,6 @@
 -- `bounds::cover::interval` meets its contract. Assumes nothing.
 use mathlib.Core.Path.{sym, ◌∙◌}
 use Rattle.bounds.proofs.Beyond.{covers_tested, covers_all}
-use borrow.Author.Rules.{rules}
 use Rattle.bounds.proofs.cover.interval.Goals as goal
 
 pub returns-then-is_covering : goal.returns-then-is_covering

@@ -1,7 +1,6 @@
 -- `domain::lengths::work_answer` meets its contract. Assumes nothing.
 use Rattle.domain.specs.Refusals.{roomy}
 use borrow.Author.Tests.{le-leb, lt-leb}
-use borrow.Author.Rules.{rules}
 use Rattle.domain.proofs.lengths.work_answer.Goals as goal
 
 pub returns-then-words-n : goal.returns-then-words-n

@@ -1,6 +1,5 @@
 -- `grid::search::is_near` meets its contract. Assumes nothing.
 use mathlib.Core.Path.{ap, ◌∙◌}
-use borrow.Author.Rules.{rules}
 use Rattle.grid.specs.Grid.{in_range}
 use Rattle.grid.proofs.search.is_near.Goals as goal
 

@@ -1,6 +1,5 @@
 -- `axis::parts` meets its contract. Assumes nothing.
 use Rattle.intervals.proofs.Ends.{parts_held}
-use borrow.Author.Rules.{rules}
 use Rattle.intervals.proofs.axis.parts.Goals as goal
 
 pub returns : goal.returns

@@ -1,6 +1,5 @@
 -- `axis::products` meets its contract. Assumes nothing.
 use Rattle.intervals.proofs.Ends.{products_held}
-use borrow.Author.Rules.{rules}
 use Rattle.intervals.proofs.axis.products.Goals as goal
 
 pub returns : goal.returns

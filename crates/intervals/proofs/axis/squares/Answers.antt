@@ -1,6 +1,5 @@
 -- `axis::squares` meets its contract. Assumes nothing.
 use Rattle.intervals.proofs.Ends.{squares_held}
-use borrow.Author.Rules.{rules}
 use Rattle.intervals.proofs.axis.squares.Goals as goal
 
 pub returns : goal.returns

@@ -1,11 +1,9 @@
 -- `sift_down` meets its contract. The loop's invariant (`Sifting`): what is left of the definition's way down from
 -- place p, with v to be put, gives the whole heap. The place grows, so it ends. Assumes nothing.
-use native.Mathlib.Omega.{arith}
-use borrow.Author.Rules.{rules}
 use Prim.Native.Nat.{◌-◌, ◌≤◌, ◌<◌}
-use mathlib.Core.Path.{◌≡◌, refl}
-use lib.ListN.{length, length-set}
-use Rattle.laying_words.proofs.Sifting.{Sifting, start, step, end_left, end_none}
+use mathlib.Core.Path.{◌≡◌}
+use lib.ListN.{length}
+use Rattle.laying_words.proofs.Sifting.{Sifting}
 use Rattle.laying_words.proofs.heap.sift_down.Reads as reads
 use Rattle.laying_words.proofs.heap.sift_down.Lts as lts
 use Rattle.laying_words.proofs.heap.sift_down.Given as goal

@@ -1,8 +1,5 @@
 -- `floor_root` meets its contract: the root lies from lo on and below hi, and each turn halves what is between.
-use mathlib.Core.Path.{◌≡◌, subst}
-use Prim.Native.Nat.{ℕ, ◌+◌, ◌-◌, ◌*◌, ◌/◌, ◌≤◌, ◌<◌}
-use native.Mathlib.Nat.{mul-le-mul_left, mul-le-mul_right, le_trans}
-use native.Mathlib.Omega.{arith}
+use Prim.Native.Nat.{◌-◌, ◌*◌, ◌≤◌, ◌<◌}
 use Rattle.numbers.proofs.root.floor_root.Given as goal
 
 abbrev pub invariant-loop-lo : goal.invariant-loop-lo

@@ -4,7 +4,6 @@ use native.Mathlib.Omega.{arith}
 use lib.Dec.{T, le→leb}
 use lib.IntN.{pos}
 use lib.Ieee.{binary64, in_float}
-use borrow.Author.Rules.{rules}
 use Rattle.numbers.proofs.root.guess.Goals as goal
 
 in_float_lem : (n : ℕ) → n < 2 ^ 48 → T (in_float binary64 (pos n))

@@ -3,7 +3,6 @@ use mathlib.Core.Path.{◌≡◌, sym, subst}
 use mathlib.Core.Bool.{true, not}
 use lib.Dec.{T}
 use lib.Ieee.{Float, nan, inf, fin, lt, is_nan}
-use borrow.Author.Rules.{rules}
 use Rattle.numbers.proofs.root.low_bits.Goals as goal
 
 lt_no_nan : (x y : Float) → lt x y ≡ true → T (not (is_nan x))

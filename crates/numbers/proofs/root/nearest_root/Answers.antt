@@ -1,6 +1,5 @@
 -- `nearest_root` meets its contract: whichever way r was found, (r - 1/2)^2 < n < (r + 1/2)^2, and only one number is
 -- such.
-use borrow.Author.Rules.{rules}
 use native.Mathlib.Omega.{arith}
 use Rattle.numbers.proofs.RootWhole.{nearest_is, near_up, near_stay, square_lt}
 use Rattle.numbers.proofs.root.nearest_root.Goals as goal

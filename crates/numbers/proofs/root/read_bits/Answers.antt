@@ -5,7 +5,6 @@ use native.Mathlib.Nat.{lt_of_le_of_lt, mod-eq_of_lt}
 use native.Mathlib.Omega.{arith}
 use lib.Pow.{shl_lt}
 use lib.Count.{count_leading_zeros, leading_top}
-use borrow.Author.Rules.{rules}
 use Rattle.numbers.proofs.RootPattern.{shl_ge, pow_lt_back}
 use Rattle.numbers.proofs.RootUnits.{small_scaled, normal_scaled}
 use Rattle.numbers.proofs.root.read_bits.Goals.{Then-e-eq0}

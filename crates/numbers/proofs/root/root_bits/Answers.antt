@@ -1,5 +1,4 @@
 -- `root_bits` meets its contract: the pattern that `root_of` gives is that of the root.
-use borrow.Author.Rules.{rules}
 use Rattle.numbers.proofs.RootUnits.{root_pattern}
 use Rattle.numbers.proofs.root.root_bits.Goals as goal
 

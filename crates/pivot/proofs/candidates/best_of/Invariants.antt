@@ -1,12 +1,8 @@
 -- `best_of` meets its contract. The loop's invariant: the best of all candidates is the best of those from m on, given
 -- the best so far. Assumes nothing.
 use Prim.Native.Nat.{◌-◌}
-use mathlib.Core.Path.{◌≡◌}
-use borrow.Author.Rules.{rules}
-use Rattle.vector.specs.declared.Point3f.{Point3f}
-use Rattle.scores.specs.declared.Side.{Side}
-use Rattle.scores.specs.Inner.Over.{edge_side, Thinned}
-use Rattle.pivot.proofs.Steps.{Best, best_start, best_skip, best_taken, best_all}
+use Rattle.scores.specs.Inner.Over.{Thinned}
+use Rattle.pivot.proofs.Steps.{Best}
 use Rattle.pivot.proofs.candidates.best_of.Given as goal
 
 abbrev pub invariant-loop-m : goal.invariant-loop-m

@@ -1,7 +1,6 @@
 -- `find_best` meets its contract: what is gathered has every neighbour that has a score, and the best of them is the
 -- definition's. Assumes nothing.
 use mathlib.Core.Path.{sym, ap, ◌∙◌, subst}
-use borrow.Author.Rules.{rules}
 use Rattle.vector.specs.Inner.Numbers.{Finite}
 use Rattle.nearby.proofs.Keeping.{held_kept, cells_kept}
 use Rattle.nearby.proofs.Narrowing.{collected_listed}

@@ -1,7 +1,5 @@
 -- `is_ahead` meets its contract. Assumes nothing.
 use mathlib.Core.Path.{sym, ◌∙◌}
-use borrow.Author.Rules.{rules}
-use borrow.Author.Tests.{not-true, not-false}
 use Rattle.pivot.proofs.candidates.is_ahead.Goals as goal
 
 pub returns-then-not-is_near : goal.returns-then-not-is_near

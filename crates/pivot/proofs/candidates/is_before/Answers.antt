@@ -1,6 +1,5 @@
 -- `is_before` meets its contract. Assumes nothing.
 use mathlib.Core.Path.{sym, ap, ◌∙◌}
-use borrow.Author.Rules.{rules}
 use Rattle.grid.specs.Inner.Index.{cell_in, earlier}
 use Rattle.pivot.specs.declared.Pivot.{Pivot}
 use Rattle.pivot.specs.Inner.Found.{point_of}

@@ -1,7 +1,6 @@
 -- `score_ahead` meets its contract: the tests over the kept cells are those of the points' own. Assumes nothing.
 use mathlib.Core.Path.{◌∙◌}
 use native.Mathlib.Omega.{arith}
-use borrow.Author.Rules.{rules}
 use Rattle.grid.specs.Inner.Index.{earlier}
 use Rattle.patch.specs.Lay.{edge}
 use Rattle.patch.specs.Search.{score_of}

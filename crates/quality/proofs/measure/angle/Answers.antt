@@ -1,6 +1,5 @@
 -- `angle` meets its contract.
 use Rattle.quality.specs.Measures.{angle}
-use borrow.Author.Rules.{rules}
 use Rattle.quality.proofs.measure.angle.Goals as goal
 
 pub returns : goal.returns

@@ -1,7 +1,6 @@
 -- `edge_ratio` meets its contract.
 use Rattle.quality.specs.Measures.{edge_ratio}
 use Rattle.numbers.proofs.Compare.{infinite}
-use borrow.Author.Rules.{rules}
 use Rattle.quality.proofs.measure.edge_ratio.Goals as goal
 
 pub returns-then-shortest : goal.returns-then-shortest

@@ -1,6 +1,5 @@
 -- `largest` meets its contract.
 use Rattle.quality.specs.Measures.{largest}
-use borrow.Author.Rules.{rules}
 use Rattle.quality.proofs.measure.largest.Goals as goal
 
 pub returns : goal.returns

@@ -1,6 +1,5 @@
 -- `least` meets its contract.
 use Rattle.quality.specs.Measures.{least}
-use borrow.Author.Rules.{rules}
 use Rattle.quality.proofs.measure.least.Goals as goal
 
 pub returns : goal.returns

@@ -3,7 +3,6 @@ use mathlib.Core.Path.{ap}
 use Rattle.quality.specs.Measures.{measures}
 use Rattle.quality.specs.Inner.Shape.{shape}
 use Rattle.quality.specs.declared.Shape.{Shape}
-use borrow.Author.Rules.{rules}
 use Rattle.quality.proofs.measure.measures.Goals as goal
 
 pub returns : goal.returns

@@ -1,6 +1,5 @@
 -- `shape` meets its contract.
 use Rattle.quality.specs.Inner.Shape.{shape}
-use borrow.Author.Rules.{rules}
 use Rattle.quality.proofs.measure.shape.Goals as goal
 
 pub returns : goal.returns

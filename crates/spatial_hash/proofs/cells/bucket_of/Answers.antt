@@ -4,7 +4,6 @@ use native.Mathlib.Nat.{mul-le-mul}
 use Rattle.spatial_hash.specs.Inner.Buckets.{bucket_of}
 use Rattle.spatial_hash.proofs.Sizes.{square_few}
 use native.Mathlib.Omega.{arith}
-use borrow.Author.Rules.{rules}
 use Rattle.spatial_hash.proofs.cells.bucket_of.Goals as goal
 
 pub overflow_mul-result : goal.overflow_mul-result

@@ -1,7 +1,6 @@
 -- `spatial_hash::cells::next` meets its contract. Assumes nothing.
 use mathlib.Core.Path.{sym}
 use Rattle.spatial_hash.proofs.Residues.{next_wraps, next_goes}
-use borrow.Author.Rules.{rules}
 use Rattle.spatial_hash.proofs.cells.next.Goals as goal
 
 pub returns-then-t-side : goal.returns-then-t-side

@@ -2,7 +2,6 @@
 use Rattle.spatial_hash.specs.Inner.Buckets.{row_for}
 use Rattle.spatial_hash.proofs.Sizes.{square_few, joined_below}
 use native.Mathlib.Omega.{arith}
-use borrow.Author.Rules.{rules}
 use Rattle.spatial_hash.proofs.cells.row_of.Goals as goal
 
 pub overflow_mul-result : goal.overflow_mul-result

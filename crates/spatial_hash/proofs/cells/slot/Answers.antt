@@ -1,5 +1,4 @@
 -- `spatial_hash::cells::slot` meets its contract. Assumes nothing.
-use borrow.Author.Rules.{rules}
 use Rattle.spatial_hash.specs.Inner.Buckets.{slot}
 use Rattle.spatial_hash.proofs.cells.slot.Goals as goal
 

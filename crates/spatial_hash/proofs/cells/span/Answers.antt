@@ -1,5 +1,4 @@
 -- `spatial_hash::cells::span` meets its contract. Assumes nothing.
-use borrow.Author.Rules.{rules}
 use Rattle.spatial_hash.proofs.cells.span.Goals as goal
 
 pub returns : goal.returns

@@ -1,6 +1,5 @@
 -- `spatial_hash::cells::span_of` meets its contract. Assumes nothing.
 use Rattle.spatial_hash.proofs.Residues.{span_empty, span_part, span_whole}
-use borrow.Author.Rules.{rules}
 use Rattle.spatial_hash.proofs.cells.span_of.Goals as goal
 
 pub returns-then-b-a : goal.returns-then-b-a

@@ -1,10 +1,8 @@
 -- `spatial_hash::links::clear_heads` meets its contract. Assumes nothing.
 use mathlib.Core.Path.{refl}
-use Prim.Native.Nat.{◌-◌}
-use Rattle.spatial_hash.proofs.Heads.{Cleared, cleared_step}
+use Rattle.spatial_hash.proofs.Heads.{cleared_step}
 use Rattle.spatial_hash.proofs.Sizes.{square_few}
 use native.Mathlib.Omega.{arith}
-use borrow.Author.Rules.{rules}
 use Rattle.spatial_hash.proofs.links.clear_heads.Reads as reads
 use Rattle.spatial_hash.proofs.links.clear_heads.Lts as lts
 use Rattle.spatial_hash.proofs.links.clear_heads.Goals as goal

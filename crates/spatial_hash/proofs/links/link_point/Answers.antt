@@ -1,7 +1,6 @@
 -- `spatial_hash::links::link_point` meets its contract. Assumes nothing.
 use native.Mathlib.Omega.{arith}
 use lib.ListN.{length-set}
-use borrow.Author.Rules.{rules}
 use Rattle.spatial_hash.proofs.links.link_point.Goals as goal
 
 pub bounds-w-n-3 : goal.bounds-w-n-3

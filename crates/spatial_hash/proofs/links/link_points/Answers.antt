@@ -2,9 +2,8 @@
 use native.Mathlib.Omega.{arith}
 use borrow.Author.Rules.{rules}
 use mathlib.Core.Path.{ap, ◌∙◌}
-use Prim.Native.Nat.{◌-◌}
 use Rattle.spatial_hash.specs.Inner.Buckets.{bucket_of}
-use Rattle.spatial_hash.proofs.Heads.{Linking, linking_start, linking_step, linking_end, bucket_below}
+use Rattle.spatial_hash.proofs.Heads.{linking_start, linking_step, linking_end, bucket_below}
 use Rattle.spatial_hash.proofs.links.link_points.Goals as goal
 
 pub loop-j-init : goal.loop-j-init

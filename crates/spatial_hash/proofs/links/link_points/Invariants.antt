@@ -1,10 +1,6 @@
 -- `spatial_hash::links::link_points` meets its contract. Assumes nothing.
-use native.Mathlib.Omega.{arith}
-use borrow.Author.Rules.{rules}
-use mathlib.Core.Path.{ap, ◌∙◌}
 use Prim.Native.Nat.{◌-◌}
-use Rattle.spatial_hash.specs.Inner.Buckets.{bucket_of}
-use Rattle.spatial_hash.proofs.Heads.{Linking, linking_start, linking_step, linking_end, bucket_below}
+use Rattle.spatial_hash.proofs.Heads.{Linking}
 use Rattle.spatial_hash.proofs.links.link_points.Given as goal
 
 abbrev pub invariant-loop-j : goal.invariant-loop-j

@@ -1,6 +1,5 @@
 -- `spatial_hash::links::lower` meets its contract. Assumes nothing.
 use Rattle.spatial_hash.proofs.Corners.{minimum_finite}
-use borrow.Author.Rules.{rules}
 use Rattle.spatial_hash.proofs.links.lower.Goals as goal
 
 pub returns : goal.returns

@@ -1,7 +1,5 @@
 -- `spatial_hash::walk::copy_points` meets its contract. Assumes nothing.
-use Prim.Native.Nat.{◌-◌}
-use Rattle.spatial_hash.proofs.Runs.{Copying, copying_start, copying_step, copying_end}
-use borrow.Author.Rules.{rules}
+use Rattle.spatial_hash.proofs.Runs.{copying_start, copying_step, copying_end}
 use Rattle.spatial_hash.proofs.walk.copy_points.Goals as goal
 
 pub loop-i-init : goal.loop-i-init

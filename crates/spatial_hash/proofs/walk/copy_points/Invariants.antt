@@ -1,7 +1,6 @@
 -- `spatial_hash::walk::copy_points` meets its contract. Assumes nothing.
 use Prim.Native.Nat.{◌-◌}
-use Rattle.spatial_hash.proofs.Runs.{Copying, copying_start, copying_step, copying_end}
-use borrow.Author.Rules.{rules}
+use Rattle.spatial_hash.proofs.Runs.{Copying}
 use Rattle.spatial_hash.proofs.walk.copy_points.Given as goal
 
 abbrev pub invariant-loop-i : goal.invariant-loop-i

@@ -1,9 +1,6 @@
 -- `spatial_hash::walk::visit_plane` meets its contract. Assumes nothing.
-use borrow.Author.Rules.{rules}
-use native.Mathlib.Omega.{arith}
-use Rattle.spatial_hash.proofs.Visiting.{Visiting, plane_left, plane_splits, visiting_start, visiting_room, visiting_step, visiting_end}
+use Rattle.spatial_hash.proofs.Visiting.{Visiting, plane_left}
 use Rattle.spatial_hash.specs.Inner.Buckets.{spanned}
-use Rattle.spatial_hash.proofs.Sizes.{square_few, joined_below}
 use Rattle.spatial_hash.proofs.walk.visit_plane.Given as goal
 
 abbrev pub invariant-loop-left : goal.invariant-loop-left

@@ -1,7 +1,6 @@
 -- `spatial_hash::walk::visit_planes` meets its contract. Assumes nothing.
-use borrow.Author.Rules.{rules}
 use Rattle.spatial_hash.specs.Inner.Buckets.{spanned}
-use Rattle.spatial_hash.proofs.Visiting.{Visiting, box_left, box_splits, visiting_start, visiting_room, visiting_step, visiting_end}
+use Rattle.spatial_hash.proofs.Visiting.{box_splits, visiting_start, visiting_room, visiting_step, visiting_end}
 use Rattle.spatial_hash.proofs.walk.visit_planes.Goals as goal
 
 pub loop-left-init : goal.loop-left-init

@@ -1,7 +1,6 @@
 -- `spatial_hash::walk::visit_row` meets its contract. Assumes nothing.
 use native.Mathlib.Omega.{arith}
 use Rattle.spatial_hash.proofs.Runs.{one_room, one_appended, first_room, second_room, two_appended}
-use borrow.Author.Rules.{rules}
 use Rattle.spatial_hash.proofs.walk.visit_row.Goals as goal
 
 pub visit_run-requires : goal.visit_run-requires

@@ -6,7 +6,6 @@ use Rattle.spatial_hash.specs.Inner.Buckets.{Appended}
 use Rattle.spatial_hash.proofs.Sizes.{joined_below}
 use Rattle.spatial_hash.proofs.Runs.{start_most, run_goes, run_is, run_room}
 use native.Mathlib.Omega.{arith}
-use borrow.Author.Rules.{rules}
 use Rattle.spatial_hash.proofs.walk.visit_run.Goals as goal
 
 pub overflow_mul-starts-2 : goal.overflow_mul-starts-2
