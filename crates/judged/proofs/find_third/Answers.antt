@@ -5,15 +5,10 @@ use native.Mathlib.Omega.{arith}
 use mathlib.Core.Bool.{Bool}
 use Rattle.judged.specs.Inner.Triples.{is_beside_both}
 use Rattle.judged.proofs.Triples.{Seeking, seek_start, seek_hit, seek_miss, seek_end}
-use Rattle.judged.proofs.find_third.Goals.{Start}
 use Rattle.judged.proofs.find_third.Goals as goal
 
--- what is looked for
-abbrev sought : Start → ℕ → Bool
-sought a = let x = a.args in is_beside_both x.s x.points.now x.radius x.i x.j
-
 pub loop-m-init : goal.loop-m-init
-loop-m-init c = let a = c.before.before in seek_start (sought a) a.requires.0.held a.requires.1
+loop-m-init c = let a = c in seek_start (is_beside_both c.args.s c.args.points.now c.args.radius c.args.i c.args.j) a.requires.0.held a.requires.1
 
 pub listed_point-k-requires : goal.listed_point-k-requires
 listed_point-k-requires c =
@@ -33,7 +28,7 @@ pub returns-then-is_beside_both : goal.returns-then-is_beside_both
 returns-then-is_beside_both c =
     let p = c in
     let l = p in
-    seek_hit (sought l.before.before.before) l.loop-m.invariant p.loop-m-test.true p.listed_point-k.ensures.0
+    seek_hit (is_beside_both c.args.s c.args.points.now c.args.radius c.args.i c.args.j) l.loop-m.invariant p.loop-m-test.true p.listed_point-k.ensures.0
     c.is_beside_both.ensures c.if-is_beside_both.true
 
 pub loop-m-smaller : goal.loop-m-smaller
@@ -43,8 +38,8 @@ pub loop-m-preserved : goal.loop-m-preserved
 loop-m-preserved c =
     let p = c in
     let l = p in
-    seek_miss (sought l.before.before.before) l.loop-m.invariant p.loop-m-test.true p.listed_point-k.ensures.0
+    seek_miss (is_beside_both c.args.s c.args.points.now c.args.radius c.args.i c.args.j) l.loop-m.invariant p.loop-m-test.true p.listed_point-k.ensures.0
     c.is_beside_both.ensures c.if-is_beside_both.false
 
 pub returns : goal.returns
-returns c = let l = c in seek_end (sought l.before.before.before) l.loop-m.invariant c.loop-m-test.false
+returns c = let l = c in seek_end (is_beside_both c.args.s c.args.points.now c.args.radius c.args.i c.args.j) l.loop-m.invariant c.loop-m-test.false

@@ -24,8 +24,7 @@ returns-then-not-is_near c =
     rw (
       ne_eqb a.i a.k c.if-i-k.false,
       sym (near_is start.requires.0 start.requires.1 c.is_near.ensures),
-      not-true
-          c.is_near.result c.if-not-is_near.true,
+      c.if-not-is_near.true,
     )
 
 pub is_close-requires : goal.is_close-requires

@@ -31,6 +31,5 @@ returns c =
     rw (
       ne_eqb a.j a.k c.if-j-k.false,
       sym c.is_beside.ensures,
-      not-false
-          c.is_beside.result c.if-not-is_beside.false,
+      c.if-not-is_beside.false,
     ) c.is_close.ensures
