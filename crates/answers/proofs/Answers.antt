@@ -1,7 +1,7 @@
 -- The table of answers by computation: which numbers it has, in which order. Assumes nothing.
 use Prim.Native.Nat.{ℕ}
 use mathlib.Core.Path.{◌≡◌, refl}
-use mathlib.Core.List.{List, ◌∷◌}
+use mathlib.Core.List.{List, [], ◌∷◌}
 use Rattle.answers.specs.Answers.{Answer, answers}
 
 unfoldable pub numbers : List Answer → List ℕ

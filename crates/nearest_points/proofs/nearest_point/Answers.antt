@@ -1,7 +1,7 @@
 -- `nearest_point` meets its contract: a refusal of the checks, an index that is another cloud's, or the search in its
 -- own index. The work slices are cleared before the two last. Assumes nothing.
 use mathlib.Core.Path.{ap, ◌∙◌, subst⁻¹}
-use mathlib.Core.List.{◌∷◌}
+use mathlib.Core.List.{[], ◌∷◌}
 use Prim.Native.Nat.{ℕ, ◌/◌}
 use native.Mathlib.Omega.{arith}
 use lib.ListN.{length, replicate}
