@@ -4,11 +4,6 @@ use lib.ListN.{length, length-take}
 use Rattle.patch_text.proofs.Told.{points_inside, normals_inside}
 use Rattle.patch_stl.proofs.Outputs.{outputs_as, long_file, reader_refused, reader_accepted}
 use borrow.Author.Rules.{rules}
-use Rattle.patch_stl.proofs.lay_stl.Reads as reads
-use Rattle.patch_stl.proofs.lay_stl.Lts as lts
-use Rattle.cloud.proofs.read_cloud.Reads as read-cloud-reads
-use Rattle.patch_stl.proofs.refuse.Reads as refuse-reads
-use Rattle.patch_stl.proofs.write_patch.Reads as write-patch-reads
 use Rattle.patch_stl.proofs.lay_stl.Goals as goal
 
 pub returns-then-input-gt-MOST_BYTES : goal.returns-then-input-gt-MOST_BYTES

@@ -2,9 +2,6 @@
 use mathlib.Core.Path.{refl}
 use Rattle.patch_stl.proofs.Outputs.{line_output}
 use borrow.Author.Rules.{rules}
-use Rattle.patch_stl.proofs.refuse.Reads as reads
-use Rattle.patch_stl.proofs.refuse.Lts as lts
-use Rattle.listing.proofs.write_refusal.Reads as write-refusal-reads
 use Rattle.patch_stl.proofs.refuse.Goals as goal
 
 pub returns : goal.returns

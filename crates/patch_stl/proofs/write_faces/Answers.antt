@@ -2,10 +2,6 @@
 use mathlib.Core.Path.{refl}
 use Rattle.patch_stl.proofs.Outputs.{writer_refused, writer_wrote}
 use borrow.Author.Rules.{rules}
-use Rattle.patch_stl.proofs.write_faces.Reads as reads
-use Rattle.patch_stl.proofs.write_faces.Lts as lts
-use Rattle.patch_stl.proofs.refuse.Reads as refuse-reads
-use Rattle.stl_file.proofs.write_stl.Reads as write-stl-reads
 use Rattle.patch_stl.proofs.write_faces.Goals as goal
 
 pub returns-then-told-ne0 : goal.returns-then-told-ne0

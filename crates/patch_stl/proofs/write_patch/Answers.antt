@@ -4,12 +4,6 @@ use lib.ListN.{length-take}
 use Rattle.patch_text.proofs.Laid.{faces_inside}
 use Rattle.patch_stl.proofs.Outputs.{outputs_as, patch_refused, patch_accepted}
 use borrow.Author.Rules.{rules}
-use Rattle.patch_stl.proofs.write_patch.Reads as reads
-use Rattle.patch_stl.proofs.write_patch.Lts as lts
-use Rattle.reconstruction.proofs.reconstruct_with_normals.Reads as reconstruct-with-normals-reads
-use Rattle.patch_stl.proofs.refuse.Reads as refuse-reads
-use Rattle.patch_stl.proofs.write_faces.Reads as write-faces-reads
-use Rattle.settings.proofs.BallPivotingConfig.new.Reads as new-reads
 use Rattle.patch_stl.proofs.write_patch.Goals as goal
 
 pub refuse-requires : goal.refuse-requires

@@ -4,11 +4,6 @@ use lib.ListN.{length, length-take}
 use Rattle.patch_text.proofs.Laid.{prints, prints_as}
 use Rattle.patch_text.proofs.Told.{long_text, refused_text, points_inside, normals_inside, laid_file}
 use borrow.Author.Rules.{rules}
-use Rattle.patch_text.proofs.lay_text.Reads as reads
-use Rattle.patch_text.proofs.lay_text.Lts as lts
-use Rattle.cloud.proofs.read_cloud.Reads as read-cloud-reads
-use Rattle.listing.proofs.write_refusal.Reads as write-refusal-reads
-use Rattle.patch_text.proofs.write_patch.Reads as write-patch-reads
 use Rattle.patch_text.proofs.lay_text.Goals as goal
 
 pub returns-then-input-gt-MOST_BYTES : goal.returns-then-input-gt-MOST_BYTES

@@ -2,9 +2,6 @@
 use Rattle.patch_text.specs.Text.{printed}
 use Rattle.patch_text.proofs.Room.{prints_file}
 use borrow.Author.Rules.{rules}
-use Rattle.patch_text.proofs.program_text.Reads as reads
-use Rattle.patch_text.proofs.program_text.Lts as lts
-use Rattle.patch_text.proofs.lay_text.Reads as lay-text-reads
 use Rattle.patch_text.proofs.program_text.Goals as goal
 
 pub returns : goal.returns

@@ -4,12 +4,6 @@ use native.Mathlib.Omega.{arith}
 use lib.ListN.{length-take}
 use Rattle.patch_text.proofs.Laid.{few_points, faces_inside, listed_front, refused_text, laid_text_lem, prints}
 use borrow.Author.Rules.{rules}
-use Rattle.patch_text.proofs.write_patch.Reads as reads
-use Rattle.patch_text.proofs.write_patch.Lts as lts
-use Rattle.reconstruction.proofs.reconstruct_with_normals.Reads as reconstruct-with-normals-reads
-use Rattle.settings.proofs.BallPivotingConfig.new.Reads as new-reads
-use Rattle.listing.proofs.write_listing.Reads as write-listing-reads
-use Rattle.listing.proofs.write_refusal.Reads as write-refusal-reads
 use Rattle.patch_text.proofs.write_patch.Goals as goal
 
 pub returns-then-patch-ne0 : goal.returns-then-patch-ne0
