@@ -120,15 +120,15 @@ static inline const char *yb_answer_text(uint32_t answer) {
     case YB_POINT: return "a coordinate or normal is outside the domain";
     case YB_SETTING: return "a setting is outside its bounds";
     case YB_PERCENTILE: return "the percentile is not within 0 to 1";
-    case YB_WORK: return "a work slice, or the index, is too short";
+    case YB_WORK: return "a work slice is too short";
     case YB_TOO_FEW_POINTS: return "no triangle was found: there are fewer than three points";
-    case YB_FACES: return "the faces found don't fit the face slice, or the origins' slice";
+    case YB_FACES: return "the faces found don't fit the face slice";
     case YB_LINE: return "a line of the file is malformed";
     case YB_ROOM: return "the file's points don't fit the slices";
     case YB_BAD_STL: return "the bytes are no STL file, or not as many as it says";
     case YB_OUTPUT_TOO_SHORT: return "an output slice is too short";
     case YB_NO_SUCH_POINT: return "a face or a number names a point that isn't there";
-    case YB_NONE_CLOSE: return "no triangle was found: none of the triples tried lay close enough together";
+    case YB_NONE_CLOSE: return "no triangle was found: no three points lie close enough together";
     case YB_ALL_TURNED_DOWN: return "no triangle was found: all that were judged were turned down";
     case YB_EQUAL_NUMBERS: return "two of three point numbers are equal";
     case YB_TURNED_PLAIN: return "a turned patch was asked for, and the plain path ran";
