@@ -1,7 +1,7 @@
 -- The middle of two f32 coordinates, neither of them below an f32, is not below it either: twice the least and half of
 -- that are exact. Assumes nothing.
 use Prim.Native.Nat.{ℕ, suc, ◌+◌, ◌*◌, ◌^◌, ◌≤◌, ◌<◌}
-use native.Mathlib.Nat.{mul-pos, pow-suc, le_trans, le_of_mul-le-mul_right, mul-le-mul_right}
+use native.Mathlib.Nat.{mul-pos, pow-suc, le_of_mul-le-mul_right, mul-le-mul_right}
 use native.Mathlib.Omega.{arith}
 use mathlib.Core.Path.{◌≡◌, refl, sym, ap, ◌∙◌, subst}
 use mathlib.Core.Bool.{Bool, true, false, true≢false}
