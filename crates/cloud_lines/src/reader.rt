@@ -65,6 +65,17 @@ pub fn next_line<'a>(r: Reader<'a>) -> Moved<'a>
     }
 }
 
+// What a reader at a place of the bytes reads.
+pub fn line_of(src: &[u8], at: usize) -> Step
+    ensures { Stepped src.now at result.read result.at }
+{
+    let m = next_line(Reader { src, at });
+    Step {
+        read: m.read,
+        at: m.reader.at,
+    }
+}
+
 // Three numbers at place 3k, where the slice has room for them.
 fn put_triple(d: &mut [f32], k: usize, t: Triple)
     ensures { d.new ≡ placed k t d.old }

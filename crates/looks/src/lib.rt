@@ -27,10 +27,34 @@ fn wide(x: u32) -> usize
     x as usize
 }
 
-// A seed looks out; any other face looks out when its parent looks in. Of the first `known` faces the side is told
-// already, and the two functions go back no farther.
+// A seed looks out; any other face looks out when its parent looks in.
 #[cycle(looks_in_looks_out)]
-fn looks_out(origins: &[u32], sides: &[u32], known: usize, face: usize) -> bool
+pub fn looks_out(origins: &[u32], face: usize) -> bool
+    ensures { result ≡ looks_out (parent_in origins.now) face }
+{
+    let parent = parent_of(origins, face);
+    if face <= parent {
+        return true;
+    }
+    looks_in(origins, parent)
+}
+
+// A seed does not look in; any other face looks in when its parent looks out.
+#[cycle(looks_in_looks_out)]
+pub fn looks_in(origins: &[u32], face: usize) -> bool
+    ensures { result ≡ looks_in (parent_in origins.now) face }
+{
+    let parent = parent_of(origins, face);
+    if face <= parent {
+        return false;
+    }
+    looks_out(origins, parent)
+}
+
+// Whether a face looks out, where of the first `known` faces the side is told already: the two functions go back no
+// farther.
+#[cycle(told_in_told_out)]
+fn told_out(origins: &[u32], sides: &[u32], known: usize, face: usize) -> bool
     requires { HasSides origins.now sides.now known }
     ensures { result ≡ looks_out (parent_in origins.now) face }
 {
@@ -41,12 +65,12 @@ fn looks_out(origins: &[u32], sides: &[u32], known: usize, face: usize) -> bool
     if face <= parent {
         return true;
     }
-    looks_in(origins, sides, known, parent)
+    told_in(origins, sides, known, parent)
 }
 
-// A seed does not look in; any other face looks in when its parent looks out.
-#[cycle(looks_in_looks_out)]
-fn looks_in(origins: &[u32], sides: &[u32], known: usize, face: usize) -> bool
+// Whether a face looks in, likewise.
+#[cycle(told_in_told_out)]
+fn told_in(origins: &[u32], sides: &[u32], known: usize, face: usize) -> bool
     requires { HasSides origins.now sides.now known }
     ensures { result ≡ looks_in (parent_in origins.now) face }
 {
@@ -54,10 +78,10 @@ fn looks_in(origins: &[u32], sides: &[u32], known: usize, face: usize) -> bool
         return !is_out(sides, face);
     }
     let parent = parent_of(origins, face);
-    if face <= parent {
-        return false;
+    if parent < face {
+        return told_out(origins, sides, known, parent);
     }
-    looks_out(origins, sides, known, parent)
+    false
 }
 
 // The side that is told of a face.
@@ -82,7 +106,7 @@ pub fn tell_sides(origins: &[u32], sides: &mut [u32], n: usize)
 {
     let mut face: usize = 0;
     while face < n {
-        let inward = looks_in(origins, sides, face, face);
+        let inward = told_in(origins, sides, face, face);
         sides[face] = side(inward);
         face += 1;
     }

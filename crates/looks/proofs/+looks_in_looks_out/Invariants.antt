@@ -1,4 +1,4 @@
--- The two call each other on the smaller parent number. Assumes nothing.
+-- The two call each other on the smaller parent number.
 use Rattle.looks.proofs.+looks_in_looks_out.Given as goal
 
 abbrev pub decreases-looks_in : goal.decreases-looks_in

@@ -6,15 +6,15 @@ use Rattle.looks.proofs.tell_sides.Goals as goal
 pub loop-face-init : goal.loop-face-init
 loop-face-init c = (search rules, told_start _ _)
 
-pub looks_in-inward-requires : goal.looks_in-inward-requires
-looks_in-inward-requires c = c.loop-face.invariant.1.known
+pub told_in-inward-requires : goal.told_in-inward-requires
+told_in-inward-requires c = c.loop-face.invariant.1.known
 
 pub loop-face-preserved : goal.loop-face-preserved
 loop-face-preserved c =
     let l = c.loop-face in (
       search rules,
       told_step _ _ l.sides l.face _ (omega (arith, l.invariant.1.same))
-          (side_is _ l.face _ _ c.looks_in-inward.ensures c.side.ensures) l.invariant.1,
+          (side_is _ l.face _ _ c.told_in-inward.ensures c.side.ensures) l.invariant.1,
     )
 
 pub returns : goal.returns
