@@ -1,7 +1,6 @@
 -- The account as the public struct has it. Assumes nothing.
 use mathlib.Core.Path.{refl}
 use Rattle.ball_pivoting.specs.Inner.Parts.{accepted_by}
-use borrow.Author.Rules.{rules}
 use Rattle.ball_pivoting.proofs.accept.Goals as goal
 
 pub returns : goal.returns

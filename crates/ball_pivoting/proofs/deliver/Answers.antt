@@ -1,6 +1,5 @@
 -- Nothing found, more than fits, or the faces. Assumes nothing.
 use Rattle.ball_pivoting.proofs.Delivered.{delivers_none, delivers_over, delivers_faces}
-use borrow.Author.Rules.{rules}
 use Rattle.ball_pivoting.proofs.deliver.Goals as goal
 
 pub returns-then-count-eq0 : goal.returns-then-count-eq0

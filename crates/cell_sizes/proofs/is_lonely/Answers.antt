@@ -2,7 +2,6 @@
 use mathlib.Core.Path.{sym, subst}
 use Rattle.vector.specs.Inner.Numbers.{Finite}
 use Rattle.laying.proofs.Kept.{all_searchable_searched}
-use borrow.Author.Rules.{rules}
 use Rattle.cell_sizes.proofs.is_lonely.Goals as goal
 
 pub gather_within-found-requires : goal.gather_within-found-requires

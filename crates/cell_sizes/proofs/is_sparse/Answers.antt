@@ -1,9 +1,6 @@
 -- `is_sparse` meets its contract. Assumes nothing.
-use Prim.Native.Nat.{◌-◌}
-use mathlib.Core.Path.{◌≡◌, refl, ◌∙◌}
+use mathlib.Core.Path.{refl, ◌∙◌}
 use native.Mathlib.Omega.{arith}
-use lib.ListN.{length}
-use Rattle.laying.specs.Inner.Laying.{AllSearchable}
 use Rattle.cell_sizes.proofs.is_sparse.Goals as goal
 
 pub returns-then-n-lt-FEW : goal.returns-then-n-lt-FEW

@@ -1,7 +1,6 @@
 -- `is_sparse` meets its contract. Assumes nothing.
 use Prim.Native.Nat.{◌-◌}
-use mathlib.Core.Path.{◌≡◌, refl, ◌∙◌}
-use native.Mathlib.Omega.{arith}
+use mathlib.Core.Path.{◌≡◌}
 use lib.ListN.{length}
 use Rattle.laying.specs.Inner.Laying.{AllSearchable}
 use Rattle.cell_sizes.proofs.is_sparse.Given as goal

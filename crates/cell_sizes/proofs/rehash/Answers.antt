@@ -1,6 +1,5 @@
 -- `rehash` meets its contract. Assumes nothing.
 use Rattle.cell_sizes.proofs.Anew.{searchable_anew}
-use borrow.Author.Rules.{rules}
 use Rattle.cell_sizes.proofs.rehash.Goals as goal
 
 pub returns : goal.returns

@@ -1,5 +1,4 @@
 -- `yb_compute_circumradius` meets its contract.
-use borrow.Author.Rules.{rules}
 use Rattle.exports.proofs.yb_compute_circumradius.Goals as goal
 
 pub returns : goal.returns

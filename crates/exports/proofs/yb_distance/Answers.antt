@@ -1,6 +1,5 @@
 -- `yb_distance` meets its contract.
 use mathlib.Core.Path.{ap₂, ◌∙◌}
-use borrow.Author.Rules.{rules}
 use Rattle.vector.specs.Vector.{distance}
 use Rattle.exports.proofs.yb_distance.Goals as goal
 

@@ -1,6 +1,5 @@
 -- `exports::yb_judge_triangle` meets its contract: it is the call's answer in numbers. Assumes nothing.
 use mathlib.Core.Path.{ap, ◌∙◌}
-use borrow.Author.Rules.{rules}
 use Rattle.verdict.specs.Numbered.{verdict_numbers}
 use Rattle.exports.proofs.yb_judge_triangle.Goals as goal
 

@@ -1,11 +1,9 @@
 -- `find_second` meets its contract. The loop's invariant: what is among all listed points is among those from m on.
 -- Assumes nothing.
-use Prim.Native.Nat.{ℕ, ◌-◌}
 use native.Mathlib.Omega.{arith}
-use mathlib.Core.Bool.{Bool}
 use Rattle.nearby.specs.Inner.Ready.{neighbors_listed}
 use Rattle.judged.specs.Inner.Triples.{has_third}
-use Rattle.judged.proofs.Triples.{Seeking, seek_start, seek_hit, seek_miss, seek_end}
+use Rattle.judged.proofs.Triples.{seek_start, seek_hit, seek_miss, seek_end}
 use Rattle.judged.proofs.find_second.Goals as goal
 
 pub loop-m-init : goal.loop-m-init

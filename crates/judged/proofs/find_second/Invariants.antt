@@ -1,11 +1,9 @@
 -- `find_second` meets its contract. The loop's invariant: what is among all listed points is among those from m on.
 -- Assumes nothing.
-use Prim.Native.Nat.{ℕ, ◌-◌}
-use native.Mathlib.Omega.{arith}
-use mathlib.Core.Bool.{Bool}
+use Prim.Native.Nat.{◌-◌}
 use Rattle.nearby.specs.Inner.Ready.{neighbors_listed}
 use Rattle.judged.specs.Inner.Triples.{has_third}
-use Rattle.judged.proofs.Triples.{Seeking, seek_start, seek_hit, seek_miss, seek_end}
+use Rattle.judged.proofs.Triples.{Seeking}
 use Rattle.judged.proofs.find_second.Given as goal
 
 abbrev pub invariant-loop-m : goal.invariant-loop-m

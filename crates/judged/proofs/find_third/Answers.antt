@@ -1,10 +1,8 @@
 -- `find_third` meets its contract. The loop's invariant: what is among all listed points is among those from m on.
 -- Assumes nothing.
-use Prim.Native.Nat.{ℕ, ◌-◌}
 use native.Mathlib.Omega.{arith}
-use mathlib.Core.Bool.{Bool}
 use Rattle.judged.specs.Inner.Triples.{is_beside_both}
-use Rattle.judged.proofs.Triples.{Seeking, seek_start, seek_hit, seek_miss, seek_end}
+use Rattle.judged.proofs.Triples.{seek_start, seek_hit, seek_miss, seek_end}
 use Rattle.judged.proofs.find_third.Goals as goal
 
 pub loop-m-init : goal.loop-m-init

@@ -1,6 +1,5 @@
 -- `has_third` meets its contract. Assumes nothing.
 use mathlib.Core.Path.{sym}
-use borrow.Author.Tests.{not-true, not-false}
 use Rattle.judged.specs.Inner.Triples.{has_third}
 use Rattle.judged.proofs.has_third.Goals as goal
 

@@ -1,9 +1,8 @@
 -- `is_any_judged` meets its contract. The loop's invariant: no triple is judged in which a point below i comes first.
 -- Assumes nothing.
-use Prim.Native.Nat.{◌-◌}
 use mathlib.Core.Path.{◌∙◌}
 use native.Mathlib.Omega.{arith}
-use Rattle.judged.proofs.Triples.{Asked, ask_start, ask_next, ask_none, ask_some}
+use Rattle.judged.proofs.Triples.{ask_start, ask_next, ask_none, ask_some}
 use Rattle.judged.proofs.is_any_judged.Goals as goal
 
 pub loop-i-init : goal.loop-i-init

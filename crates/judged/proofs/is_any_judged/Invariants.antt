@@ -1,9 +1,7 @@
 -- `is_any_judged` meets its contract. The loop's invariant: no triple is judged in which a point below i comes first.
 -- Assumes nothing.
 use Prim.Native.Nat.{◌-◌}
-use mathlib.Core.Path.{◌∙◌}
-use native.Mathlib.Omega.{arith}
-use Rattle.judged.proofs.Triples.{Asked, ask_start, ask_next, ask_none, ask_some}
+use Rattle.judged.proofs.Triples.{Asked}
 use Rattle.judged.proofs.is_any_judged.Given as goal
 
 abbrev pub invariant-loop-i : goal.invariant-loop-i

@@ -1,7 +1,7 @@
 -- `is_beside` meets its contract: its tests are those of `is_beside`, in their order. Assumes nothing.
 use mathlib.Core.Path.{sym}
 use native.Mathlib.Omega.{arith}
-use borrow.Author.Tests.{not-true, not-false, eq-eqb, ne_eqb}
+use borrow.Author.Tests.{eq-eqb, ne_eqb}
 use Rattle.judged.specs.Inner.Triples.{is_beside}
 use Rattle.judged.proofs.Triples.{near_is}
 use Rattle.judged.proofs.is_beside.Goals as goal

@@ -8,7 +8,6 @@ use Rattle.nearby.specs.Inner.Narrow.{Filters}
 use Rattle.nearby.proofs.Keeping.{held_kept, cells_kept}
 use Rattle.nearby.proofs.Narrowing.{collected_listed}
 use Rattle.judged.proofs.Triples.{first_told}
-use borrow.Author.Rules.{rules}
 use Rattle.judged.proofs.is_first.Goals as goal
 
 pub point_at-place-requires : goal.point_at-place-requires

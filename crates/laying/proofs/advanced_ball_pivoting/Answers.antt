@@ -1,14 +1,11 @@
 -- `laying::advanced_ball_pivoting` meets its contract. The loop's invariant: the first i radii have been laid, no
 -- radius up to `upto` has a seed, and the first i marks are set. Assumes nothing.
-use Prim.Native.Nat.{◌-◌}
 use mathlib.Core.Path.{◌∙◌}
 use native.Mathlib.Omega.{arith}
 use Rattle.nearby.specs.Inner.Ready.{used_in_scene}
-use Rattle.known_radii.specs.Inner.Known.{NothingTo}
 use Rattle.known_radii.proofs.Larger.{nothing_yet, known_nothing}
-use Rattle.laying.proofs.Radii.{Covering, cover_start, between_radii, cover_step, cover_end}
-use Rattle.laying.proofs.Marks.{Marking, marks_start, marks_step, marks_end}
-use borrow.Author.Rules.{rules}
+use Rattle.laying.proofs.Radii.{cover_start, between_radii, cover_step, cover_end}
+use Rattle.laying.proofs.Marks.{marks_start, marks_step, marks_end}
 use Rattle.laying.proofs.advanced_ball_pivoting.Goals as goal
 
 pub is_flat-flat-requires : goal.is_flat-flat-requires

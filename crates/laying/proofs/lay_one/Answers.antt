@@ -6,7 +6,6 @@ use Rattle.nearby.specs.Inner.Ready.{used_in_scene}
 use Rattle.known_radii.proofs.Larger.{nothing_yet}
 use Rattle.seed.proofs.Known.{nothing_kept}
 use Rattle.laying.proofs.Radii.{searched, free_seed, seed_room, seed_between_looks, seed_laid, no_seed}
-use borrow.Author.Rules.{rules}
 use Rattle.laying.proofs.lay_one.Goals as goal
 
 pub find_seed_triangle-search-requires : goal.find_seed_triangle-search-requires

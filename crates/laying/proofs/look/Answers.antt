@@ -1,6 +1,5 @@
 -- `laying::look` meets its contract. Assumes nothing.
 use Rattle.laying.proofs.Looks.{pop_ready, skipped, pivoting, looked_over}
-use borrow.Author.Rules.{rules}
 use Rattle.laying.proofs.look.Goals as goal
 
 pub pop-top-requires : goal.pop-top-requires

@@ -2,7 +2,6 @@
 -- of the definition is the pivot's; where it meets none only the look is counted. Assumes nothing.
 use native.Mathlib.Omega.{arith}
 use Rattle.laying.proofs.Pivots.{edge_below, free_point, searched, pivot_room, few_pivots, pivot_laid, pivot_missed}
-use borrow.Author.Rules.{rules}
 use Rattle.laying.proofs.pivot_over.Goals as goal
 
 pub try_ball_pivot-found-requires : goal.try_ball_pivot-found-requires

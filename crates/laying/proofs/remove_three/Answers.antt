@@ -1,6 +1,5 @@
 -- `laying::remove_three` meets its contract. Assumes nothing.
 use Rattle.laying.proofs.Pivots.{without_three}
-use borrow.Author.Rules.{rules}
 use Rattle.laying.proofs.remove_three.Goals as goal
 
 pub remove-requires : goal.remove-requires

@@ -1,6 +1,5 @@
 -- `laying::run` meets its contract. Assumes nothing.
-use Prim.Native.Nat.{◌-◌, ◌*◌}
-use Rattle.laying.proofs.Runs.{Running, run_start, run_step, run_less, run_end}
+use Rattle.laying.proofs.Runs.{run_start, run_step, run_less, run_end}
 use Rattle.laying.proofs.run.Goals as goal
 
 pub loop-c-init : goal.loop-c-init

@@ -1,6 +1,6 @@
 -- `laying::run` meets its contract. Assumes nothing.
 use Prim.Native.Nat.{◌-◌, ◌*◌}
-use Rattle.laying.proofs.Runs.{Running, run_start, run_step, run_less, run_end}
+use Rattle.laying.proofs.Runs.{Running}
 use Rattle.laying.proofs.run.Given as goal
 
 abbrev pub invariant-loop-c : goal.invariant-loop-c

@@ -2,7 +2,6 @@
 use mathlib.Core.Path.{sym, ◌∙◌}
 use native.Mathlib.Omega.{arith}
 use Rattle.origins_outcome.proofs.Delivered.{fits, comes_none, comes_over, comes_laid, comes_eighteen, comes_plain}
-use borrow.Author.Rules.{rules}
 use Rattle.origins_outcome.proofs.deliver.Goals as goal
 
 pub returns-then-count-eq0 : goal.returns-then-count-eq0

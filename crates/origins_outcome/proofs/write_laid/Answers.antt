@@ -1,7 +1,6 @@
 -- The origins are written, and then the faces turned by them. Assumes nothing.
 use mathlib.Core.Path.{sym}
 use lib.Seq.{length-take-le}
-use borrow.Author.Rules.{rules}
 use Rattle.origins_outcome.proofs.write_laid.Goals as goal
 
 pub slice_bounds-write_origins-end-2 : goal.slice_bounds-write_origins-end-2

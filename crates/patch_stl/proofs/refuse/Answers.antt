@@ -1,7 +1,6 @@
 -- The line fits, whatever the answer and the detail. Assumes nothing.
 use mathlib.Core.Path.{refl}
 use Rattle.patch_stl.proofs.Outputs.{line_output}
-use borrow.Author.Rules.{rules}
 use Rattle.patch_stl.proofs.refuse.Goals as goal
 
 pub returns : goal.returns

@@ -1,7 +1,6 @@
 -- The file, or the refusal, as the writer answers it. Assumes nothing.
 use mathlib.Core.Path.{refl}
 use Rattle.patch_stl.proofs.Outputs.{writer_refused, writer_wrote}
-use borrow.Author.Rules.{rules}
 use Rattle.patch_stl.proofs.write_faces.Goals as goal
 
 pub returns-then-told-ne0 : goal.returns-then-told-ne0

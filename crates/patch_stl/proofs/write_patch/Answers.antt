@@ -3,7 +3,6 @@ use native.Mathlib.Omega.{arith}
 use lib.ListN.{length-take}
 use Rattle.patch_text.proofs.Laid.{faces_inside}
 use Rattle.patch_stl.proofs.Outputs.{outputs_as, patch_refused, patch_accepted}
-use borrow.Author.Rules.{rules}
 use Rattle.patch_stl.proofs.write_patch.Goals as goal
 
 pub refuse-requires : goal.refuse-requires

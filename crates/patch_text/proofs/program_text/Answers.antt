@@ -1,7 +1,6 @@
 -- The slices have the program's lengths. Assumes nothing.
 use Rattle.patch_text.specs.Text.{printed}
 use Rattle.patch_text.proofs.Room.{prints_file}
-use borrow.Author.Rules.{rules}
 use Rattle.patch_text.proofs.program_text.Goals as goal
 
 pub returns : goal.returns

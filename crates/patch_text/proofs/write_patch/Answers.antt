@@ -3,7 +3,6 @@ use mathlib.Core.Path.{◌∙◌}
 use native.Mathlib.Omega.{arith}
 use lib.ListN.{length-take}
 use Rattle.patch_text.proofs.Laid.{few_points, faces_inside, listed_front, refused_text, laid_text_lem, prints}
-use borrow.Author.Rules.{rules}
 use Rattle.patch_text.proofs.write_patch.Goals as goal
 
 pub returns-then-patch-ne0 : goal.returns-then-patch-ne0

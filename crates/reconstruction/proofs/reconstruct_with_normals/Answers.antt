@@ -7,7 +7,6 @@ use Rattle.numbers.specs.Rounded.{f32}
 use Rattle.domain.specs.declared.Refusal.{Refusal}
 use Rattle.ball_pivoting.proofs.Reasons.{reason_is}
 use Rattle.ball_pivoting.proofs.Outcome.{ready_of, turned_away, taken}
-use borrow.Author.Rules.{rules}
 use Rattle.reconstruction.proofs.reconstruct_with_normals.Goals as goal
 
 pub returns-then-refusal-ne0 : goal.returns-then-refusal-ne0

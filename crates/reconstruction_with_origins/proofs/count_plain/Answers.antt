@@ -1,6 +1,5 @@
 -- A slice without room is left as it was. Assumes nothing.
 use Rattle.reconstruction_with_origins.proofs.Finding.{without_room}
-use borrow.Author.Rules.{rules}
 use Rattle.reconstruction_with_origins.proofs.count_plain.Goals as goal
 
 pub returns : goal.returns

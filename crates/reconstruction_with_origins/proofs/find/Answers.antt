@@ -3,7 +3,6 @@ use mathlib.Core.List.{[]}
 use native.Mathlib.Omega.{arith}
 use Rattle.ball_pivoting.proofs.Found.{listed_none, listed_self, finds_plain, finds_laid}
 use Rattle.reconstruction_with_origins.proofs.Finding.{for_laid, for_counted, for_plain}
-use borrow.Author.Rules.{rules}
 use Rattle.reconstruction_with_origins.proofs.find.Goals as goal
 
 pub find_pivoting-requires : goal.find_pivoting-requires

@@ -8,7 +8,6 @@ use Rattle.domain.specs.declared.Refusal.{Refusal}
 use Rattle.ball_pivoting.proofs.Outcome.{ready_of}
 use Rattle.reconstruction_with_origins.proofs.Finding.{held_of, zeros_again}
 use Rattle.origins_outcome.proofs.Claim.{turned_away, taken}
-use borrow.Author.Rules.{rules}
 use Rattle.reconstruction_with_origins.proofs.reconstruct_with_origins.Goals as goal
 
 pub returns-then-refusal-ne0 : goal.returns-then-refusal-ne0

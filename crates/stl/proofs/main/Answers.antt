@@ -1,7 +1,6 @@
 -- What was read is at most as long as the buffer. Assumes nothing.
 use native.Mathlib.Omega.{arith}
 use lib.ListN.{length-take}
-use borrow.Author.Rules.{rules}
 use Rattle.stl.proofs.main.Goals as goal
 
 pub slice_bounds-write_patch-end : goal.slice_bounds-write_patch-end

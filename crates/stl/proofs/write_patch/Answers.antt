@@ -4,7 +4,6 @@ use native.Mathlib.Omega.{arith}
 use lib.ListN.{length-take}
 use Rattle.patch_stl.specs.Output.{output}
 use Rattle.patch_stl.proofs.Outputs.{outputs_within, outputs_front}
-use borrow.Author.Rules.{rules}
 use Rattle.stl.proofs.write_patch.Goals as goal
 
 pub slice_bounds-out-end : goal.slice_bounds-out-end

@@ -3,7 +3,6 @@ use mathlib.Core.Path.{refl}
 use native.Mathlib.Omega.{arith}
 use Rattle.ball_pivoting.specs.Reconstruct.{spatial_index_of, scene_of}
 use Rattle.ball_pivoting.proofs.Found.{all_searchable}
-use borrow.Author.Rules.{rules}
 use Rattle.surveying.proofs.index_points.Goals as goal
 
 pub build-hash-requires : goal.build-hash-requires

@@ -2,7 +2,6 @@
 use mathlib.Core.Path.{◌∙◌}
 use Rattle.laying.proofs.Kept.{all_searchable_searched}
 use Rattle.ball_pivoting.proofs.Found.{radii_ready, listed_at}
-use borrow.Author.Rules.{rules}
 use Rattle.surveying.proofs.survey.Goals as goal
 
 pub is_sparse-sparse-requires : goal.is_sparse-sparse-requires

@@ -1,7 +1,6 @@
 -- By the radii one path or the other. Assumes nothing.
 use native.Mathlib.Omega.{arith}
 use Rattle.ball_pivoting.proofs.Found.{listed_none, listed_self, finds_plain, finds_laid}
-use borrow.Author.Rules.{rules}
 use Rattle.reconstruction.proofs.paths.find.Goals as goal
 
 pub find_plain-requires : goal.find_plain-requires

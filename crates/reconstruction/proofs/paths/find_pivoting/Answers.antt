@@ -4,7 +4,6 @@ use lib.ListN.{take}
 use Rattle.laying.proofs.Claim.{laid_few}
 use Rattle.ball_pivoting.specs.Reconstruct.{laid}
 use Rattle.ball_pivoting.proofs.Judged.{fresh_after}
-use borrow.Author.Rules.{rules}
 use Rattle.reconstruction.proofs.paths.find_pivoting.Goals as goal
 
 pub reason_after-reason-requires : goal.reason_after-reason-requires

@@ -5,7 +5,6 @@ use native.Mathlib.Omega.{arith}
 use lib.ListN.{take, replicate}
 use Rattle.plain.proofs.Plain.{plain_most}
 use Rattle.ball_pivoting.specs.Reconstruct.{point_count, plainly, reason_by}
-use borrow.Author.Rules.{rules}
 use Rattle.reconstruction.proofs.paths.find_plain.Goals as goal
 
 pub returns : goal.returns

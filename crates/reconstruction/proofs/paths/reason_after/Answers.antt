@@ -2,7 +2,6 @@
 use mathlib.Core.Path.{ap, ◌∙◌}
 use native.Mathlib.Omega.{arith}
 use Rattle.ball_pivoting.specs.Reconstruct.{reason_by}
-use borrow.Author.Rules.{rules}
 use Rattle.reconstruction.proofs.paths.reason_after.Goals as goal
 
 pub returns-then-laid-gt0 : goal.returns-then-laid-gt0
