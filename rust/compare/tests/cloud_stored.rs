@@ -28,6 +28,13 @@ fn bytes(text: &str) -> Vec<u8> {
     out
 }
 
+/// The text between the quotes of the literal that a call is passed behind the runtime.
+fn literal(call: &str) -> Option<&str> {
+    let text = call.trim_start().strip_prefix("rt,")?.trim_start().strip_prefix("b\"")?;
+    let is_end = |at: usize| text.as_bytes()[at] == b'"' && !text[..at].ends_with('\\');
+    (0..text.len()).find(|&at| is_end(at)).map(|at| &text[..at])
+}
+
 fn patterns(slice: &[f32]) -> String {
     slice.iter().map(|x| format!(" {:08x}", x.to_bits())).collect()
 }
@@ -36,8 +43,7 @@ fn patterns(slice: &[f32]) -> String {
 fn stored_answers() {
     let (mut points, mut normals) = ([0.0; 6], [0.0; 7]);
     let mut expected = String::new();
-    let inputs = SOURCE.lines().filter_map(|l| l.trim().strip_prefix("show(b\"")?.strip_suffix("\");"));
-    for input in inputs {
+    for input in SOURCE.split("show(").filter_map(literal) {
         points.fill(9.0);
         normals.fill(9.0);
         let r = read_cloud(&bytes(input), &mut points, &mut normals);

@@ -52,7 +52,7 @@ fn pairs(list: &str) -> Vec<(&str, &str)> {
 }
 
 fn fields(source: &'static str, name: &str) -> Vec<(&'static str, &'static str)> {
-    let inside = between(source, &format!("#[repr(C)]\npub struct {name} {{"), "\n}");
+    let inside = between(source, &format!("#[repr(C)]\n#[derive(Clone, Copy)]\npub struct {name} {{"), "\n}");
     inside.lines().filter_map(|l| l.trim().strip_prefix("pub ")?.strip_suffix(',')?.split_once(": ")).collect()
 }
 
@@ -185,7 +185,7 @@ fn functions() {
 
 /// The number that a function of crate `release` returns.
 fn returned(name: &str) -> u32 {
-    between(RELEASE, &format!("≡ {name} ⌝ }}\n{{\n"), "\n}").trim().parse().unwrap()
+    between(RELEASE, &format!("≡ {name} }}\n{{\n"), "\n}").trim().parse().unwrap()
 }
 
 /// The version and the layout are stated in crate `release`; header, crate and library have the same.
