@@ -40,14 +40,14 @@ static void corners(void) {
     CHECK(YB_STL_CORNERS(0) == 0 && YB_STL_CORNERS(83) == 0 && YB_STL_CORNERS(84) == 0);
 }
 
-/* 15 speaks of the triples that were tried: here three near points lie behind a thousand and one lone ones. */
+/* 15 is of the triples that were tried alone: here three near points lie behind a thousand and one lone ones. */
 static void none_close(void) {
     static float points[3 * 1004];
     for (int i = 0; i < 1001; i++) points[3 * i] = -9000 + 10 * (float)(i % 500), points[3 * i + 1] = 100 * (float)(i / 500);
     for (int i = 0; i < 3; i++) points[3 * (1001 + i)] = 9000, points[3 * (1001 + i) + i % 2] += (float)i * 0.3f;
     YbPatch r = lay(points, 1004, yb_default_config(0.5f));
     CHECK(r.answer == YB_NONE_CLOSE);
-    CHECK(strstr(yb_answer_text(YB_NONE_CLOSE), "triples tried") != NULL);
+    CHECK(strstr(yb_answer_text(YB_NONE_CLOSE), "close enough") != NULL);
     CHECK(lay(points + 3 * 1001, 3, yb_default_config(0.5f)).answer == YB_ACCEPTED);
 }
 
@@ -112,9 +112,9 @@ static void bools(void) {
     CHECK(either[0].radii_count == 0 && either[1].radii_count > 0);
 }
 
-/* 7 and 9 name all that may be too short. */
+/* 7 and 9 name the slice that is too short. */
 static void short_slices(void) {
-    CHECK(strstr(yb_answer_text(YB_WORK), "index") && strstr(yb_answer_text(YB_FACES), "origins"));
+    CHECK(strstr(yb_answer_text(YB_WORK), "work slice") && strstr(yb_answer_text(YB_FACES), "face slice"));
 }
 
 int main(void) {
