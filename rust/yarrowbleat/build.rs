@@ -24,7 +24,7 @@ fn main() {
     let archive = match env::var_os(VARIABLE) {
         Some(path) if Path::new(&path).is_absolute() => PathBuf::from(path),
         Some(path) => fail(&format!("{VARIABLE}={}: an absolute path is wanted", path.to_string_lossy())),
-        None => from_sources(&Path::new(&cargo("CARGO_MANIFEST_DIR")).join("../..")),
+        None => from_sources(&repository(Path::new(&cargo("CARGO_MANIFEST_DIR")))),
     };
     println!("cargo:rerun-if-changed={}", archive.display());
     let bytes = fs::read(&archive).unwrap_or_else(|error| fail(&format!("{}: {error}", archive.display())));
@@ -36,6 +36,12 @@ fn main() {
     println!("cargo:rustc-env=YARROWBLEAT_LAYOUT={layout}");
     println!("cargo:rustc-link-search=native={}", out.display());
     println!("cargo:rustc-link-lib=static=yarrowbleat");
+}
+
+/// The repository that the crate stands in, if in any: the command's copy of the crate lies one folder deeper.
+fn repository(place: &Path) -> PathBuf {
+    let found = place.ancestors().skip(2).take(2).find(|root| root.join("crates.txt").exists());
+    found.unwrap_or(place).to_path_buf()
 }
 
 /// The repository's library, not older than any source.
