@@ -506,7 +506,7 @@ YbCloudRead yb_read_cloud(const uint8_t *bytes, size_t bytes_len, float *points,
 
 /*
  * Marks the points that faces reach: reached[p] becomes 1 if p is among the faces' numbers, else 0. The answer is how
- * many were marked. Of a patch with radii that is faces + 2 * seeds, which is proved (marks-of-patch of crate exports).
+ * many were marked. Of a patch with radii that is faces + 2 * seeds, which is proved (marks_of_patch of crate exports).
  *
  * faces: three point numbers a face, as yb_reconstruct_with_normals leaves them; 3 * patch.faces entries.
  * reached: an entry for each point. A number beyond them is skipped.
@@ -558,7 +558,7 @@ YbStlRead yb_read_stl(const uint8_t *bytes, size_t bytes_len, float *corners, si
  * Why the triangle of the points i, j and k was turned down, or that it was not. They are measured in this order, by
  * the acceptance test's order at settings.radius: no area (exactly zero), small (an area below min_triangle_area), poor
  * (a score below quality_threshold), long (the edge ratio times the root of the area above radius * max_edge_factor).
- * Good is proved to be told exactly where yb_is_triangle_acceptable is true (good-exactly of crate verdict).
+ * Good is proved to be told exactly where yb_is_triangle_acceptable is true (good_exactly of crate verdict).
  *
  * points, normals: as for yb_reconstruct_with_normals; nothing is written and no work slice is needed.
  * i, j, k: three different point numbers, from 0.

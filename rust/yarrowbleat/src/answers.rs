@@ -103,7 +103,7 @@ pub fn answer_text(answer: u32) -> &'static str {
 
 impl Error {
     /// The error of an answer of the library; 0 is none.
-    pub(crate) fn check(answer: u32, detail: usize) -> Result<(), Error> {
+    pub fn check(answer: u32, detail: usize) -> Result<(), Error> {
         Err(match answer {
             0 => return Ok(()),
             1 => Error::NoPoints,

@@ -7,6 +7,10 @@ const TRIANGLE: [[f32; 3]; 3] = [[0.0, 0.0, 0.0], [1.0, 0.0, 0.0], [0.0, 1.0, 0.
 
 fn told<T: std::fmt::Debug>(result: Result<T, Error>) -> (u32, usize) {
     let error = result.expect_err("a refusal");
+    // A spot and a short index share their numbers with a point and with short work.
+    if !matches!(error, Error::Spot(_) | Error::ShortIndex) {
+        assert_eq!(Error::check(error.number(), error.detail()), Err(error));
+    }
     assert!(!error.to_string().is_empty());
     (error.number(), error.detail())
 }
@@ -19,6 +23,16 @@ fn with(change: impl Fn(&mut BallPivotingConfig)) -> Result<Patch, Error> {
 
 fn covered(patch: &Patch) -> (usize, usize) {
     (patch.coverage().covered, patch.coverage().scanned)
+}
+
+/// A number that the crate has no name for is an error like the others.
+#[test]
+fn unknown_answers() {
+    for answer in [1000, u32::MAX] {
+        assert_eq!(told(Error::check(answer, 7)), (answer, 7));
+    }
+    assert!(Error::check(1000, 7).unwrap_err().to_string().ends_with("no words for: 1000, 7"));
+    assert_eq!(Error::check(0, 7), Ok(()));
 }
 
 /// Marks over slices of any length: each number below it counts once, a number beyond it not at all.

@@ -40,6 +40,7 @@ fn refusals() {
     assert_eq!((tally.add(patch(1, 0, 0, 0)), tally), (Err(Error::Tally), damaged));
     assert_eq!(tally.figures(), Err(Error::Tally));
     for error in [Error::TallyFull, Error::SeasonPatch, Error::TallyEmpty, Error::Tally] {
+        assert_eq!(Error::check(error.number(), error.detail()), Err(error));
         assert!(!error.to_string().is_empty());
     }
 }
