@@ -31,6 +31,7 @@ use Rattle.area_bounds.proofs.AreaBound.{Bounds, Unsigned, area_bounded}
 use Rattle.area_bounds.proofs.Tiny.{area_not_below}
 use Rattle.numbers.proofs.Above.{positive_is}
 use Rattle.plain.proofs.Judged.{number_scaled}
+use Rattle.measured.proofs.Edges.{short}
 
 -- ---- constants: how far apart two coordinates are, the square of a distance, a distance
 abbrev apart : Float
@@ -51,10 +52,7 @@ far = f32 0x47800000
 abbrev pub wide : Float
 wide = f32 0x4e800000
 
--- 2^-30, and a bound of the aspect ratio, 2^100
-abbrev short : Float
-short = f32 0x30800000
-
+-- a bound of the aspect ratio, 2^100
 abbrev highest : Float
 highest = f32 0x71800000
 

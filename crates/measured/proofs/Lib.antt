@@ -1,3 +1,4 @@
 -- Triangles inside the domain, and the claim.
+pub mod Edges
 pub mod Inside
 pub mod Claim
