@@ -1,0 +1,2 @@
+-- What contracts inside cite, leaves first.
+pub mod Found

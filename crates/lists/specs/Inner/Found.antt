@@ -1,0 +1,8 @@
+-- What a search of the definition comes to, as the code gives it. Definitions only.
+use Rattle.std.specs.Prelude.{Option, Some, None}
+use Rattle.std.proofs.Math.Option.{Option as Sought, none, some}
+
+-- the same value, if there is one
+abbrev pub found : {A : Type 0} → Sought A → Option A
+found none = None
+found (some x) = Some x
