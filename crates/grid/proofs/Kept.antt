@@ -13,15 +13,21 @@ use Rattle.grid.specs.Grid.{least_from}
 use Rattle.grid.specs.Inner.Index.{cell_in}
 
 -- ---- the least coordinate
-pub least_start : (xs : List Float) (a : Float) (at n : ℕ) → least_from xs a at n ≡ least_from xs a at (n - 0)
-least_start xs a at n = let e : n ≡ n - 0 = omega arith in ap (λ (m : ℕ). least_from xs a at m) e
+pub least_start : (xs : List Float) (a : Float) (at n : ℕ) → least_from xs a at n ≡ least_from xs a (at + 3 * 0) (n - 0)
+least_start xs a at n =
+    let e : n ≡ n - 0 = omega arith in
+    let t : at ≡ at + 3 * 0 = omega arith in
+    ap (λ (m : ℕ). least_from xs a at m) e ∙ ap (λ (k : ℕ). least_from xs a k (n - 0)) t
 
-pub least_step : (xs : List Float) (a v : Float) (at i n : ℕ) → i < n → v ≡ minimum a (get_or xs at nan) → least_from xs a at (n - i)
-    ≡ least_from xs v (at + 3) (n - (i + 1))
+pub least_step : (xs : List Float) (a v : Float) (at i n : ℕ) → i < n → v ≡ minimum a (get_or xs (at + 3 * i) nan) → least_from xs a (at + 3 * i) (n - i)
+    ≡ least_from xs v (at + 3 * (i + 1)) (n - (i + 1))
 unfolding least_from
 least_step xs a v at i n h e =
     let c : n - i ≡ suc (n - (i + 1)) = omega arith in
-    ap (λ (m : ℕ). least_from xs a at m) c ∙ ap (λ (u : Float). least_from xs u (at + 3) (n - (i + 1))) (sym e)
+    let t : at + 3 * i + 3 ≡ at + 3 * (i + 1) = omega arith in
+    ap (λ (m : ℕ). least_from xs a (at + 3 * i) m) c
+    ∙ ap (λ (u : Float). least_from xs u (at + 3 * i + 3) (n - (i + 1))) (sym e)
+    ∙ ap (λ (m : ℕ). least_from xs v m (n - (i + 1))) t
 
 pub least_end : (xs : List Float) (a : Float) (at i n : ℕ) → n ≤ i → least_from xs a at (n - i) ≡ a
 unfolding least_from

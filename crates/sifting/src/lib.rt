@@ -30,11 +30,9 @@ pub fn keep_within(
 {
     let at = regions::NEIGHBORS * n;
     let mut kept: usize = 0;
-    let mut m: usize = 0;
-    while m < found {
+    for m in 0..found {
         let k = w[at + m];
         w[at + kept] = k;
-        m += 1;
         if is_within(points, k as usize, place, limit) {
             kept += 1;
         }

@@ -2,31 +2,25 @@
 use native.Mathlib.Omega.{arith}
 use Rattle.sifting.proofs.Sifting.{sift_start, sift_below, sift_skip, sift_take, sift_end}
 use Rattle.sifting.proofs.keep_within.Goals as goal
+use Rattle.sifting.proofs.keep_within.Goals.{then-is_within, else-is_within}
 
 pub loop-m-init : goal.loop-m-init
 loop-m-init c = sift_start
 
 pub overflow_cast-k : goal.overflow_cast-k
 overflow_cast-k c =
-    let a = c.before.before.before.before.before in
-    record { fits = omega (arith, sift_below a.requires c.loop-m.invariant c.loop-m-test.true, a.requires.few) }
+    record { fits = omega (arith, sift_below c.requires c.loop-m.invariant c.loop-m-test.true, c.requires.few) }
 
 pub is_within-requires : goal.is_within-requires
 is_within-requires c =
-    let a = c.before.before.before.before.before in
-    omega (arith, sift_below a.requires c.loop-m.invariant c.loop-m-test.true, a.requires.points_long)
-
-pub loop-m-preserved-then-is_within : goal.loop-m-preserved-then-is_within
-loop-m-preserved-then-is_within c =
-    let a = c.before.before.before.before.before.before.before in
-    sift_take a.requires c.loop-m.invariant c.loop-m-test.true c.is_within.ensures
-    c.if-is_within.true
+    omega (arith, sift_below c.requires c.loop-m.invariant c.loop-m-test.true, c.requires.points_long)
 
 pub loop-m-preserved : goal.loop-m-preserved
 loop-m-preserved c =
-    let a = c.before.before.before.before.before.before.before in
-    sift_skip a.requires c.loop-m.invariant c.loop-m-test.true c.is_within.ensures
-    c.if-is_within.false
+    elim c.if-is_within.branch [
+      | then-is_within w ↦ rw w.kept-is (sift_take c.requires c.loop-m.invariant c.loop-m-test.true c.is_within.ensures w.if-is_within.true)
+      | else-is_within w ↦ rw w.kept-is (sift_skip c.requires c.loop-m.invariant c.loop-m-test.true c.is_within.ensures w.if-is_within.false)
+    ]
 
 pub shape_of-w : goal.shape_of-w
 shape_of-w c = c.loop-m.invariant.same
