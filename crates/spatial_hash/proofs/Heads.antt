@@ -1,18 +1,14 @@
--- Laws of building: heads that are cleared one by one, and points that are linked one by one. Assumes nothing.
+-- Laws of building: points that are linked one by one. Assumes nothing.
 use mathlib.Core.Path.{◌≡◌, refl, ap, ◌∙◌, subst}
-use mathlib.Core.Logic.{⊎_elim}
-use mathlib.Core.Bool.{true, false}
+use mathlib.Core.Bool.{false}
 use mathlib.Core.List.{List}
 use Prim.Native.Nat.{ℕ, ◌+◌, ◌*◌, ◌≤◌, ◌<◌}
 use native.Mathlib.Nat.{mod-lt}
 use native.Mathlib.Omega.{arith}
-use borrow.Author.Tests.{eqb-true, eqb-false}
-use lib.Dec.{eqb}
 use lib.ListN.{length, take, get_or, set, length-set}
-use lib.Seq.{get_or-set_same, get_or-set_other, take-set-le}
+use lib.Seq.{take-set-le}
 use lib.Ieee.{Float}
 use Rattle.vector.specs.declared.Point3f.{Point3f}
-use Rattle.lists.proofs.Bools.{either}
 use Rattle.spatial_hash.specs.declared.Hash.{Hash}
 use Rattle.bucket_order.specs.Inner.Chains.{Chained}
 use Rattle.spatial_hash.specs.Inner.Buckets.{row_for, place_for, bucket_of, bucket_at, buckets, links_of, is_out, bucket_in}
@@ -23,22 +19,6 @@ use Rattle.bucket_order.proofs.Chains.{last_le, chained_start, chained_step}
 use Rattle.spatial_hash.proofs.Inside.{link_in, bucket_in_lem}
 use Rattle.bucket_order.proofs.Ordering.{in_front}
 use Rattle.spatial_hash.proofs.Kept.{ready_same, laid_same}
-
--- the heads below b are empty, and what lies before the links is as it was
-pub record Cleared (w₀ : List ℕ) (n : ℕ) (w : List ℕ) (b : ℕ) : Type 0 where
-  pub zero : (i : ℕ) → i < b → get_or w (10 * n + i) 0 ≡ 0
-  pub before : take (9 * n) w ≡ take (9 * n) w₀
-  pub length_same : length w ≡ length w₀
-
-pub cleared_step : (w₀ w : List ℕ) (n b : ℕ) → 10 * n + b < length w → Cleared w₀ n w b → Cleared w₀ n (set w (10 * n + b) 0) (b + 1)
-cleared_step w₀ w n b h s = record {
-  zero = λ i l. ⊎_elim
-      (λ (t : eqb i b ≡ true). ap (λ (k : ℕ). get_or (set w (10 * n + b) 0) (10 * n + k) 0) (eqb-true i b t) ∙ get_or-set_same w (10 * n + b) 0 0 h)
-      (λ (t : eqb i b ≡ false). let ne = eqb-false i b t in get_or-set_other w (10 * n + b) (10 * n + i) 0 0 (λ e. omega arith) ∙ s.zero i (omega arith))
-      (either (eqb i b));
-  before = take-set-le (9 * n) w (10 * n + b) 0 (omega arith) ∙ s.before;
-  length_same = length-set w (10 * n + b) 0 ∙ s.length_same;
-}
 
 pub row_below : (h : Hash) (p : Point3f) → 0 < h.side → row_for h p < h.side * h.side
 unfolding row_for

@@ -45,38 +45,43 @@ module _ (h : Hash) (pts : List Float) (n : ℕ) where
     none = λ ls r. refl;
   }
 
--- a walk over remainders that began with r₀ and k₀
-pub record Visiting (h : Hash) (pts : List Float) (n : ℕ) (bs : ℕ → ℕ → List ℕ) (w₀ : List ℕ) (from r₀ k₀ : ℕ) (w : List ℕ) (at r k : ℕ) : Type 0 where
-  pub walking : Walking h pts n w₀ from (points_in h pts n (links_of n w₀) (bs r₀ k₀)) w at (points_in h pts n (links_of n w₀) (bs r k))
+-- a walk over k₀ remainders that began with r₀, i of which are behind
+pub record Visiting (h : Hash) (pts : List Float) (n : ℕ) (bs : ℕ → ℕ → List ℕ) (w₀ : List ℕ) (from r₀ k₀ : ℕ) (w : List ℕ) (at r i : ℕ) : Type 0 where
+  pub walking : Walking h pts n w₀ from (points_in h pts n (links_of n w₀) (bs r₀ k₀)) w at (points_in h pts n (links_of n w₀) (bs r (k₀ - i)))
   pub below : r < h.side
 
 module _ {h : Hash} {pts : List Float} {n : ℕ} {bs : ℕ → ℕ → List ℕ} {w₀ : List ℕ} {from r₀ k₀ : ℕ} where
   pub visiting_start : r₀ < h.side → NeighborRoom h pts n w₀ from (points_in h pts n (links_of n w₀) (bs r₀ k₀))
-      → Visiting h pts n bs w₀ from r₀ k₀ w₀ from r₀ k₀
-  visiting_start l s = record { walking = walking_start s; below = l }
+      → Visiting h pts n bs w₀ from r₀ k₀ w₀ from r₀ 0
+  visiting_start l s =
+      let e : k₀ ≡ k₀ - 0 = omega arith in
+      record { walking = walking_as (ap (λ (k : ℕ). points_in h pts n (links_of n w₀) (bs r₀ k)) e) (walking_start s); below = l }
 
-  module _ {js : List ℕ → ℕ → List ℕ} (p : Splits h pts n bs js) {w : List ℕ} {at r k : ℕ} where
-    split : 0 < k → Visiting h pts n bs w₀ from r₀ k₀ w at r k
+  module _ {js : List ℕ → ℕ → List ℕ} (p : Splits h pts n bs js) {w : List ℕ} {at r i : ℕ} where
+    split : i < k₀ → Visiting h pts n bs w₀ from r₀ k₀ w at r i
         → Walking h pts n w₀ from (points_in h pts n (links_of n w₀) (bs r₀ k₀)) w at
-        (js (links_of n w₀) r ++ points_in h pts n (links_of n w₀) (bs (next_residue h.side r) (k - 1)))
-    split l s = walking_as (p.one (links_of n w₀) r k l) s.walking
+        (js (links_of n w₀) r ++ points_in h pts n (links_of n w₀) (bs (next_residue h.side r) (k₀ - (i + 1))))
+    split l s =
+        let e : k₀ - i - 1 ≡ k₀ - (i + 1) = omega arith in
+        walking_as (p.one (links_of n w₀) r (k₀ - i) (omega arith)
+        ∙ ap (λ (k : ℕ). js (links_of n w₀) r ++ points_in h pts n (links_of n w₀) (bs (next_residue h.side r) k)) e) s.walking
 
     -- there is room for the points with the remainder r
-    pub visiting_room : 0 < k → Visiting h pts n bs w₀ from r₀ k₀ w at r k → NeighborRoom h pts n w at (js (links_of n w) r)
+    pub visiting_room : i < k₀ → Visiting h pts n bs w₀ from r₀ k₀ w at r i → NeighborRoom h pts n w at (js (links_of n w) r)
     visiting_room l s = subst (λ (ls : List ℕ). NeighborRoom h pts n w at (js ls r)) (sym s.walking.links_same)
-        (walking_room (js (links_of n w₀) r) (points_in h pts n (links_of n w₀) (bs (next_residue h.side r) (k - 1))) (split l s))
+        (walking_room (js (links_of n w₀) r) (points_in h pts n (links_of n w₀) (bs (next_residue h.side r) (k₀ - (i + 1)))) (split l s))
 
-    pub visiting_step : {u : List ℕ} {t q : ℕ} → 0 < k → Visiting h pts n bs w₀ from r₀ k₀ w at r k → Appended n w u at t (js (links_of n w) r) → q
-        ≡ next_residue h.side r → Visiting h pts n bs w₀ from r₀ k₀ u t q (k - 1)
+    pub visiting_step : {u : List ℕ} {t q : ℕ} → i < k₀ → Visiting h pts n bs w₀ from r₀ k₀ w at r i → Appended n w u at t (js (links_of n w) r) → q
+        ≡ next_residue h.side r → Visiting h pts n bs w₀ from r₀ k₀ u t q (i + 1)
     visiting_step {u} {t} l s a e =
-        subst (λ (i : ℕ). Visiting h pts n bs w₀ from r₀ k₀ u t i (k - 1)) (sym e)
+        subst (λ (z : ℕ). Visiting h pts n bs w₀ from r₀ k₀ u t z (i + 1)) (sym e)
         record {
-          walking = walking_step (js (links_of n w₀) r) (points_in h pts n (links_of n w₀) (bs (next_residue h.side r) (k - 1))) (split l s)
+          walking = walking_step (js (links_of n w₀) r) (points_in h pts n (links_of n w₀) (bs (next_residue h.side r) (k₀ - (i + 1)))) (split l s)
               (subst (λ (ls : List ℕ). Appended n w u at t (js ls r)) s.walking.links_same a);
           below = next_below h.side r s.below;
         }
 
-    pub visiting_end : k ≤ 0 → Visiting h pts n bs w₀ from r₀ k₀ w at r k → Appended n w₀ w from at (points_in h pts n (links_of n w₀) (bs r₀ k₀))
+    pub visiting_end : k₀ ≤ i → Visiting h pts n bs w₀ from r₀ k₀ w at r i → Appended n w₀ w from at (points_in h pts n (links_of n w₀) (bs r₀ k₀))
     visiting_end l s =
-        let e : k ≡ 0 = omega arith in
-        walking_end (walking_as (ap (λ (i : ℕ). points_in h pts n (links_of n w₀) (bs r i)) e ∙ p.none (links_of n w₀) r) s.walking)
+        let e : k₀ - i ≡ 0 = omega arith in
+        walking_end (walking_as (ap (λ (k : ℕ). points_in h pts n (links_of n w₀) (bs r k)) e ∙ p.none (links_of n w₀) r) s.walking)

@@ -37,10 +37,8 @@ pub fn least_corner(points: &[f32], n: usize) -> Point3f
         };
     }
     let mut least = points::point_at(points, 0);
-    let mut i: usize = 1;
-    while i < n {
+    for i in 1..n {
         least = lower(least, points::point_at(points, i));
-        i += 1;
     }
     least
 }
@@ -53,11 +51,8 @@ pub fn clear_heads(w: &mut [u32], n: usize, side: usize)
         × (take (links_at n) w.new ≡ take (links_at n) w.old) }
 {
     let buckets = side * side * (side + 1);
-    let mut b: usize = 0;
-    while b < buckets {
-        w[regions::STARTS * n + b] = 0;
-        b += 1;
-    }
+    let starts = regions::STARTS * n;
+    w[starts..starts + buckets].fill(0);
 }
 
 // Whether point k was taken out.
@@ -84,10 +79,8 @@ pub fn link_points(points: &[f32], w: &mut [u32], n: usize, hash: Hash)
     ensures { Chained (bucket_at hash points.now) n (buckets hash) w.new n
         × (take (links_at n) w.new ≡ take (links_at n) w.old) }
 {
-    let mut j: usize = 0;
-    while j < n {
+    for j in 0..n {
         let b = cells::bucket_of(hash, points::point_at(points, j));
         link_point(w, n, b, j);
-        j += 1;
     }
 }

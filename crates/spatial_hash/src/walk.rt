@@ -19,11 +19,9 @@ fn copy_points(w: &mut [u32], n: usize, from: usize, to: usize, count: usize) ->
         (reads w.old (order_at n + from) (to - from)) }
 {
     let mut total = count;
-    let mut i = from;
-    while i < to {
+    for i in from..to {
         w[regions::NEIGHBORS * n + total] = w[regions::ORDER * n + regions::EXTRA + i];
         total += 1;
-        i += 1;
     }
     total
 }
@@ -100,11 +98,9 @@ fn visit_plane(
 {
     let mut total = count;
     let mut y = ys.first;
-    let mut left = ys.count;
-    while left > 0 {
+    for _done in 0..ys.count {
         total = visit_row(points, w, n, hash, x * hash.side + y, zs, total);
         y = cells::next(hash.side, y);
-        left -= 1;
     }
     total
 }
@@ -128,11 +124,9 @@ pub fn visit_planes(
 {
     let mut total: usize = 0;
     let mut x = xs.first;
-    let mut left = xs.count;
-    while left > 0 {
+    for _done in 0..xs.count {
         total = visit_plane(points, w, n, hash, x, ys, zs, total);
         x = cells::next(hash.side, x);
-        left -= 1;
     }
     total
 }

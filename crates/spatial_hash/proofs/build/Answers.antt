@@ -13,11 +13,9 @@ use Rattle.spatial_hash.proofs.build.Goals as goal
 pub link_points-requires : goal.link_points-requires
 link_points-requires c =
     let after-side-for = c in
-    let start = c in
-    let s = start in
     let e = c.clear_heads in
     record {
-      ready = ready_same _ _ _ _ e.auto.w s.requires;
+      ready = ready_same _ _ _ _ e.auto.w c.requires;
       sound = (let sound_here : HashSound (record {
         least =
             c.least_corner-least.result;
@@ -42,10 +40,9 @@ order_points-requires c = (let heading_here : Heading (record {
   side = c.side_for-side.result;
 }) c.args.points.now c.args.n c.link_points.new.w = let clear-heads = c.clear_heads in
     let after-side-for = c in
-    let start = c in
     let e = clear-heads in
     record {
-      ready = ready_same _ _ _ _ (c.link_points.auto.w ∙ e.auto.w) start.requires;
+      ready = ready_same _ _ _ _ (c.link_points.auto.w ∙ e.auto.w) c.requires;
       sound = (let sound_here : HashSound (record {
         least =
             c.least_corner-least.result;
@@ -64,10 +61,8 @@ order_points-requires c = (let heading_here : Heading (record {
 
 pub returns : goal.returns
 returns c =
-    let o = c in
-    let l = o in
-    let e = l.clear_heads in
-    let n = l.args.n in
+    let e = c.clear_heads in
+    let n = c.args.n in
     record {
       hashed = hashed_all _ _ _ _ _ (let heading_here : Heading (record {
         least =
@@ -76,10 +71,9 @@ returns c =
         side = c.side_for-side.result;
       }) c.args.points.now c.args.n c.link_points.new.w = let clear-heads = c.clear_heads in
           let after-side-for = c in
-          let start = c in
           let e = clear-heads in
           record {
-            ready = ready_same _ _ _ _ (c.link_points.auto.w ∙ e.auto.w) start.requires;
+            ready = ready_same _ _ _ _ (c.link_points.auto.w ∙ e.auto.w) c.requires;
             sound = (let sound_here : HashSound (record {
               least =
                   c.least_corner-least.result;
@@ -94,12 +88,12 @@ returns c =
               corner = c.least_corner-least.ensures;
             } in sound_here);
             chained = c.link_points.ensures.0;
-          } in heading_here) o.order_points.auto.w o.order_points.ensures.1 o.order_points.ensures.0;
+          } in heading_here) c.order_points.auto.w c.order_points.ensures.1 c.order_points.ensures.0;
       before =
-          sym (take-take (9 * n) (10 * n) o.order_points.new.w (omega arith))
-          ∙ ap (take (9 * n)) o.order_points.ensures.1
-          ∙ take-take (9 * n) (10 * n) l.link_points.new.w (omega arith)
-          ∙ l.link_points.ensures.1
+          sym (take-take (9 * n) (10 * n) c.order_points.new.w (omega arith))
+          ∙ ap (take (9 * n)) c.order_points.ensures.1
+          ∙ take-take (9 * n) (10 * n) c.link_points.new.w (omega arith)
+          ∙ c.link_points.ensures.1
           ∙ e.ensures.1;
-      length_same = o.order_points.auto.w ∙ l.link_points.auto.w ∙ e.auto.w;
+      length_same = c.order_points.auto.w ∙ c.link_points.auto.w ∙ e.auto.w;
     }

@@ -4,17 +4,14 @@ use Rattle.spatial_hash.proofs.gather.Goals as goal
 
 pub visit_planes-requires : goal.visit_planes-requires
 visit_planes-requires c =
-    let s = c in
     let x = c.span-xs.ensures in
     let y = c.span-ys.ensures in
     let z = c.span-zs.ensures in
-    (x.starts, y.starts, z.starts, z.few, box_room _ _ _ _ s.args.bounds _ _ _ s.requires x y z)
+    (x.starts, y.starts, z.starts, z.few, box_room _ _ _ _ c.args.bounds _ _ _ c.requires x y z)
 
 pub returns : goal.returns
 returns c =
     let span3 = c.span-zs in
     let span2 = c.span-ys in
     let span = c.span-xs in
-    let start = c in
-    let s = start in
-    box_gathered _ _ _ _ s.args.bounds _ _ _ s.requires span.ensures span2.ensures span3.ensures _ _ c.visit_planes.ensures
+    box_gathered _ _ _ _ c.args.bounds _ _ _ c.requires span.ensures span2.ensures span3.ensures _ _ c.visit_planes.ensures

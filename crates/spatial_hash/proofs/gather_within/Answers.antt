@@ -21,6 +21,4 @@ pub returns : goal.returns
 returns c =
     let gather = c.gather-found in
     let covering = c.covering-bounds in
-    let start = c in
-    let s = start in
-    sifted_near s.requires.0.ready.numbers covering.ensures gather.ensures c.keep_within.ensures
+    sifted_near c.requires.0.ready.numbers covering.ensures gather.ensures c.keep_within.ensures

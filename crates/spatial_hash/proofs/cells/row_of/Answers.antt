@@ -6,13 +6,13 @@ use Rattle.spatial_hash.proofs.cells.row_of.Goals as goal
 
 pub overflow_mul-result : goal.overflow_mul-result
 overflow_mul-result c =
-    let s = c in let l = joined_below _ _ _ _ c.residue-x.ensures.1 c.residue-y.ensures.1 in let q = square_few _
-    s.requires.1 in omega arith
+    let l = joined_below _ _ _ _ c.residue-x.ensures.1 c.residue-y.ensures.1 in let q = square_few _
+    c.requires.1 in omega arith
 
 pub overflow_add-result : goal.overflow_add-result
 overflow_add-result c =
-    let s = c in let l = joined_below _ _ _ _ c.residue-x.ensures.1 c.residue-y.ensures.1 in let q = square_few _
-    s.requires.1 in omega arith
+    let l = joined_below _ _ _ _ c.residue-x.ensures.1 c.residue-y.ensures.1 in let q = square_few _
+    c.requires.1 in omega arith
 
 pub returns : goal.returns
 unfolding row_for

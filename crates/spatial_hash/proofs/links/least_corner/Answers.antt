@@ -10,12 +10,11 @@ unfolding of_bits
 returns-then-n-eq0 c = record { x_finite = tt; y_finite = tt; z_finite = tt }
 
 pub loop-i-init : goal.loop-i-init
-loop-i-init c = let s = c in subst Finite (sym c.point_at-least.ensures) (s.requires.2 0 (omega arith))
+loop-i-init c = subst Finite (sym c.point_at-least.ensures) (c.requires.2 0 (omega arith))
 
 pub lower-least-requires : goal.lower-least-requires
 lower-least-requires c =
-    let s = c in
-    (c.loop-i.invariant, subst Finite (sym c.point_at.ensures) (s.requires.2 c.loop-i.i c.loop-i-test.true))
+    (c.loop-i.invariant, subst Finite (sym c.point_at.ensures) (c.requires.2 c.loop-i.i c.loop-i-test.true))
 
 pub loop-i-preserved : goal.loop-i-preserved
 loop-i-preserved c = c.lower-least.ensures

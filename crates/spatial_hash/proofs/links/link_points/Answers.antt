@@ -11,10 +11,9 @@ loop-j-init c = linking_start _ _ _ _ c.requires
 
 pub link_point-requires : goal.link_point-requires
 link_point-requires c =
-    let s = c in
-    let b = bucket_below s.args.hash c.point_at.result s.requires.sound.some in
+    let b = bucket_below c.args.hash c.point_at.result c.requires.sound.some in
     let e = c.bucket_of-b.ensures in
-    (search rules, search rules, omega (arith, s.requires.sound.fitting), search rules)
+    (search rules, search rules, omega (arith, c.requires.sound.fitting), search rules)
 
 pub loop-j-preserved : goal.loop-j-preserved
 loop-j-preserved c =
@@ -22,11 +21,9 @@ loop-j-preserved c =
     let point_at_lem = c.point_at in
     let loop-test = c.loop-j-test in
     let loop = c.loop-j in
-    let start = c in
     let l = loop in
-    let s = start in
-    linking_step s.args.hash s.args.points.now s.args.n s.args.w.now l.w _ l.j bucket-of.result s.requires loop-test.true
-    (bucket-of.ensures ∙ ap (bucket_of s.args.hash) point_at_lem.ensures) c.link_point.ensures l.invariant
+    linking_step c.args.hash c.args.points.now c.args.n c.args.w.now l.w _ l.j bucket-of.result c.requires loop-test.true
+    (bucket-of.ensures ∙ ap (bucket_of c.args.hash) point_at_lem.ensures) c.link_point.ensures l.invariant
 
 pub shape_of-w : goal.shape_of-w
 shape_of-w c = c.loop-j.invariant.length_same

@@ -7,8 +7,8 @@ loop-i-init c = copying_start _ _ _ _ _ c.requires.2
 
 pub loop-i-preserved : goal.loop-i-preserved
 loop-i-preserved c =
-    let s = c in let l = c.loop-i in copying_step _ _ _ _ _ l.w _ _ c.loop-i-test.true s.requires.3
-    s.requires.4 s.requires.1 l.invariant
+    let l = c.loop-i in copying_step _ _ _ _ _ l.w _ _ c.loop-i-test.true c.requires.3
+    c.requires.4 c.requires.1 l.invariant
 
 pub shape_of-w : goal.shape_of-w
 shape_of-w c = c.loop-i.invariant.appended.length_same

@@ -5,56 +5,47 @@ use Rattle.spatial_hash.specs.Inner.Buckets.{spanned}
 use Rattle.spatial_hash.proofs.Sizes.{square_few, joined_below}
 use Rattle.spatial_hash.proofs.walk.visit_plane.Goals as goal
 
-pub loop-left-init : goal.loop-left-init
-loop-left-init c = let s = c in visiting_start s.requires.1 s.requires.4
+pub loop-done-init : goal.loop-done-init
+loop-done-init c = visiting_start c.requires.1 c.requires.4
 
 pub overflow_mul-x : goal.overflow_mul-x
-overflow_mul-x c = let s = c in
-    let m = s.args.hash.side in
-    let l = c.loop-left in
-    let j = joined_below m m s.args.x l.y s.requires.0 l.invariant.below in
-    let q = square_few m s.requires.4.linked.sound.few in
+overflow_mul-x c = let m = c.args.hash.side in
+    let l = c.loop-done in
+    let j = joined_below m m c.args.x l.y c.requires.0 l.invariant.below in
+    let q = square_few m c.requires.4.linked.sound.few in
     omega arith
 
 pub overflow_add-x : goal.overflow_add-x
-overflow_add-x c = let s = c in
-    let m = s.args.hash.side in
-    let l = c.loop-left in
-    let j = joined_below m m s.args.x l.y s.requires.0 l.invariant.below in
-    let q = square_few m s.requires.4.linked.sound.few in
+overflow_add-x c = let m = c.args.hash.side in
+    let l = c.loop-done in
+    let j = joined_below m m c.args.x l.y c.requires.0 l.invariant.below in
+    let q = square_few m c.requires.4.linked.sound.few in
     omega arith
 
 pub visit_row-total-requires : goal.visit_row-total-requires
-visit_row-total-requires c = let s = c in
-    let m = s.args.hash.side in
-    let l = c.loop-left in
-    let j = joined_below m m s.args.x l.y s.requires.0 l.invariant.below in
-    let q = square_few m s.requires.4.linked.sound.few in (
+visit_row-total-requires c = let m = c.args.hash.side in
+    let l = c.loop-done in
+    let j = joined_below m m c.args.x l.y c.requires.0 l.invariant.below in
+    let q = square_few m c.requires.4.linked.sound.few in (
       j,
-      s.requires.2,
-      s.requires.3,
+      c.requires.2,
+      c.requires.3,
       visiting_room
-          (plane_splits s.args.hash s.args.points.now s.args.n s.args.x (spanned s.args.hash.side s.args.zs))
-          c.loop-left-test.true l.invariant,
+          (plane_splits c.args.hash c.args.points.now c.args.n c.args.x (spanned c.args.hash.side c.args.zs))
+          c.loop-done-test.true l.invariant,
     )
 
 pub next-y-requires : goal.next-y-requires
-next-y-requires c = c.loop-left.invariant.below
+next-y-requires c = c.loop-done.invariant.below
 
-pub loop-left-preserved : goal.loop-left-preserved
-loop-left-preserved c =
-    let loop-test = c.loop-left-test in
-    let loop = c.loop-left in
-    let start = c in
-    let s = start in
-    let l = loop in
-    visiting_step (plane_splits s.args.hash s.args.points.now s.args.n s.args.x (spanned s.args.hash.side s.args.zs))
-    loop-test.true l.invariant c.visit_row-total.ensures c.next-y.ensures
+pub loop-done-preserved : goal.loop-done-preserved
+loop-done-preserved c =
+    visiting_step (plane_splits c.args.hash c.args.points.now c.args.n c.args.x (spanned c.args.hash.side c.args.zs))
+    c.loop-done-test.true c.loop-done.invariant c.visit_row-total.ensures c.next-y.ensures
 
 pub shape_of-w : goal.shape_of-w
-shape_of-w c = c.loop-left.invariant.walking.length_same
+shape_of-w c = c.loop-done.invariant.walking.length_same
 
 pub returns : goal.returns
-returns c = let s = c in
-    visiting_end (plane_splits s.args.hash s.args.points.now s.args.n s.args.x (spanned s.args.hash.side s.args.zs))
-    c.loop-left-test.false c.loop-left.invariant
+returns c = visiting_end (plane_splits c.args.hash c.args.points.now c.args.n c.args.x (spanned c.args.hash.side c.args.zs))
+    c.loop-done-test.false c.loop-done.invariant

@@ -3,9 +3,6 @@ use Rattle.spatial_hash.proofs.Visiting.{Visiting, plane_left}
 use Rattle.spatial_hash.specs.Inner.Buckets.{spanned}
 use Rattle.spatial_hash.proofs.walk.visit_plane.Given as goal
 
-abbrev pub invariant-loop-left : goal.invariant-loop-left
-invariant-loop-left l =
-    Visiting l.hash l.points l.n (plane_left l.hash.side l.x (spanned l.hash.side l.zs)) l.initial.w l.count l.initial.y l.initial.left l.w l.total l.y l.left
-
-abbrev pub decreases-loop-left : goal.decreases-loop-left
-decreases-loop-left l = l.left
+abbrev pub invariant-loop-done : goal.invariant-loop-done
+invariant-loop-done l =
+    Visiting l.hash l.points l.n (plane_left l.hash.side l.x (spanned l.hash.side l.zs)) l.initial.w l.count l.fn.ys.first l.fn.ys.count l.w l.total l.y l._done

@@ -3,9 +3,6 @@ use Rattle.spatial_hash.specs.Inner.Buckets.{spanned}
 use Rattle.spatial_hash.proofs.Visiting.{Visiting, box_left}
 use Rattle.spatial_hash.proofs.walk.visit_planes.Given as goal
 
-abbrev pub invariant-loop-left : goal.invariant-loop-left
-invariant-loop-left l =
-    Visiting l.hash l.points l.n (box_left l.hash.side (spanned l.hash.side l.ys) (spanned l.hash.side l.zs)) l.initial.w 0 l.initial.x l.initial.left l.w l.total l.x l.left
-
-abbrev pub decreases-loop-left : goal.decreases-loop-left
-decreases-loop-left l = l.left
+abbrev pub invariant-loop-done : goal.invariant-loop-done
+invariant-loop-done l =
+    Visiting l.hash l.points l.n (box_left l.hash.side (spanned l.hash.side l.ys) (spanned l.hash.side l.zs)) l.initial.w 0 l.fn.xs.first l.fn.xs.count l.w l.total l.x l._done

@@ -9,75 +9,72 @@ use native.Mathlib.Omega.{arith}
 use Rattle.spatial_hash.proofs.walk.visit_run.Goals as goal
 
 pub overflow_mul-starts-2 : goal.overflow_mul-starts-2
-overflow_mul-starts-2 c = let s = c in let l : c.args.at * (c.args.hash.side + 1) + c.args.end < 6 * c.args.n + 64 = let m = c.args.hash.side in
+overflow_mul-starts-2 c = let l : c.args.at * (c.args.hash.side + 1) + c.args.end < 6 * c.args.n + 64 = let m = c.args.hash.side in
     let e = c.requires.2 in
-    omega (arith, joined_below (m * m) (m + 1) c.args.at c.args.end c.requires.0 (omega arith), c.requires.3.linked.sound.fitting) in let r = s.requires.3.linked.ready in omega arith
+    omega (arith, joined_below (m * m) (m + 1) c.args.at c.args.end c.requires.0 (omega arith), c.requires.3.linked.sound.fitting) in let r = c.requires.3.linked.ready in omega arith
 
 pub overflow_add-starts-2 : goal.overflow_add-starts-2
-overflow_add-starts-2 c = let s = c in let l : c.args.at * (c.args.hash.side + 1) + c.args.end < 6 * c.args.n + 64 = let m = c.args.hash.side in
+overflow_add-starts-2 c = let l : c.args.at * (c.args.hash.side + 1) + c.args.end < 6 * c.args.n + 64 = let m = c.args.hash.side in
     let e = c.requires.2 in
-    omega (arith, joined_below (m * m) (m + 1) c.args.at c.args.end c.requires.0 (omega arith), c.requires.3.linked.sound.fitting) in let r = s.requires.3.linked.ready in omega arith
+    omega (arith, joined_below (m * m) (m + 1) c.args.at c.args.end c.requires.0 (omega arith), c.requires.3.linked.sound.fitting) in let r = c.requires.3.linked.ready in omega arith
 
 pub overflow_add-from : goal.overflow_add-from
-overflow_add-from c = let s = c in let l : c.args.at * (c.args.hash.side + 1) + c.args.end < 6 * c.args.n + 64 = let m = c.args.hash.side in
+overflow_add-from c = let l : c.args.at * (c.args.hash.side + 1) + c.args.end < 6 * c.args.n + 64 = let m = c.args.hash.side in
     let e = c.requires.2 in
-    omega (arith, joined_below (m * m) (m + 1) c.args.at c.args.end c.requires.0 (omega arith), c.requires.3.linked.sound.fitting) in let r = s.requires.3.linked.ready in omega arith
+    omega (arith, joined_below (m * m) (m + 1) c.args.at c.args.end c.requires.0 (omega arith), c.requires.3.linked.sound.fitting) in let r = c.requires.3.linked.ready in omega arith
 
 pub offset_bounds-w-starts : goal.offset_bounds-w-starts
-offset_bounds-w-starts c = let s = c in let l : c.args.at * (c.args.hash.side + 1) + c.args.end < 6 * c.args.n + 64 = let m = c.args.hash.side in
+offset_bounds-w-starts c = let l : c.args.at * (c.args.hash.side + 1) + c.args.end < 6 * c.args.n + 64 = let m = c.args.hash.side in
     let e = c.requires.2 in
-    omega (arith, joined_below (m * m) (m + 1) c.args.at c.args.end c.requires.0 (omega arith), c.requires.3.linked.sound.fitting) in let r = s.requires.3.linked.ready in omega arith
+    omega (arith, joined_below (m * m) (m + 1) c.args.at c.args.end c.requires.0 (omega arith), c.requires.3.linked.sound.fitting) in let r = c.requires.3.linked.ready in omega arith
 
 pub bounds-w-starts : goal.bounds-w-starts
-bounds-w-starts c = let s = c in let l : c.args.at * (c.args.hash.side + 1) + c.args.end < 6 * c.args.n + 64 = let m = c.args.hash.side in
+bounds-w-starts c = let l : c.args.at * (c.args.hash.side + 1) + c.args.end < 6 * c.args.n + 64 = let m = c.args.hash.side in
     let e = c.requires.2 in
-    omega (arith, joined_below (m * m) (m + 1) c.args.at c.args.end c.requires.0 (omega arith), c.requires.3.linked.sound.fitting) in let r = s.requires.3.linked.ready in omega arith
+    omega (arith, joined_below (m * m) (m + 1) c.args.at c.args.end c.requires.0 (omega arith), c.requires.3.linked.sound.fitting) in let r = c.requires.3.linked.ready in omega arith
 
 pub overflow_cast-from : goal.overflow_cast-from
 overflow_cast-from c =
-    let s = c in let o = s.requires.1 in let e = s.requires.2 in omega (
+    let o = c.requires.1 in let e = c.requires.2 in omega (
       arith,
-      start_most _ _ _ _ _ s.args.first s.args.end s.requires.0 o e s.requires.3.linked s.args.first
+      start_most _ _ _ _ _ c.args.first c.args.end c.requires.0 o e c.requires.3.linked c.args.first
           (omega arith),
-      s.requires.3.linked.ready.few,
+      c.requires.3.linked.ready.few,
     )
 
 pub overflow_add-to : goal.overflow_add-to
-overflow_add-to c = let s = c in let l : c.args.at * (c.args.hash.side + 1) + c.args.end < 6 * c.args.n + 64 = let m = c.args.hash.side in
+overflow_add-to c = let l : c.args.at * (c.args.hash.side + 1) + c.args.end < 6 * c.args.n + 64 = let m = c.args.hash.side in
     let e = c.requires.2 in
-    omega (arith, joined_below (m * m) (m + 1) c.args.at c.args.end c.requires.0 (omega arith), c.requires.3.linked.sound.fitting) in let r = s.requires.3.linked.ready in omega arith
+    omega (arith, joined_below (m * m) (m + 1) c.args.at c.args.end c.requires.0 (omega arith), c.requires.3.linked.sound.fitting) in let r = c.requires.3.linked.ready in omega arith
 
 pub offset_bounds-w-starts-2 : goal.offset_bounds-w-starts-2
-offset_bounds-w-starts-2 c = let s = c in let l : c.args.at * (c.args.hash.side + 1) + c.args.end < 6 * c.args.n + 64 = let m = c.args.hash.side in
+offset_bounds-w-starts-2 c = let l : c.args.at * (c.args.hash.side + 1) + c.args.end < 6 * c.args.n + 64 = let m = c.args.hash.side in
     let e = c.requires.2 in
-    omega (arith, joined_below (m * m) (m + 1) c.args.at c.args.end c.requires.0 (omega arith), c.requires.3.linked.sound.fitting) in let r = s.requires.3.linked.ready in omega arith
+    omega (arith, joined_below (m * m) (m + 1) c.args.at c.args.end c.requires.0 (omega arith), c.requires.3.linked.sound.fitting) in let r = c.requires.3.linked.ready in omega arith
 
 pub bounds-w-starts-2 : goal.bounds-w-starts-2
-bounds-w-starts-2 c = let s = c in let l : c.args.at * (c.args.hash.side + 1) + c.args.end < 6 * c.args.n + 64 = let m = c.args.hash.side in
+bounds-w-starts-2 c = let l : c.args.at * (c.args.hash.side + 1) + c.args.end < 6 * c.args.n + 64 = let m = c.args.hash.side in
     let e = c.requires.2 in
-    omega (arith, joined_below (m * m) (m + 1) c.args.at c.args.end c.requires.0 (omega arith), c.requires.3.linked.sound.fitting) in let r = s.requires.3.linked.ready in omega arith
+    omega (arith, joined_below (m * m) (m + 1) c.args.at c.args.end c.requires.0 (omega arith), c.requires.3.linked.sound.fitting) in let r = c.requires.3.linked.ready in omega arith
 
 pub overflow_cast-to : goal.overflow_cast-to
 overflow_cast-to c =
-    let s = c in let o = s.requires.1 in let e = s.requires.2 in omega
-    (arith, start_most _ _ _ _ _ s.args.first s.args.end s.requires.0 o e s.requires.3.linked s.args.end e, s.requires.3.linked.ready.few)
+    let o = c.requires.1 in let e = c.requires.2 in omega
+    (arith, start_most _ _ _ _ _ c.args.first c.args.end c.requires.0 o e c.requires.3.linked c.args.end e, c.requires.3.linked.ready.few)
 
 pub copy_points-requires : goal.copy_points-requires
 copy_points-requires c =
-    let s = c in
-    let r = s.requires.3 in
-    let o = s.requires.1 in
-    let e = s.requires.2 in (
+    let r = c.requires.3 in
+    let o = c.requires.1 in
+    let e = c.requires.2 in (
       r.linked.ready.few,
       r.linked.ready.work_long,
-      run_goes _ _ _ _ _ _ _ s.requires.0 o e r.linked,
-      start_most _ _ _ _ _ s.args.first
-          s.args.end s.requires.0 o e r.linked s.args.end e,
-      run_room _ _ _ _ _ _ _ s.requires.0 o e _ r,
+      run_goes _ _ _ _ _ _ _ c.requires.0 o e r.linked,
+      start_most _ _ _ _ _ c.args.first
+          c.args.end c.requires.0 o e r.linked c.args.end e,
+      run_room _ _ _ _ _ _ _ c.requires.0 o e _ r,
     )
 
 pub returns : goal.returns
 returns c =
-    let a = c in
-    let s = a in
-    subst (Appended _ _ _ _ _) (run_is _ _ _ _ _ _ _ s.requires.0 s.requires.1 s.requires.2 s.requires.3.linked) a.copy_points.ensures
+    subst (Appended _ _ _ _ _) (run_is _ _ _ _ _ _ _ c.requires.0 c.requires.1 c.requires.2 c.requires.3.linked) c.copy_points.ensures
