@@ -30,6 +30,9 @@ pub struct Around {
 // Below so many points a look at each is quicker than one near by.
 const FEW: usize = 200;
 
+// So often a look goes near by, each time further.
+const LOOKS: usize = 4;
+
 // Guesses at how far from a sample its tenth neighbour is, and the last one.
 #[derive(Clone, Copy)]
 pub struct Guess {
@@ -42,11 +45,7 @@ fn is_other(w: &[u32], n: usize, around: Around, i: usize, j: usize) -> bool
     requires { (j < n) × (n ≤ 4096) × (neighbors_at n ≤ length w.now) }
     ensures { result ≡ (not (eqb j i) && is_neighbor_cell around w.now n j) }
 {
-    if j == i {
-        return false;
-    }
-    let cell = around.cell;
-    grid::search::is_near(w, n, around.indexed, around.range, cell, j)
+    j != i && grid::search::is_near(w, n, around.indexed, around.range, around.cell, j)
 }
 
 // Looks at point j for the least squared distances from point i that are not above the limit, of which `kept` are in
@@ -108,8 +107,7 @@ fn least_squares(
         × (take (least_at n) f.new ≡ take (least_at n) f.old) }
 {
     let mut kept: usize = 0;
-    let mut k: usize = 0;
-    while k < found {
+    for k in 0..found {
         kept = look_at(
             points,
             n,
@@ -121,7 +119,6 @@ fn least_squares(
             f,
             kept,
         );
-        k += 1;
     }
     kept
 }
@@ -179,10 +176,8 @@ fn look_everywhere(
         × (take (least_at n) f.new ≡ take (least_at n) f.old) }
 {
     let mut kept: usize = 0;
-    let mut j: usize = 0;
-    while j < n {
+    for j in 0..n {
         kept = look_at(points, n, around, i, j, tenth(f, n, kept), w, f, kept);
-        j += 1;
     }
     kept
 }
@@ -216,13 +211,7 @@ fn look_in_range(
 fn is_wide(n: usize, hash: Hash, around: Around, reach: f32) -> bool
     ensures { result ≡ false → around.indexed ≡ true }
 {
-    if n < FEW {
-        return true;
-    }
-    if !around.indexed {
-        return true;
-    }
-    hash.side <= cutting::cut(reach * hash.scale * 2.0) as usize
+    n < FEW || !around.indexed || hash.side <= cutting::cut(reach * hash.scale * 2.0) as usize
 }
 
 // The least squared distances from point i to its other neighbours, however many they are.
@@ -247,19 +236,10 @@ fn look_further(
     look_in_range(points, n, hash, grid, around, i, reach, w, f)
 }
 
-// How many of the four looks near by are behind: all where there are so few points that a look at each is quicker, and
-// where the next one would go as far as the neighbours' cells.
-fn tries_after(n: usize, tries: u32, limit: f32, reach: f32) -> u32
-    requires { tries ≤ 4 }
-    ensures { (tries ≤ result) × (result ≤ 4) }
-{
-    if n < FEW {
-        return 4;
-    }
-    if limit < reach * reach {
-        return tries;
-    }
-    4
+// Whether to look near by: not where there are so few points that a look at each is quicker, and not where it would go
+// as far as the neighbours' cells.
+fn is_near_by(n: usize, limit: f32, reach: f32) -> bool {
+    n >= FEW && limit < reach * reach
 }
 
 // The least squared distances from point i to its other neighbours.
@@ -280,14 +260,15 @@ pub fn find_squares(
 {
     let reach = guess.last;
     let mut limit = guess.tenth * guess.tenth;
-    let mut tries = tries_after(n, 0, limit, reach);
-    while tries < 4 {
+    for _look in 0..LOOKS {
+        if !is_near_by(n, limit, reach) {
+            break;
+        }
         let kept = look_within(points, n, hash, around, i, limit, w, f);
         if kept == 10 {
             return kept;
         }
         limit = wider(kept, limit);
-        tries = tries_after(n, tries + 1, limit, reach);
     }
     look_further(points, n, hash, grid, around, i, reach, w, f)
 }

@@ -8,12 +8,11 @@ use Rattle.neighbor_squares.proofs.look_at.Goals as goal
 
 pub returns-then-not-s-limit : goal.returns-then-not-s-limit
 returns-then-not-s-limit c =
-    let s = c in
     let q = c.distance_squared-s in (
-      with_above (is_neighbor_cell s.args.around s.args.w.now s.args.n) s.args.points.now s.args.i s.args.j s.args.limit
-          (take s.args.kept (drop s.args.n s.args.f.now)) c.point_at-p.result c.point_at-q.result
+      with_above (is_neighbor_cell c.args.around c.args.w.now c.args.n) c.args.points.now c.args.i c.args.j c.args.limit
+          (take c.args.kept (drop c.args.n c.args.f.now)) c.point_at-p.result c.point_at-q.result
           q.result c.point_at-p.ensures c.point_at-q.ensures q.ensures c.if-not-s-limit.true,
-      s.requires.6,
+      c.requires.6,
       refl,
     )
 
@@ -21,31 +20,26 @@ pub returns-then-is_other : goal.returns-then-is_other
 returns-then-is_other c =
     let if2 = c.if-is_other in
     let is-other = c.is_other in
-    let else1 = c in
-    let d = else1 in
-    let s = d in
     let e = c.insert_least_rising.ensures in
     let o = is-other in
-    let q = d.distance_squared-s in (
+    let q = c.distance_squared-s in (
       e.1.inside
-          ∙ with_one (is_neighbor_cell s.args.around s.args.w.now s.args.n) s.args.points.now s.args.i s.args.j s.args.limit
-          (take s.args.kept (drop s.args.n s.args.f.now)) d.point_at-p.result d.point_at-q.result
-          q.result d.point_at-p.ensures d.point_at-q.ensures q.ensures o.result o.ensures
-          d.if-not-s-limit.false if2.true,
+          ∙ with_one (is_neighbor_cell c.args.around c.args.w.now c.args.n) c.args.points.now c.args.i c.args.j c.args.limit
+          (take c.args.kept (drop c.args.n c.args.f.now)) c.point_at-p.result c.point_at-q.result
+          q.result c.point_at-p.ensures c.point_at-q.ensures q.ensures o.result o.ensures
+          c.if-not-s-limit.false if2.true,
       omega (arith, e.0),
       e.1.below,
     )
 
 pub returns : goal.returns
 returns c =
-    let d = c in
-    let s = d in
     let o = c.is_other in
-    let q = d.distance_squared-s in (
-      with_none (is_neighbor_cell s.args.around s.args.w.now s.args.n) s.args.points.now s.args.i s.args.j s.args.limit
-          (take s.args.kept (drop s.args.n s.args.f.now)) d.point_at-p.result d.point_at-q.result
-          q.result d.point_at-p.ensures d.point_at-q.ensures q.ensures o.result o.ensures
-          d.if-not-s-limit.false c.if-is_other.false,
-      s.requires.6,
+    let q = c.distance_squared-s in (
+      with_none (is_neighbor_cell c.args.around c.args.w.now c.args.n) c.args.points.now c.args.i c.args.j c.args.limit
+          (take c.args.kept (drop c.args.n c.args.f.now)) c.point_at-p.result c.point_at-q.result
+          q.result c.point_at-p.ensures c.point_at-q.ensures q.ensures o.result o.ensures
+          c.if-not-s-limit.false c.if-is_other.false,
+      c.requires.6,
       refl,
     )

@@ -9,62 +9,53 @@ use Rattle.neighbor_squares.proofs.Looking.{with_tenth, with_ordered, all_start,
 use Rattle.neighbor_squares.proofs.look_everywhere.Goals as goal
 
 pub loop-j-init : goal.loop-j-init
-loop-j-init c =
-    let s = c in (
-      refl,
-      search rules,
-      search rules,
-      all_start (is_neighbor_cell s.args.around s.args.w.now s.args.n) s.args.points.now s.args.i
-          s.args.n (drop s.args.n s.args.f.now),
-      refl,
-      (tt, tt),
-    )
+loop-j-init c = (
+  refl,
+  search rules,
+  all_start (is_neighbor_cell c.args.around c.args.w.now c.args.n) c.args.points.now c.args.i
+      c.args.n (drop c.args.n c.args.f.now),
+  refl,
+  (tt, tt),
+)
 
 pub tenth-requires : goal.tenth-requires
 tenth-requires c =
     let l = c.loop-j in
-    let s = c in
-    (s.requires.1, omega (arith, l.invariant.0, s.requires.4))
+    (c.requires.1, omega (arith, l.invariant.0, c.requires.4))
 
 pub look_at-kept-requires : goal.look_at-kept-requires
 look_at-kept-requires c =
     let loop = c.loop-j in
-    let start = c in
     let l = loop in
-    let s = start in
-    (s.requires.0, c.loop-j-test.true, s.requires.1, s.requires.2, s.requires.3, omega (arith, l.invariant.0, s.requires.4), l.invariant.2, l.invariant.5.0)
+    (c.requires.0, c.loop-j-test.true, c.requires.1, c.requires.2, c.requires.3, omega (arith, l.invariant.0, c.requires.4), l.invariant.1, l.invariant.4.0)
 
 pub loop-j-preserved : goal.loop-j-preserved
 loop-j-preserved c =
-    let t = c in
-    let l = t.loop-j in
-    let s = t in
-    let inside = t.loop-j-test.true in
+    let l = c.loop-j in
+    let inside = c.loop-j-test.true in
     let e = c.look_at-kept in
-    let near = is_neighbor_cell s.args.around s.args.w.now s.args.n in
-    let kept = take l.kept (drop s.args.n l.f) in
-    let next : take e.result (drop s.args.n e.new.f) ≡ with_square near s.args.points.now s.args.i l.j kept =
+    let near = is_neighbor_cell c.args.around c.args.w.now c.args.n in
+    let kept = take l.kept (drop c.args.n l.f) in
+    let next : take e.result (drop c.args.n e.new.f) ≡ with_square near c.args.points.now c.args.i l.j kept =
     e.ensures.0
-    ∙ ap (λ (limit : Float). with_square (within_limit limit near s.args.points.now s.args.i) s.args.points.now s.args.i l.j kept)
-    t.tenth.ensures
-    ∙ with_tenth near s.args.points.now s.args.i l.j s.args.n l.f l.kept s.requires.0 inside s.requires.5
-    (omega (arith, l.invariant.0, s.requires.4)) l.invariant.2 l.invariant.5 in (
+    ∙ ap (λ (limit : Float). with_square (within_limit limit near c.args.points.now c.args.i) c.args.points.now c.args.i l.j kept)
+    c.tenth.ensures
+    ∙ with_tenth near c.args.points.now c.args.i l.j c.args.n l.f l.kept c.requires.0 inside c.requires.5
+    (omega (arith, l.invariant.0, c.requires.4)) l.invariant.1 l.invariant.4 in (
       e.auto.f ∙ l.invariant.0,
-      search rules,
       e.ensures.1,
-      l.invariant.3 ∙ all_step near s.args.points.now s.args.i s.args.n l.j kept
-          (take e.result (drop s.args.n e.new.f)) inside next,
-      e.ensures.2 ∙ l.invariant.4,
-      with_ordered near s.args.points.now s.args.i l.j s.args.n kept (take e.result (drop s.args.n e.new.f))
-          s.requires.0 inside s.requires.5 next l.invariant.5,
+      l.invariant.2 ∙ all_step near c.args.points.now c.args.i c.args.n l.j kept
+          (take e.result (drop c.args.n e.new.f)) inside next,
+      e.ensures.2 ∙ l.invariant.3,
+      with_ordered near c.args.points.now c.args.i l.j c.args.n kept (take e.result (drop c.args.n e.new.f))
+          c.requires.0 inside c.requires.5 next l.invariant.4,
     )
 
 pub returns : goal.returns
 returns c =
-    let l = c.loop-j in
-    let s = c in (
-      sym (l.invariant.3 ∙ all_end (is_neighbor_cell s.args.around s.args.w.now s.args.n) s.args.points.now s.args.i s.args.n l.j
-          (drop s.args.n l.f) l.kept c.loop-j-test.false l.invariant.2),
-      l.invariant.2,
-      l.invariant.4,
+    let l = c.loop-j in (
+      sym (l.invariant.2 ∙ all_end (is_neighbor_cell c.args.around c.args.w.now c.args.n) c.args.points.now c.args.i c.args.n l.j
+          (drop c.args.n l.f) l.kept c.loop-j-test.false l.invariant.1),
+      l.invariant.1,
+      l.invariant.3,
     )

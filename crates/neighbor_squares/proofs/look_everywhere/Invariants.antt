@@ -10,10 +10,7 @@ use Rattle.neighbor_squares.proofs.look_everywhere.Given as goal
 
 abbrev pub invariant-loop-j : goal.invariant-loop-j
 invariant-loop-j l =
-    (length l.f ≡ length l.initial.f) × (l.j ≤ l.n) × (l.kept ≤ 10)
+    (length l.f ≡ length l.initial.f) × (l.kept ≤ 10)
     × (least_squares (is_neighbor_cell l.around l.w l.n) l.points l.i (up_from 0 l.n)
     ≡ take 10 (insert_all (take l.kept (drop l.n l.f)) (squares_to (is_neighbor_cell l.around l.w l.n) l.points l.i (up_from l.j (l.n - l.j))))) × (take l.n l.f ≡ take l.n l.initial.f)
     × Ordered (take l.kept (drop l.n l.f))
-
-abbrev pub decreases-loop-j : goal.decreases-loop-j
-decreases-loop-j l = l.n - l.j

@@ -5,9 +5,8 @@ use Rattle.neighbor_squares.proofs.look_further.Goals as goal
 
 pub look_everywhere-requires : goal.look_everywhere-requires
 look_everywhere-requires c =
-    let s = c in
-    let r = s.requires.0.hashed.linked.ready in
-    (s.requires.0.inside, r.few, r.points_long, omega (arith, r.work_long), s.requires.0.room, r.numbers)
+    let r = c.requires.0.hashed.linked.ready in
+    (c.requires.0.inside, r.few, r.points_long, omega (arith, r.work_long), c.requires.0.room, r.numbers)
 
 pub returns-then-is_wide : goal.returns-then-is_wide
 returns-then-is_wide c =
@@ -16,8 +15,7 @@ returns-then-is_wide c =
 
 pub look_in_range-requires : goal.look_in_range-requires
 look_in_range-requires c =
-    let s = c in
-    (s.requires.0, s.requires.1, c.is_wide.ensures c.if-is_wide.false)
+    (c.requires.0, c.requires.1, c.is_wide.ensures c.if-is_wide.false)
 
 pub returns : goal.returns
 returns c = c.look_in_range.ensures

@@ -7,12 +7,11 @@ use Rattle.neighbor_squares.proofs.Deciding.{found_in_range}
 use Rattle.neighbor_squares.proofs.look_in_range.Goals as goal
 
 pub point_at-place-requires : goal.point_at-place-requires
-point_at-place-requires c = let s = c in omega (arith, s.requires.0.inside, s.requires.0.hashed.linked.ready.points_long)
+point_at-place-requires c = omega (arith, c.requires.0.inside, c.requires.0.hashed.linked.ready.points_long)
 
 pub limit_of-limit-requires : goal.limit_of-limit-requires
 limit_of-limit-requires c =
-    let s = c in
-    subst (λ (p : Point3f). Finite p) (sym c.point_at-place.ensures) (s.requires.0.hashed.linked.ready.numbers s.args.i s.requires.0.inside)
+    subst (λ (p : Point3f). Finite p) (sym c.point_at-place.ensures) (c.requires.0.hashed.linked.ready.numbers c.args.i c.requires.0.inside)
 
 pub gather-found-requires : goal.gather-found-requires
 gather-found-requires c = c.requires.0.hashed.linked
@@ -20,16 +19,14 @@ gather-found-requires c = c.requires.0.hashed.linked
 pub least_squares-requires : goal.least_squares-requires
 least_squares-requires c =
     let gather = c.gather-found in
-    let start = c in
-    let s = start in
     let g = gather in
-    let r = s.requires.0.hashed.linked.ready in (
-      s.requires.0.inside,
+    let r = c.requires.0.hashed.linked.ready in (
+      c.requires.0.inside,
       r.few,
       g.ensures.most,
       r.points_long,
       omega (arith, r.work_long, g.auto.w),
-      s.requires.0.room,
+      c.requires.0.room,
       g.ensures.gathers.below,
       r.numbers,
     )
@@ -40,12 +37,10 @@ returns c =
     let limit_of = c.limit_of-limit in
     let bounds_of = c.bounds_of-bounds in
     let point_at_lem = c.point_at-place in
-    let start = c in
-    let s = start in
     let p = point_at_lem in
     let g = gather in
     let q = c.least_squares in
-    found_in_range s.args.around s.args.grid s.args.points.now s.args.n s.args.i bounds_of.result limit_of.result s.args.w.now
-    g.new.w s.args.f.now q.new.f s.args.hash p.result g.result q.result
-    s.requires.0 s.requires.1 s.requires.2 g.auto.w p.ensures bounds_of.ensures limit_of.ensures g.ensures q.ensures.0 q.ensures.1
+    found_in_range c.args.around c.args.grid c.args.points.now c.args.n c.args.i bounds_of.result limit_of.result c.args.w.now
+    g.new.w c.args.f.now q.new.f c.args.hash p.result g.result q.result
+    c.requires.0 c.requires.1 c.requires.2 g.auto.w p.ensures bounds_of.ensures limit_of.ensures g.ensures q.ensures.0 q.ensures.1
     q.ensures.2

@@ -7,29 +7,26 @@ use Rattle.neighbor_squares.proofs.Deciding.{looked}
 use Rattle.neighbor_squares.proofs.look_within.Goals as goal
 
 pub point_at-place-requires : goal.point_at-place-requires
-point_at-place-requires c = let s = c in omega (arith, s.requires.inside, s.requires.hashed.linked.ready.points_long)
+point_at-place-requires c = omega (arith, c.requires.inside, c.requires.hashed.linked.ready.points_long)
 
 pub gather_within-found-requires : goal.gather_within-found-requires
-gather_within-found-requires c =
-    let s = c in (
-      s.requires.hashed.linked,
-      subst (λ (p : Point3f). Finite p) (sym c.point_at-place.ensures)
-          (s.requires.hashed.linked.ready.numbers s.args.i s.requires.inside),
-    )
+gather_within-found-requires c = (
+  c.requires.hashed.linked,
+  subst (λ (p : Point3f). Finite p) (sym c.point_at-place.ensures)
+      (c.requires.hashed.linked.ready.numbers c.args.i c.requires.inside),
+)
 
 pub least_squares-requires : goal.least_squares-requires
 least_squares-requires c =
     let gather-within = c.gather_within-found in
-    let start = c in
-    let s = start in
     let g = gather-within in
-    let r = s.requires.hashed.linked.ready in (
-      s.requires.inside,
+    let r = c.requires.hashed.linked.ready in (
+      c.requires.inside,
       r.few,
       g.ensures.most,
       r.points_long,
       omega (arith, r.work_long, g.auto.w),
-      s.requires.room,
+      c.requires.room,
       g.ensures.surrounds.below,
       r.numbers,
     )
@@ -38,11 +35,9 @@ pub returns : goal.returns
 returns c =
     let gather-within = c.gather_within-found in
     let point_at_lem = c.point_at-place in
-    let start = c in
-    let s = start in
     let p = point_at_lem in
     let g = gather-within in
     let q = c.least_squares in
-    looked s.args.around s.args.points.now s.args.n s.args.i s.args.limit s.args.w.now g.new.w s.args.f.now
-    q.new.f s.args.hash p.result g.result q.result
-    s.requires q.auto.f p.ensures g.ensures q.ensures.0 q.ensures.1 q.ensures.2
+    looked c.args.around c.args.points.now c.args.n c.args.i c.args.limit c.args.w.now g.new.w c.args.f.now
+    q.new.f c.args.hash p.result g.result q.result
+    c.requires q.auto.f p.ensures g.ensures q.ensures.0 q.ensures.1 q.ensures.2
