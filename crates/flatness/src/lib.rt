@@ -17,11 +17,9 @@ fn extent_on(points: &[f32], axis: usize, n: usize) -> f32
 {
     let mut lo = points[axis];
     let mut hi = points[axis];
-    let mut i: usize = 1;
-    while i < n {
+    for i in 1..n {
         lo = numbers::min(lo, points[3 * i + axis]);
         hi = numbers::max(hi, points[3 * i + axis]);
-        i += 1;
     }
     numbers::max(numbers::max(0.0, hi - lo), -(lo - hi))
 }

@@ -185,8 +185,7 @@ pub fn advanced_ball_pivoting(
     let mut c = laying_steps::begin(w, s.n);
     let mut marks: [usize; 17] = [0; 17];
     let mut upto: f32 = 0.0 / 0.0;
-    let mut i: usize = 0;
-    while i < count {
+    for i in 0..count {
         let radius = radii[i];
         let known = known_radii::is_known(s, flat, radius, upto);
         let pass = Pass {
@@ -204,7 +203,6 @@ pub fn advanced_ball_pivoting(
         c = laid.counts;
         marks[i] = c.faces;
         upto = laid.upto;
-        i += 1;
     }
     Course {
         counts: c,

@@ -26,10 +26,8 @@ pub fn box_of(points: &[f32], list: &[u32], from: usize, to: usize) -> Bounds
 {
     let n = points.len() / 3;
     let mut b = nothing();
-    let mut m = from;
-    while m < to {
+    for m in from..to {
         let k = list[m] as usize;
-        m += 1;
         if k < n {
             b = intervals::with_point(b, points::point_at(points, k));
         }
@@ -55,12 +53,10 @@ fn move_below(points: &[f32], axis: usize, at: f32, list: &mut [u32]) -> usize
     ensures { (result ≤ length list.old) × SameWords list.old list.new }
 {
     let mut kept: usize = 0;
-    let mut m: usize = 0;
-    while m < list.len() {
+    for m in 0..list.len() {
         let k = list[m];
         list[m] = list[kept];
         list[kept] = k;
-        m += 1;
         if axis_sort::coordinate(points, axis, k) < at {
             kept += 1;
         }

@@ -64,10 +64,8 @@ pub fn narrow(s: Scene, points: &[f32], w: &mut [u32], f: Filter, found: usize) 
 {
     let at = regions::NEIGHBORS * s.n;
     let mut kept: usize = 0;
-    let mut m: usize = 0;
-    while m < found {
+    for m in 0..found {
         let k = w[at + m] as usize;
-        m += 1;
         if passes(s, points, w, f, k) {
             grid::order::insert_point(w, s.n, s.indexed, at, kept, k);
             kept += 1;

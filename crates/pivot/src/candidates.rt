@@ -141,10 +141,8 @@ fn best_of(
     let mut top = 0.0;
     let mut thin = scores::thin_at(0.0);
     let mut best = Pivot::Nowhere;
-    let mut m: usize = 0;
-    while m < count {
+    for m in 0..count {
         let k = nearby::listed_point(s, w, count, m);
-        m += 1;
         if let Score::Of(x) = score_ahead(s, points, w, over, k, top, thin, best) {
             top = x;
             thin = scores::thin_at(x);

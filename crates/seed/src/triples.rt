@@ -85,13 +85,11 @@ fn find_third(p: Site, points: &[f32], w: &[u32], count: usize, i: usize, j: usi
 {
     let s = p.scene;
     let limits = p.limits;
-    let mut m: usize = 0;
-    while m < count {
+    for m in 0..count {
         let k = nearby::listed_point(s, w, count, m);
         if is_third(s, points, w, p.radius, limits, i, j, k) {
             return Seed::Triangle(i, j, k);
         }
-        m += 1;
     }
     Seed::Nothing
 }
@@ -130,14 +128,12 @@ fn find_second(
         (used_in_scene p.scene w.now) i (neighbors_listed p.scene w.now count)
         (drop from (neighbors_listed p.scene w.now to))) }
 {
-    let mut m = from;
-    while m < to {
+    for m in from..to {
         let j = nearby::listed_point(p.scene, w, count, m);
         let found = try_second(p, points, w, count, i, j);
         if let Seed::Triangle(a, b, c) = found {
             return Seed::Triangle(a, b, c);
         }
-        m += 1;
     }
     Seed::Nothing
 }
@@ -310,13 +306,11 @@ pub fn find_from(p: Site, points: &[f32], w: &mut [u32], largest: f32, asks: boo
     let mut asking = asks;
     let mut budget: usize = 0;
     let mut lo: usize = 0;
-    let mut i: usize = 0;
-    while i < n {
+    for i in 0..n {
         if left == 0 {
             return nothing_more(budget, false);
         }
         if !nearby::is_unused(s, w, i) {
-            i += 1;
             continue;
         }
         let asked = known_radii::ask_early(p, points, w, largest, asking, i, budget);
@@ -336,7 +330,6 @@ pub fn find_from(p: Site, points: &[f32], w: &mut [u32], largest: f32, asks: boo
         budget = first.budget;
         lo = known_from(lo, i, first.seedless);
         left -= 1;
-        i += 1;
     }
     nothing_more(budget, false)
 }

@@ -66,10 +66,8 @@ fn keep_left(s: Scene, w: &mut [u32], found: usize, lo: usize, i: usize) -> usiz
 {
     let at = regions::NEIGHBORS * s.n;
     let mut kept: usize = 0;
-    let mut m: usize = 0;
-    while m < found {
+    for m in 0..found {
         let k = w[at + m];
-        m += 1;
         if is_left(s, w, lo, i, k as usize) {
             w[at + kept] = k;
             kept += 1;
@@ -102,11 +100,9 @@ fn count_near(s: Scene, points: &[f32], w: &[u32], count: usize, far: f32) -> us
 {
     let half = count / 2;
     let mut near: usize = 0;
-    let mut m: usize = 0;
-    while m < half {
+    for m in 0..half {
         let p = points::point_at(points, nearby::listed_point(s, w, count, m));
         let q = points::point_at(points, nearby::listed_point(s, w, count, half + m));
-        m += 1;
         if vector::distance_squared(p, q) <= far {
             near += 1;
         }
@@ -376,15 +372,13 @@ pub fn is_exhausted(p: Site, points: &[f32], w: &mut [u32], search: Search, budg
 {
     let n = p.scene.n;
     let mut left = budget;
-    let mut i: usize = 0;
-    while i < n {
+    for i in 0..n {
         let remaining = search_unused(p, points, w, i, left);
         let rest = raise_budget(p, points, w, search, i, remaining);
         if !is_enough(left, rest, points_left(search.from, i, n)) {
             return false;
         }
         left = rest;
-        i += 1;
     }
     true
 }

@@ -63,8 +63,7 @@ fn search_beside(
         → SeedlessAfter s points.now radius w.now count i j from }
 {
     let mut left = budget;
-    let mut m = from;
-    while m < count {
+    for m in from..count {
         let k = nearby::listed_point(s, w, count, m);
         let price = three_points::price_of(s, points, radius, limits, i, j, k);
         if price == 0 {
@@ -74,7 +73,6 @@ fn search_beside(
             return 0;
         }
         left -= price;
-        m += 1;
     }
     left
 }
@@ -106,11 +104,9 @@ fn search_each(
     let from = second.from;
     let to = second.to;
     let mut left = budget;
-    let mut m = first.from;
-    while m < end {
+    for m in first.from..end {
         let j = nearby::listed_point(s, w, end, m);
-        m += 1;
-        left = search_beside(s, points, w, to, radius, limits, i, j, later(from, m), left);
+        left = search_beside(s, points, w, to, radius, limits, i, j, later(from, m + 1), left);
         if left == 0 {
             return 0;
         }

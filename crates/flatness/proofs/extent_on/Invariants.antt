@@ -1,11 +1,7 @@
 -- `extent_on` meets its contract. The loop's invariant: the points so far lie between the least and the largest
 -- coordinate. Assumes nothing.
-use Prim.Native.Nat.{◌-◌}
 use Rattle.flatness.proofs.Extents.{Reaching}
 use Rattle.flatness.proofs.extent_on.Given as goal
 
 abbrev pub invariant-loop-i : goal.invariant-loop-i
 invariant-loop-i l = Reaching l.points l.axis l.n l.lo l.hi l.i
-
-abbrev pub decreases-loop-i : goal.decreases-loop-i
-decreases-loop-i l = l.n - l.i

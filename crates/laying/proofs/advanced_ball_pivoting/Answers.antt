@@ -59,15 +59,6 @@ bounds-marks-i c =
     let start = c in
     omega (arith, loop-test.true, start.requires.1)
 
-pub overflow_add-i : goal.overflow_add-i
-overflow_add-i c =
-    let loop-test = c.loop-i-test in
-    let start = c in
-    omega (arith, loop-test.true, start.requires.1)
-
-pub loop-i-smaller : goal.loop-i-smaller
-loop-i-smaller c = omega (arith, c.loop-i-test.true)
-
 pub loop-i-preserved : goal.loop-i-preserved
 loop-i-preserved c =
     let lay-one = c.lay_one-laid in

@@ -1,9 +1,10 @@
 -- `move_below` meets its contract: in each turn two words change places. Assumes nothing.
-use Prim.Native.Nat.{◌+◌}
+use Prim.Native.Nat.{◌+◌, ◌<◌}
 use native.Mathlib.Omega.{arith}
-use lib.ListN.{get_or, length-set}
+use lib.ListN.{length, get_or, length-set}
 use Rattle.listed_boxes.proofs.Words.{move_start, move_step}
 use Rattle.listed_boxes.proofs.move_below.Goals as goal
+use Rattle.listed_boxes.proofs.move_below.Goals.{then-coordinate-at, else-coordinate-at}
 
 pub loop-m-init : goal.loop-m-init
 loop-m-init c = move_start
@@ -13,14 +14,14 @@ bounds-list-kept-in-loop-m c =
     let l = c.loop-m in
     omega (arith, length-set l.list l.m (get_or l.list l.kept 0), l.invariant.most, c.loop-m-test.true)
 
-pub loop-m-preserved-then-coordinate-at : goal.loop-m-preserved-then-coordinate-at
-loop-m-preserved-then-coordinate-at c =
-    let l = c.loop-m in move_step (l.kept + 1) (omega arith) l.invariant
-    c.loop-m-test.true
-
 pub loop-m-preserved : goal.loop-m-preserved
 loop-m-preserved c =
-    let l = c.loop-m in move_step l.kept (omega arith) l.invariant c.loop-m-test.true
+    let l = c.loop-m in
+    let t : l.m < length l.list = omega (arith, l.invariant.words.size, c.loop-m-test.true) in
+    elim c.if-coordinate-at.branch [
+      | then-coordinate-at w ↦ rw w.kept-is (move_step (l.kept + 1) (omega arith) l.invariant t)
+      | else-coordinate-at w ↦ rw w.kept-is (move_step l.kept (omega arith) l.invariant t)
+    ]
 
 pub shape_of-list : goal.shape_of-list
 shape_of-list c = c.loop-m.invariant.words.size

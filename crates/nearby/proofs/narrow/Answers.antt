@@ -3,6 +3,7 @@ use native.Mathlib.Omega.{arith}
 use Rattle.nearby.proofs.Keeping.{held_kept, cells_kept}
 use Rattle.nearby.proofs.Narrowing.{narrow_start, narrow_below, narrow_skip, narrow_take, narrow_end}
 use Rattle.nearby.proofs.narrow.Goals as goal
+use Rattle.nearby.proofs.narrow.Goals.{then-passes, else-passes}
 
 pub loop-m-init : goal.loop-m-init
 loop-m-init c = narrow_start
@@ -33,19 +34,18 @@ insert_point-requires c =
       l.invariant.below,
     )
 
-pub loop-m-preserved-then-passes : goal.loop-m-preserved-then-passes
-loop-m-preserved-then-passes c =
-    let i = c.insert_point in
-    let a = c in
-    narrow_take a.requires.0 a.requires.2 c.loop-m.invariant i.new.w
-    c.loop-m-test.true a.requires.1
-    c.passes.ensures c.if-passes.true i.auto.w i.ensures
-
 pub loop-m-preserved : goal.loop-m-preserved
 loop-m-preserved c =
-    let a = c in
-    narrow_skip a.requires.0 a.requires.2 c.loop-m.invariant c.loop-m-test.true
-    c.passes.ensures c.if-passes.false
+    let k = c.loop-m.invariant in
+    let held = c.requires.0 in
+    let t = c.loop-m-test.true in
+    let e = c.passes.ensures in
+    elim c.if-passes.branch [
+      | then-passes w ↦
+          let i = w.insert_point in
+          rw (w.w-is, w.kept-is) (narrow_take held c.requires.2 k i.new.w t c.requires.1 e w.if-passes.true i.auto.w i.ensures)
+      | else-passes w ↦ rw (w.w-is, w.kept-is) (narrow_skip held c.requires.2 k t e w.if-passes.false)
+    ]
 
 pub shape_of-w : goal.shape_of-w
 shape_of-w c = c.loop-m.invariant.same

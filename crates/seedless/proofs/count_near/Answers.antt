@@ -3,7 +3,7 @@ use native.Mathlib.Omega.{arith}
 use Rattle.seedless.proofs.count_near.Goals as goal
 
 pub loop-m-init : goal.loop-m-init
-loop-m-init c = (omega arith, omega arith)
+loop-m-init c = omega arith
 
 pub listed_point-requires : goal.listed_point-requires
 listed_point-requires c =
@@ -25,12 +25,6 @@ pub point_at-q-requires : goal.point_at-q-requires
 point_at-q-requires c =
     let a = c in
     omega (arith, c.listed_point-in-loop-m.ensures.1, a.requires.0.points_long)
-
-pub loop-m-preserved-then-distance_squared-far : goal.loop-m-preserved-then-distance_squared-far
-loop-m-preserved-then-distance_squared-far c = (omega arith, omega arith)
-
-pub loop-m-preserved : goal.loop-m-preserved
-loop-m-preserved c = (omega arith, omega arith)
 
 pub returns : goal.returns
 returns c = omega arith

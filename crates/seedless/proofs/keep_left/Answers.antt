@@ -3,6 +3,7 @@
 use native.Mathlib.Omega.{arith}
 use Rattle.seedless.proofs.Threes.{left_start, left_below, left_skip, left_take, left_end}
 use Rattle.seedless.proofs.keep_left.Goals as goal
+use Rattle.seedless.proofs.keep_left.Goals.{then-is_left, else-is_left}
 
 pub loop-m-init : goal.loop-m-init
 loop-m-init c = left_start
@@ -19,21 +20,14 @@ is_left-requires c =
     let a = c in
     (a.requires.0, omega (arith, a.requires.1, l.invariant.same), left_below a.requires.1 a.requires.2 l.invariant c.loop-m-test.true)
 
-pub loop-m-preserved-then-is_left : goal.loop-m-preserved-then-is_left
-loop-m-preserved-then-is_left c =
-    let loop-test = c.loop-m-test in
-    let loop = c.loop-m in
-    let start = c in
-    let a = start in
-    left_take a.requires.1 a.requires.2 loop.invariant loop-test.true
-
 pub loop-m-preserved : goal.loop-m-preserved
 loop-m-preserved c =
-    let loop-test = c.loop-m-test in
-    let loop = c.loop-m in
-    let start = c in
-    let a = start in
-    left_skip a.requires.1 a.requires.2 loop.invariant loop-test.true c.is_left.ensures c.if-is_left.false
+    let k = c.loop-m.invariant in
+    let t = c.loop-m-test.true in
+    elim c.if-is_left.branch [
+      | then-is_left w ↦ rw (w.w-is, w.kept-is) (left_take c.requires.1 c.requires.2 k t)
+      | else-is_left w ↦ rw (w.w-is, w.kept-is) (left_skip c.requires.1 c.requires.2 k t c.is_left.ensures w.if-is_left.false)
+    ]
 
 pub shape_of-w : goal.shape_of-w
 shape_of-w c = c.loop-m.invariant.same

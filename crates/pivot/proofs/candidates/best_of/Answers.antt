@@ -6,6 +6,7 @@ use Rattle.scores.specs.declared.Side.{Side}
 use Rattle.scores.specs.Inner.Over.{edge_side}
 use Rattle.pivot.proofs.Steps.{best_start, best_skip, best_taken, best_all}
 use Rattle.pivot.proofs.candidates.best_of.Goals as goal
+use Rattle.pivot.proofs.candidates.best_of.Goals.{in-Of, in_default}
 
 between : {side : Side} {p q x y : Point3f} → side ≡ edge_side p q → p ≡ x → q ≡ y → side ≡ edge_side x y
 between e f g = rw (← f, ← g) e
@@ -30,23 +31,16 @@ score_ahead-requires c =
     let e = between side-of.ensures point_at_lem.ensures point-at2.ensures in
     (a.requires.0, a.requires.1, c.listed_point-k.ensures.1, e, l.invariant.1, l.invariant.0.met)
 
-pub loop-m-preserved-in-Of : goal.loop-m-preserved-in-Of
-loop-m-preserved-in-Of c =
-    let a = c in
-    let p = a in (
-      best_taken p.loop-m.invariant.0 p.listed_point-k.ensures.1 p.loop-m-test.true p.listed_point-k.ensures.0
-          a.score_ahead.ensures c.in-Of.is,
-      c.thin_at-thin-in-Of.ensures,
-    )
-
 pub loop-m-preserved : goal.loop-m-preserved
 loop-m-preserved c =
-    let p = c in
-    let l = p.loop-m in (
-      best_skip l.invariant.0 p.loop-m-test.true p.listed_point-k.ensures.0 c.score_ahead.ensures
-          c.in_default.is,
-      l.invariant.1,
-    )
+    let k = c.loop-m.invariant in
+    let t = c.loop-m-test.true in
+    let p = c.listed_point-k.ensures in
+    let e = c.score_ahead.ensures in
+    elim c.match-score_ahead.branch [
+      | in-Of w ↦ rw (w.top-is, w.thin-is, w.best-is) (best_taken k.0 p.1 t p.0 e w.in-Of.is, w.thin_at-thin-in-Of.ensures)
+      | in_default w ↦ rw (w.top-is, w.thin-is, w.best-is) (best_skip k.0 t p.0 e w.in_default.is, k.1)
+    ]
 
 pub returns : goal.returns
 returns c = best_all c.loop-m.invariant.0 c.loop-m-test.false

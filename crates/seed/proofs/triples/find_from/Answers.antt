@@ -133,12 +133,6 @@ known_from-lo-requires c =
     let l = loop in
     (l.invariant.1, omega (arith, l.invariant.0.held.few, loop-test.true))
 
-pub overflow_add-i-in-loop-i : goal.overflow_add-i-in-loop-i
-overflow_add-i-in-loop-i c =
-    let loop-test = c.loop-i-test in
-    let loop = c.loop-i in
-    omega (arith, loop-test.true, loop.invariant.0.held.few)
-
 pub loop-i-preserved : goal.loop-i-preserved
 loop-i-preserved c =
     let try-first = c.try_first-first in
