@@ -3,6 +3,6 @@ use Rattle.std.specs.Prelude.{Option, Some, None}
 use Rattle.std.proofs.Math.Option.{Option as Sought, none, some}
 
 -- the same value, if there is one
-abbrev pub found : {A : Type 0} → Sought A → Option A
-found none = None
-found (some x) = Some x
+abbrev pub option_found : {A : Type 0} → Sought A → Option A
+option_found none = None
+option_found (some x) = Some x
