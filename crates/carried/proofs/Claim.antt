@@ -10,7 +10,7 @@ use Rattle.numerals.proofs.Rows.{From, from_end, from_next}
 use Rattle.cloud_lines.specs.Format.{point_fields}
 use Rattle.cloud_lines.specs.Reading.{read_means, Stepped}
 use Rattle.cloud_lines.specs.declared.line.Point.{Point}
-use Rattle.cloud_lines.specs.declared.reader.LineRead.{LineRead}
+use Rattle.std.specs.Prelude.{Some}
 use Rattle.cloud_lines.specs.declared.reader.Reader.{Reader}
 use Rattle.cloud_lines.specs.declared.reader.Moved.{Moved}
 use Rattle.cloud_lines.proofs.Shorter.{point_shorter}
@@ -19,7 +19,7 @@ use Rattle.cloud.proofs.Lines.{points_run, body_start}
 use Rattle.carried.specs.Carried.{NextLine, Carried, consecutive, Carrying}
 
 -- the line that was read, in the bytes s
-line_read : (s : Bor (List ℕ)) (r : Reader) (m : Moved) (p : Point) → r.src ≡ s → NextLine r m → m.read ≡ LineRead.Point p
+line_read : (s : Bor (List ℕ)) (r : Reader) (m : Moved) (p : Point) → r.src ≡ s → NextLine r m → m.read ≡ Some p
     → point_fields (drop r.at s.now) ≡ parsed p (drop m.reader.at s.now)
 unfolding read_means
 line_read s r m p e n q =

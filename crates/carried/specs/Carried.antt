@@ -1,11 +1,10 @@
 -- A reader that is carried from line to line, each `next_line` taking the one that the last handed back, and the claim
 -- that it reads consecutive lines: up to the end of the bytes it is the body of the file. Definitions only.
-use Rattle.std.specs.Prelude.{ℕ, ◌≤◌, ◌≡◌, List, [], ◌∷◌, length, drop}
+use Rattle.std.specs.Prelude.{ℕ, ◌≤◌, ◌≡◌, List, [], ◌∷◌, length, drop, Some}
 use Rattle.numerals.specs.Format.{parsed}
 use Rattle.cloud_lines.specs.Format.{point_fields}
 use Rattle.cloud_lines.specs.Reading.{Stepped}
 use Rattle.cloud_lines.specs.declared.line.Point.{Point}
-use Rattle.cloud_lines.specs.declared.reader.LineRead.{LineRead}
 use Rattle.cloud_lines.specs.declared.reader.Reader.{Reader}
 use Rattle.cloud_lines.specs.declared.reader.Moved.{Moved}
 use Rattle.cloud.specs.Format.{body, good}
@@ -17,7 +16,7 @@ NextLine r m = (m.reader.src ≡ r.src) × Stepped r.src.now r.at m.read m.reade
 -- calls one after the other, each of the reader that came back, read the points ps and leave the reader r'
 unfoldable pub Carried : Reader → Reader → List Point → Type 0
 Carried r r' [] = r ≡ r'
-Carried r r' (p ∷ ps) = (m : Moved) × (NextLine r m × ((m.read ≡ LineRead.Point p) × Carried m.reader r' ps))
+Carried r r' (p ∷ ps) = (m : Moved) × (NextLine r m × ((m.read ≡ Some p) × Carried m.reader r' ps))
 
 -- lines one behind the other, as many as there are points
 unfoldable pub consecutive : List Point → List ℕ → List ℕ → Type 0

@@ -10,7 +10,8 @@ use Rattle.cloud_lines.specs.Format.{point_fields}
 use Rattle.cloud.specs.Format.{PointLines, good, wrong, point_ahead, lines_of_points, body}
 use Rattle.cloud.specs.Answers.{counted}
 use Rattle.cloud_lines.specs.declared.line.Point.{Point}
-use Rattle.cloud.specs.declared.point_lines.Counted.{Counted}
+use Rattle.std.specs.Prelude.{Result, Ok, Err}
+use Rattle.numerals.specs.declared.MalformedLine.{MalformedLine}
 use Rattle.numerals.proofs.Rows.{Run, From, from_start, from_end, from_wrong, from_next}
 use Rattle.cloud_lines.proofs.Shorter.{point_shorter}
 
@@ -49,20 +50,26 @@ ahead_good p (good qs) ps e = (qs, (refl, cc))
 ahead_good p (wrong line) ps e = let z : ◌≡◌ {A = ℕ} 0 1 = cc in absurd (omega arith)
 
 -- ---- counting
+abbrev lines : ℕ → Result ℕ MalformedLine
+lines n = Ok n
+
+abbrev failed : ℕ → Result ℕ MalformedLine
+failed line = Err (record { line = line })
+
 -- k lines, and then these
-abbrev onward : ℕ → PointLines → Counted
-onward k (good ps) = Counted.Lines (k + length ps)
-onward k (wrong line) = Counted.Malformed (k + line)
+abbrev onward : ℕ → PointLines → Result ℕ MalformedLine
+onward k (good ps) = lines (k + length ps)
+onward k (wrong line) = failed (k + line)
 
 onward_none : (l : PointLines) → onward 0 l ≡ counted l
 unfolding counted
-onward_none (good ps) = ap Counted.Lines (zero-add (length ps))
-onward_none (wrong line) = ap Counted.Malformed (zero-add line)
+onward_none (good ps) = ap lines (zero-add (length ps))
+onward_none (wrong line) = ap failed (zero-add line)
 
 onward_ahead : (k : ℕ) (p : Point) (l : PointLines) → onward k (point_ahead p l) ≡ onward (k + 1) l
 unfolding point_ahead
-onward_ahead k p (good ps) = let e : k + suc (length ps) ≡ k + 1 + length ps = omega arith in ap Counted.Lines e
-onward_ahead k p (wrong line) = let e : k + suc line ≡ k + 1 + line = omega arith in ap Counted.Malformed e
+onward_ahead k p (good ps) = let e : k + suc (length ps) ≡ k + 1 + length ps = omega arith in ap lines e
+onward_ahead k p (wrong line) = let e : k + suc line ≡ k + 1 + line = omega arith in ap failed e
 
 -- k lines were read up to a place, and these are left
 pub record Counting (s : List ℕ) (from k at : ℕ) : Type 0 where
@@ -75,10 +82,10 @@ pub counting_start : (s : List ℕ) (from : ℕ) → Counting s from 0 from
 counting_start s from = record { left = body (drop from s); source = body_start s from; same = sym (onward_none (body (drop from s))); few = omega arith }
 
 module _ (s : List ℕ) (from k at : ℕ) (c : Counting s from k at) where
-  pub counting_end : length s ≤ at → Counted.Lines k ≡ counted (body (drop from s))
-  counting_end h = sym (c.same ∙ ap (onward k) (from_end points_run s at c.left c.source h) ∙ ap Counted.Lines (add-zero k))
+  pub counting_end : length s ≤ at → Ok k ≡ counted (body (drop from s))
+  counting_end h = sym (c.same ∙ ap (onward k) (from_end points_run s at c.left c.source h) ∙ ap lines (add-zero k))
 
-  pub counting_wrong : at < length s → point_fields (drop at s) ≡ malformed → Counted.Malformed (k + 1) ≡ counted (body (drop from s))
+  pub counting_wrong : at < length s → point_fields (drop at s) ≡ malformed → Err (record { line = k + 1 }) ≡ counted (body (drop from s))
   counting_wrong h e = sym (c.same ∙ ap (onward k) (from_wrong points_run s at c.left c.source h e))
 
   pub counting_next : at < length s → (p : Point) (next : ℕ) → point_fields (drop at s) ≡ parsed p (drop next s) → Counting s from (k + 1) next
@@ -89,12 +96,12 @@ module _ (s : List ℕ) (from k at : ℕ) (c : Counting s from k at) where
       record { left = n.0; source = n.1.1; same = c.same ∙ ap (onward k) n.1.0 ∙ onward_ahead k p n.0; few = omega arith }
 
 -- ---- what a count says of the lines
-pub counted_good : (l : PointLines) (n : ℕ) → counted l ≡ Counted.Lines n → (ps : List Point) × ((l ≡ good ps) × (length ps ≡ n))
+pub counted_good : (l : PointLines) (n : ℕ) → counted l ≡ Ok n → (ps : List Point) × ((l ≡ good ps) × (length ps ≡ n))
 unfolding counted
 counted_good (good ps) n e = (ps, (refl, cc))
 counted_good (wrong line) n e = let z : ◌≡◌ {A = ℕ} 0 1 = cc in absurd (omega arith)
 
-pub counted_wrong : (l : PointLines) (n : ℕ) → counted l ≡ Counted.Malformed n → l ≡ wrong n
+pub counted_wrong : (l : PointLines) (e : MalformedLine) → counted l ≡ Err e → l ≡ wrong e.line
 unfolding counted
 counted_wrong (good ps) n e = let z : ◌≡◌ {A = ℕ} 0 1 = cc in absurd (omega arith)
 counted_wrong (wrong line) n e = cc

@@ -19,7 +19,7 @@ use Rattle.cloud.specs.Answers.{numbers_of, coordinates_of, over_front}
 use Rattle.cloud.specs.Inner.Ready.{Fitting, laid_out}
 use Rattle.cloud_lines.specs.declared.line.Triple.{Triple}
 use Rattle.cloud_lines.specs.declared.line.Point.{Point}
-use Rattle.cloud_lines.specs.declared.reader.LineRead.{LineRead}
+use Rattle.std.specs.Prelude.{Option, Some, None}
 use Rattle.cloud_lines.specs.Reading.{Stepped}
 use Rattle.cloud_lines.specs.Inner.Storing.{position_of, normal_of, placed, placed_of, StoredLines}
 use Rattle.cloud_lines.proofs.Means.{step_got, step_not}
@@ -170,14 +170,14 @@ module _ (s : List ℕ) (from count : ℕ) (points₀ normals₀ : List Float) w
               }
 
 -- ---- a reader that is carried from line to line stores the points of its lines
-placed_length : (part : Point → Triple) (k : ℕ) (read : LineRead) (d : List Float) → length (placed_of part k read d) ≡ length d
+placed_length : (part : Point → Triple) (k : ℕ) (read : Option Point) (d : List Float) → length (placed_of part k read d) ≡ length d
 unfolding placed_of placed
-placed_length part k (LineRead.Point p) d = go (leb (length d / 3) k)
+placed_length part k (Some p) d = go (leb (length d / 3) k)
   where
     go : (t : Bool) → length (cond t d (set (set (set d (3 * k) (part p).x) (3 * k + 1) (part p).y) (3 * k + 2) (part p).z)) ≡ length d
     go true = refl
     go false = set_three d (3 * k) (3 * k + 1) (3 * k + 2) (part p).x (part p).y (part p).z
-placed_length part k LineRead.Malformed d = refl
+placed_length part k None d = refl
 
 -- three numbers at place 3k, where there is room
 placed_three : (k : ℕ) (t : Triple) (d : List Float) → 3 * k + 3 ≤ length d
@@ -198,17 +198,17 @@ module _ (s : List ℕ) (from count : ℕ) (points₀ normals₀ : List Float) w
 
   module _ (f : Fitting s from count points₀ normals₀) where
     -- one line more
-    storing_line : (k b at : ℕ) (ps ns points normals : List Float) (read : LineRead) → k < count
+    storing_line : (k b at : ℕ) (ps ns points normals : List Float) (read : Option Point) → k < count
         → Storing s from count points₀ normals₀ f ps ns b (3 * k) → length ps ≡ length points₀ → length ns ≡ length normals₀
         → Stepped s b read at → points ≡ placed_of position_of k read ps → normals ≡ placed_of normal_of k read ns
         → Storing s from count points₀ normals₀ f points normals at (3 * k + 3)
     unfolding placed_of
-    storing_line k b at ps ns points normals LineRead.Malformed few st lp ln step p n =
+    storing_line k b at ps ns points normals None few st lp ln step p n =
         let inside = storing_inside s from count points₀ normals₀ f ps ns b (3 * k) st (omega (arith, few)) in
-        absurd (storing_never s from count points₀ normals₀ f ps ns b (3 * k) st inside (step_not s b LineRead.Malformed at step refl))
-    storing_line k b at ps ns points normals (LineRead.Point q) few st lp ln step p n =
+        absurd (storing_never s from count points₀ normals₀ f ps ns b (3 * k) st inside (step_not s b at step))
+    storing_line k b at ps ns points normals (Some q) few st lp ln step p n =
         let inside = storing_inside s from count points₀ normals₀ f ps ns b (3 * k) st (omega (arith, few)) in
-        let got = step_got s b (LineRead.Point q) q at step refl in
+        let got = step_got s b q at step in
         let room = storing_room s from count points₀ normals₀ f ps ns b (3 * k) st inside q at got in
         storing_next s from count points₀ normals₀ f ps ns b (3 * k) st inside q at got points normals
         (p ∙ placed_three k q.position ps (omega (arith, room.0, lp)))

@@ -1,18 +1,19 @@
 -- What the reader answers and leaves in the slices.
 -- Definitions only.
 use Rattle.std.specs.Prelude.{ℕ, ◌*◌, ◌≡◌, cond, ◌&&◌, List, [], ◌∷◌, ◌++◌, map, leb, length, drop, Float}
+use Rattle.std.specs.Prelude.{Result, Ok, Err}
 use Rattle.answers.specs.Answers.{bad_line, no_room}
 use Rattle.numbers.specs.Rounded.{f32}
+use Rattle.numerals.specs.declared.MalformedLine.{MalformedLine}
 use Rattle.cloud_lines.specs.declared.line.Triple.{Triple}
 use Rattle.cloud_lines.specs.declared.line.Point.{Point}
 use Rattle.cloud.specs.Format.{PointLines, good, wrong, File, cloud, malformed_line, file}
-use Rattle.cloud.specs.declared.point_lines.Counted.{Counted}
 use Rattle.cloud.specs.declared.CloudRead.{CloudRead}
 
 -- how many points' lines there are, or the first malformed one
-unfoldable pub counted : PointLines → Counted
-counted (good ps) = Counted.Lines (length ps)
-counted (wrong line) = Counted.Malformed line
+unfoldable pub counted : PointLines → Result ℕ MalformedLine
+counted (good ps) = Ok (length ps)
+counted (wrong line) = Err (record { line = line })
 
 -- ---- what the reader answers: a radius and points, or the refusal's number and detail
 pub data Outcome : Type 0 where

@@ -10,9 +10,8 @@ ghost use Rattle.std.specs.Prelude.{◌≡◌, length, drop};
 ghost use Rattle.cloud.specs.Format.{body, under};
 ghost use Rattle.cloud.specs.Answers.{Outcome, outcome, outcome_of, read_of, Answered};
 
-use crate::point_lines::{Counted, count_points, store_points};
+use crate::point_lines::{count_points, store_points};
 use cloud_lines::line::radius_at;
-use numerals::NumberRead;
 
 // The answer's number, 0 where the file was accepted; the detail, the first malformed line from 1 at refusal 10; and
 // what was read.
@@ -49,23 +48,19 @@ fn read_points(
         (under radius (body (drop from bytes.now)))) points.old normals.old result
         points.new normals.new }
 {
-    match count_points(bytes, from) {
-        Counted::Malformed { line } => refused(answers::LINE, line + 1),
-        Counted::Lines { count } => {
-            if points.len() / 3 < count {
-                return refused(answers::ROOM, 0);
-            }
-            if normals.len() / 3 < count {
-                return refused(answers::ROOM, 0);
-            }
-            store_points(bytes, from, count, points, normals);
-            CloudRead {
-                answer: 0,
-                detail: 0,
-                radius,
-                count,
-            }
-        }
+    let count = match count_points(bytes, from) {
+        Ok(count) => count,
+        Err(malformed) => return refused(answers::LINE, malformed.line + 1),
+    };
+    if points.len() / 3 < count || normals.len() / 3 < count {
+        return refused(answers::ROOM, 0);
+    }
+    store_points(bytes, from, count, points, normals);
+    CloudRead {
+        answer: 0,
+        detail: 0,
+        radius,
+        count,
     }
 }
 
@@ -75,7 +70,7 @@ pub fn read_cloud(bytes: &[u8], points: &mut [f32], normals: &mut [f32]) -> Clou
         points.old normals.old result points.new normals.new }
 {
     match radius_at(bytes, 0) {
-        NumberRead::Number { value, next } => read_points(bytes, next, value, points, normals),
-        NumberRead::Malformed => refused(answers::LINE, 1),
+        Some((radius, next)) => read_points(bytes, next, radius, points, normals),
+        None => refused(answers::LINE, 1),
     }
 }

@@ -7,28 +7,22 @@ ghost use Rattle.cloud.specs.Inner.Ready.{Fitting, laid_out};
 
 use cloud_lines::reader::store_lines;
 use cloud_lines::skipping::skip_point;
+use numerals::MalformedLine;
 
-// How many lines there are, or the number of the first malformed one, from 1.
-#[derive(Clone, Copy)]
-pub enum Counted {
-    Lines { count: usize },
-    Malformed { line: usize },
-}
-
-pub fn count_points(s: &[u8], from: usize) -> Counted
+// How many lines there are.
+pub fn count_points(s: &[u8], from: usize) -> Result<usize, MalformedLine>
     ensures { result ≡ counted (body (drop from s.now)) }
 {
-    let mut count: usize = 0;
+    let mut count = 0;
     let mut at = from;
     while at < s.len() {
-        let next = skip_point(s, at);
-        if next == 0 {
-            return Counted::Malformed { line: count + 1 };
-        }
+        let Some(next) = skip_point(s, at) else {
+            return Err(MalformedLine { line: count + 1 });
+        };
         count += 1;
         at = next;
     }
-    Counted::Lines { count }
+    Ok(count)
 }
 
 // Both slices hold the points' numbers in front; what lies past them stays. One reader is carried through the lines.

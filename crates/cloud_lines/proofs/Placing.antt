@@ -8,7 +8,7 @@ use lib.Ieee.{Float}
 use borrow.Author.Tests.{le-leb, lt-leb}
 use Rattle.cloud_lines.specs.declared.line.Triple.{Triple}
 use Rattle.cloud_lines.specs.declared.line.Point.{Point}
-use Rattle.cloud_lines.specs.declared.reader.LineRead.{LineRead}
+use Rattle.std.specs.Prelude.{Option, Some, None}
 use Rattle.cloud_lines.specs.Reading.{Stepped}
 use Rattle.cloud_lines.specs.Inner.Storing.{position_of, normal_of, placed, placed_of, StoredLines}
 
@@ -25,12 +25,12 @@ pub set_three : (d : List Float) (i j k : ℕ) (x y z : Float) → length (set (
 set_three d i j k x y z = length-set (set (set d i x) j y) k z ∙ length-set (set d i x) j y ∙ length-set d i x
 
 -- ---- what is read of a line
-pub placed_point : (part : Point → Triple) (k : ℕ) (p : Point) (read : LineRead) (d : List Float) → read ≡ LineRead.Point p
+pub placed_point : (part : Point → Triple) (k : ℕ) (p : Point) (read : Option Point) (d : List Float) → read ≡ Some p
     → placed k (part p) d ≡ placed_of part k read d
 unfolding placed_of
 placed_point part k p read d e = rw e
 
-pub placed_malformed : (part : Point → Triple) (k : ℕ) (read : LineRead) (d : List Float) → read ≡ LineRead.Malformed
+pub placed_malformed : (part : Point → Triple) (k : ℕ) (read : Option Point) (d : List Float) → read ≡ None
     → d ≡ placed_of part k read d
 unfolding placed_of
 placed_malformed part k read d e = rw e
@@ -41,7 +41,7 @@ pub none_stored : (s : List ℕ) (from : ℕ) (points normals : List Float)
 unfolding StoredLines
 none_stored s from points normals = (refl, (refl, refl))
 
-pub one_stored : (s : List ℕ) (from k b at : ℕ) (read : LineRead) (points₀ normals₀ ps ns points normals : List Float)
+pub one_stored : (s : List ℕ) (from k b at : ℕ) (read : Option Point) (points₀ normals₀ ps ns points normals : List Float)
     → StoredLines s from k b points₀ normals₀ ps ns → Stepped s b read at
     → (points ≡ placed_of position_of k read ps) × (normals ≡ placed_of normal_of k read ns)
     → StoredLines s from (k + 1) at points₀ normals₀ points normals

@@ -6,7 +6,7 @@ ghost use Rattle.std.specs.Prelude.{◌≡◌};
 ghost use Rattle.cloud_lines.specs.Reading.{Stepped};
 ghost use Rattle.cloud_lines.specs.Inner.Storing.{position_of, normal_of, placed, placed_of, StoredLines};
 
-use crate::line::{Point, PointRead, Triple, point_at};
+use crate::line::{Point, Triple, point_at};
 
 #[derive(Clone, Copy)]
 pub struct Reader<'a> {
@@ -14,16 +14,10 @@ pub struct Reader<'a> {
     pub at: usize,
 }
 
-#[derive(Clone, Copy)]
-pub enum LineRead {
-    Point { point: Point },
-    Malformed,
-}
-
-// What was read, and the place then: behind the line, or where it was if the line is malformed.
+// The point that was read and the place behind its line; or none, where the line is malformed, and the place as it was.
 #[derive(Clone, Copy)]
 pub struct Step {
-    pub read: LineRead,
+    pub read: Option<Point>,
     pub at: usize,
 }
 
@@ -31,7 +25,7 @@ pub struct Step {
 #[derive(Clone, Copy)]
 pub struct Moved<'a> {
     pub reader: Reader<'a>,
-    pub read: LineRead,
+    pub read: Option<Point>,
 }
 
 // The point's line at a place.
@@ -39,14 +33,11 @@ fn step_at(s: &[u8], at: usize) -> Step
     ensures { Stepped s.now at result.read result.at }
 {
     match point_at(s, at) {
-        PointRead::Line { point, next } => Step {
-            read: LineRead::Point { point },
+        Some((point, next)) => Step {
+            read: Some(point),
             at: next,
         },
-        PointRead::Malformed => Step {
-            read: LineRead::Malformed,
-            at,
-        },
+        None => Step { read: None, at },
     }
 }
 
@@ -90,18 +81,13 @@ fn put_triple(d: &mut [f32], k: usize, t: Triple)
 }
 
 // The point of the k-th line, into both slices.
-fn put_line(points: &mut [f32], normals: &mut [f32], k: usize, read: LineRead)
+fn put_line(points: &mut [f32], normals: &mut [f32], k: usize, read: Option<Point>)
     ensures { (points.new ≡ placed_of position_of k read points.old)
         × (normals.new ≡ placed_of normal_of k read normals.old) }
 {
-    match read {
-        LineRead::Point { point } => {
-            let position = point.position;
-            let normal = point.normal;
-            put_triple(points, k, position);
-            put_triple(normals, k, normal);
-        }
-        LineRead::Malformed => {}
+    if let Some(point) = read {
+        put_triple(points, k, point.position);
+        put_triple(normals, k, point.normal);
     }
 }
 
@@ -118,12 +104,10 @@ pub fn store_lines(
         points.new normals.new }
 {
     let mut r = Reader { src, at: from };
-    let mut k: usize = 0;
-    while k < count {
+    for k in 0..count {
         let m = next_line(r);
         r = m.reader;
         put_line(points, normals, k, m.read);
-        k += 1;
     }
     r.at
 }

@@ -1,56 +1,36 @@
 -- Laws of a number and a line at a place of the bytes, as the code meets them; and that each takes a byte. Assumes
 -- nothing.
-use mathlib.Core.Path.{◌≡◌, sym, ap, ◌∙◌, subst}
+use mathlib.Core.Path.{◌≡◌, subst}
 use mathlib.Core.Bool.{true, false, ◌&&◌}
 use mathlib.Core.List.{List}
 use Prim.Native.Nat.{ℕ, ◌+◌, ◌-◌, ◌≤◌, ◌<◌}
 use native.Mathlib.Omega.{arith}
 use lib.ListN.{length, take, drop, length-drop}
 use lib.Seq.{drop-drop}
+use Rattle.std.specs.Prelude.{None}
 use Rattle.lists.proofs.Bools.{and_both}
-use Rattle.numerals.specs.Format.{Parsed, parsed, malformed, starts_with, digits, few, digits_value}
-use Rattle.numerals.proofs.Numeral.{few_most, found_count, found_rest}
+use Rattle.numerals.specs.Format.{parsed, malformed, starts_with, digits, few, digits_value}
+use Rattle.numerals.specs.Inner.Answers.{skipped_digits}
+use Rattle.numerals.proofs.Numeral.{few_most, Skipped, skipped_none, skipped_count, skipped_rest}
 use Rattle.numerals.proofs.Shorter.{Below, below_cond, below_then, digits_within, next_below}
-use Rattle.patch.specs.Lay.{Face, face}
+use Rattle.patch.specs.Lay.{Face}
 use Rattle.face_lines.specs.Format.{point_number, line}
-use Rattle.face_lines.specs.Inner.Answers.{point_number_means, line_means}
-use Rattle.face_lines.specs.declared.line.PointNumberRead.{PointNumberRead}
-use Rattle.face_lines.specs.declared.line.FaceLineRead.{FaceLineRead}
 
 -- ---- a number, by what the code found of its digits and of the byte behind them
-module _ (s : List ℕ) (at stop end : ℕ) (found : stop ≡ at + digits (drop at s)) where
-  pub number_digits : few (stop - at) 5 ≡ false → malformed ≡ point_number end (drop at s)
+module _ (s : List ℕ) (at end : ℕ) where
+  pub number_digits : None ≡ skipped_digits s at 5 → malformed ≡ point_number end (drop at s)
   unfolding point_number
-  number_digits e = let n = found_count s at stop found in rw (← n, e)
+  number_digits e = rw (skipped_none s at 5 e)
 
-  module _ (e : few (stop - at) 5 ≡ true) where
+  module _ (stop : ℕ) (k : Skipped s at 5 stop) where
     pub number_open : starts_with end (drop stop s) ≡ false → malformed ≡ point_number end (drop at s)
     unfolding point_number
-    number_open b = let n = found_count s at stop found in rw (found_rest s at stop found, ← n, e, b)
+    number_open b = rw (skipped_rest s at 5 stop k, ← skipped_count s at 5 stop k, k.few, b)
 
     pub number_read : (v : ℕ) → starts_with end (drop stop s) ≡ true → v ≡ digits_value 0 (take (stop - at) (drop at s)) → parsed v (drop (stop + 1) s)
         ≡ point_number end (drop at s)
     unfolding point_number
-    number_read v b w = let n = found_count s at stop found in rw (found_rest s at stop found, ← n, e, b, drop-drop 1 stop s, w)
-
--- ---- what a match on an answer says of what was parsed
-module _ (s : List ℕ) where
-  pub number_got : (r : PointNumberRead) (p : Parsed ℕ) (v next : ℕ) → point_number_means s r ≡ p → r ≡ PointNumberRead.Number v next → p ≡ parsed v (drop next s)
-  unfolding point_number_means
-  number_got r p v next m e = sym m ∙ ap (point_number_means s) e
-
-  pub number_not : (r : PointNumberRead) (p : Parsed ℕ) → point_number_means s r ≡ p → r ≡ PointNumberRead.Malformed → p ≡ malformed
-  unfolding point_number_means
-  number_not r p m e = sym m ∙ ap (point_number_means s) e
-
-  pub line_got : (r : FaceLineRead) (p : Parsed Face) (a b c next : ℕ) → line_means s r ≡ p → r ≡ FaceLineRead.Face a b c next → p
-      ≡ parsed (face a b c) (drop next s)
-  unfolding line_means
-  line_got r p a b c next m e = sym m ∙ ap (line_means s) e
-
-  pub line_not : (r : FaceLineRead) (p : Parsed Face) → line_means s r ≡ p → r ≡ FaceLineRead.Malformed → p ≡ malformed
-  unfolding line_means
-  line_not r p m e = sym m ∙ ap (line_means s) e
+    number_read v b w = rw (skipped_rest s at 5 stop k, ← skipped_count s at 5 stop k, k.few, b, drop-drop 1 stop s, w)
 
 -- ---- fewer bytes are left
 number_below : (end : ℕ) (bs : List ℕ) → Below (length bs) (point_number end bs)

@@ -8,15 +8,17 @@ use native.Mathlib.Nat.{zero-add, add-zero}
 use lib.ListN.{length, drop}
 use lib.Dec.{ltb}
 use borrow.Author.Tests.{lt-ltb}
+use Rattle.std.specs.Prelude.{Result, Ok, Err}
 use Rattle.lists.specs.Lists.{bit, count, any}
 use Rattle.numerals.specs.Format.{parsed, malformed}
+use Rattle.numerals.specs.declared.MalformedLine.{MalformedLine}
 use Rattle.patch.specs.Lay.{Face}
 use Rattle.face_lines.specs.Format.{line, FaceLines, good, wrong, face_ahead, face_file, outside, twice}
 use Rattle.face_lines.specs.Inner.Answers.{scan_of_lines}
 use Rattle.face_lines.specs.declared.FacesScanned.{FacesScanned}
 use Rattle.face_lines.proofs.Parts.{line_shorter}
 use Rattle.numerals.proofs.Rows.{From, from_end, from_wrong, from_next}
-use Rattle.face_lines.proofs.Rows.{faces_run, file_start, wrong_from_one}
+use Rattle.face_lines.proofs.Rows.{faces_run, file_start}
 
 -- ---- flags
 module _ (p : Face → Bool) where
@@ -38,10 +40,13 @@ module _ (p : Face → Bool) where
   flag_end false = refl
 
 -- ---- k lines with these flags, and then these
+abbrev seen : ℕ → Bool → Bool → Result FacesScanned MalformedLine
+seen k o t = Ok (record { count = k; outside = o; twice = t })
+
 module _ (n : ℕ) where
-  abbrev onward : ℕ → Bool → Bool → FaceLines → FacesScanned
-  onward k o t (good fs) = record { malformed = 0; count = k + length fs; outside = o || any (outside n) fs; twice = t || any twice fs }
-  onward k o t (wrong number) = record { malformed = k + number; count = 0; outside = false; twice = false }
+  abbrev onward : ℕ → Bool → Bool → FaceLines → Result FacesScanned MalformedLine
+  onward k o t (good fs) = seen (k + length fs) (o || any (outside n) fs) (t || any twice fs)
+  onward k o t (wrong number) = Err (record { line = k + number })
 
   onward_none : (l : FaceLines) → onward 0 false false l ≡ scan_of_lines n l
   unfolding scan_of_lines
@@ -55,7 +60,7 @@ module _ (n : ℕ) where
       rw (e, flag_more (outside n) o f fs, flag_more twice t f fs)
   onward_ahead k o t f (wrong number) = let e : k + suc number ≡ k + 1 + number = omega arith in rw e
 
-  onward_end : (k : ℕ) (o t : Bool) → onward k o t (good []) ≡ record { malformed = 0; count = k; outside = o; twice = t }
+  onward_end : (k : ℕ) (o t : Bool) → onward k o t (good []) ≡ seen k o t
   onward_end k o t = rw (add-zero k, flag_end (outside n) o, flag_end twice t)
 
 -- k lines were read up to a place, and these are left
@@ -69,11 +74,11 @@ pub scanning_start : (s : List ℕ) (n : ℕ) → Scanning s n 0 false false 0
 scanning_start s n = record { left = face_file s; source = file_start s; same = sym (onward_none n (face_file s)); few = omega arith }
 
 module _ (s : List ℕ) (n k : ℕ) (o t : Bool) (at : ℕ) (c : Scanning s n k o t at) where
-  pub scanning_end : length s ≤ at → record { malformed = 0; count = k; outside = o; twice = t } ≡ scan_of_lines n (face_file s)
+  pub scanning_end : length s ≤ at → Ok (record { count = k; outside = o; twice = t }) ≡ scan_of_lines n (face_file s)
   scanning_end h = sym (c.same ∙ ap (onward n k o t) (from_end faces_run s at c.left c.source h) ∙ onward_end n k o t)
 
   module _ (inside : at < length s) where
-    pub scanning_wrong : line (drop at s) ≡ malformed → record { malformed = k + 1; count = 0; outside = false; twice = false } ≡ scan_of_lines n (face_file s)
+    pub scanning_wrong : line (drop at s) ≡ malformed → Err (record { line = k + 1 }) ≡ scan_of_lines n (face_file s)
     scanning_wrong e = sym (c.same ∙ ap (onward n k o t) (from_wrong faces_run s at c.left c.source inside e))
 
     pub scanning_next : (f : Face) (next : ℕ) (o' t' : Bool) → line (drop at s) ≡ parsed f (drop next s) → o' ≡ (o || outside n f) → t' ≡ (t || twice f)
@@ -97,22 +102,13 @@ pub record Good (n : ℕ) (l : FaceLines) (r : FacesScanned) : Type 0 where
   pub out : r.outside ≡ any (outside n) faces
   pub same : r.twice ≡ any twice faces
 
-module _ (n : ℕ) (r : FacesScanned) where
-  by_lines : (l : FaceLines) → ((k : ℕ) → l ≡ wrong k → 0 < k) → r ≡ scan_of_lines n l → r.malformed ≡ 0 → Good n l r
+module _ (n : ℕ) where
+  pub scanned_good : (l : FaceLines) (r : FacesScanned) → Ok r ≡ scan_of_lines n l → Good n l r
   unfolding scan_of_lines
-  by_lines (good fs) h e z = record {
-    faces = fs;
-    lines = refl;
-    many = ap (λ (q : FacesScanned). q.count) e;
-    out = ap (λ (q : FacesScanned). q.outside) e;
-    same = ap (λ (q : FacesScanned). q.twice) e;
-  }
-  by_lines (wrong k) h e z = absurd (omega (arith, h k refl, ap (λ (q : FacesScanned). q.malformed) e))
+  scanned_good (good fs) r e = record { faces = fs; lines = refl; many = cc; out = cc; same = cc }
+  scanned_good (wrong k) r e = cc
 
-  pub scanned_good : (s : List ℕ) → r ≡ scan_of_lines n (face_file s) → r.malformed ≡ 0 → Good n (face_file s) r
-  scanned_good s = by_lines (face_file s) (wrong_from_one s)
-
-  pub scanned_wrong : (l : FaceLines) → r ≡ scan_of_lines n l → (r.malformed ≡ 0 → ⊥) → l ≡ wrong r.malformed
+  pub scanned_wrong : (l : FaceLines) (m : MalformedLine) → Err m ≡ scan_of_lines n l → l ≡ wrong m.line
   unfolding scan_of_lines
-  scanned_wrong (good fs) e h = absurd (h (ap (λ (q : FacesScanned). q.malformed) e))
-  scanned_wrong (wrong k) e h = ap wrong (sym (ap (λ (q : FacesScanned). q.malformed) e))
+  scanned_wrong (good fs) m e = cc
+  scanned_wrong (wrong k) m e = cc

@@ -4,33 +4,27 @@
 ghost use Rattle.std.specs.Prelude.{◌≡◌, cond, ◌+◌, ◌-◌, ◌^◌, ◌<◌, take, drop};
 ghost use Rattle.numerals.specs.Format.{starts_with, starts_digit, digits, few, digits_value, fraction};
 ghost use Rattle.numerals.specs.Format.{unsigned_number, number};
-ghost use Rattle.numerals.specs.Inner.Answers.{number_means};
+ghost use Rattle.numerals.specs.Inner.Answers.{taken_means, skipped_digits};
 ghost use Rattle.numerals.specs.Inner.Ready.{Digits};
 
 use decimals::decimal_value;
 
-// What stands at a place of the bytes: a number, with the place after it, or none.
+// The first malformed line of a file, from 1.
 #[derive(Clone, Copy)]
-pub enum NumberRead {
-    Number { value: f32, next: usize },
-    Malformed,
+pub struct MalformedLine {
+    pub line: usize,
 }
 
 pub fn byte_is(s: &[u8], at: usize, b: u8) -> bool
     ensures { result ≡ starts_with b (drop at s.now) }
 {
-    if at < s.len() { s[at] == b } else { false }
+    at < s.len() && s[at] == b
 }
 
 fn is_digit(s: &[u8], at: usize) -> bool
     ensures { result ≡ starts_digit (drop at s.now) }
 {
-    if at < s.len() {
-        let b = s[at];
-        if 48 <= b { b <= 57 } else { false }
-    } else {
-        false
-    }
+    at < s.len() && s[at].is_ascii_digit()
 }
 
 // The place after the digits that start at a place.
@@ -48,7 +42,15 @@ pub fn digits_end(s: &[u8], at: usize) -> usize
 pub fn is_few(count: usize, most: usize) -> bool
     ensures { result ≡ few count most }
 {
-    if 1 <= count { count <= most } else { false }
+    1 <= count && count <= most
+}
+
+// The place behind 1 to most digits that start at a place.
+pub fn skip_digits(s: &[u8], at: usize, most: usize) -> Option<usize>
+    ensures { result ≡ skipped_digits s.now at most }
+{
+    let end = digits_end(s, at);
+    is_few(end - at, most).then_some(end)
 }
 
 // The whole number that the digits from at to end write.
@@ -56,54 +58,35 @@ pub fn whole_of(s: &[u8], at: usize, end: usize) -> u32
     requires { Digits s.now at end }
     ensures { (result ≡ digits_value 0 (take (end - at) (drop at s.now))) × (result < 10 ^ (end - at)) }
 {
-    let mut v: u32 = 0;
-    let mut i = at;
-    while i < end {
-        let b = s[i];
-        v = v * 10 + (b - 48) as u32;
-        i += 1;
+    let mut v = 0;
+    for i in at..end {
+        v = v * 10 + u32::from(s[i] - b'0');
     }
     v
 }
 
 // What follows a whole part: a point with digits, or nothing.
-fn fraction_at(s: &[u8], at: usize, negative: bool, units: u32) -> NumberRead
+fn fraction_at(s: &[u8], at: usize, negative: bool, units: u32) -> Option<(f32, usize)>
     requires { units < 10 ^ 5 }
-    ensures { number_means s.now result ≡ fraction negative units (drop at s.now) }
+    ensures { taken_means s.now result ≡ fraction negative units (drop at s.now) }
 {
     if byte_is(s, at, b'.') {
         let start = at + 1;
-        let end = digits_end(s, start);
-        let places = end - start;
-        if is_few(places, 6) {
-            let parts = whole_of(s, start, end);
-            NumberRead::Number {
-                value: decimal_value(negative, units, parts, places),
-                next: end,
-            }
-        } else {
-            NumberRead::Malformed
-        }
+        let end = skip_digits(s, start, 6)?;
+        let parts = whole_of(s, start, end);
+        Some((decimal_value(negative, units, parts, end - start), end))
     } else {
-        NumberRead::Number {
-            value: decimal_value(negative, units, 0, 0),
-            next: at,
-        }
+        Some((decimal_value(negative, units, 0, 0), at))
     }
 }
 
 // A number without its sign.
-fn magnitude_at(s: &[u8], at: usize, negative: bool) -> NumberRead
-    ensures { number_means s.now result ≡ unsigned_number negative (drop at s.now) }
+fn magnitude_at(s: &[u8], at: usize, negative: bool) -> Option<(f32, usize)>
+    ensures { taken_means s.now result ≡ unsigned_number negative (drop at s.now) }
 {
-    let end = digits_end(s, at);
-    let count = end - at;
-    if is_few(count, 5) {
-        let units = whole_of(s, at, end);
-        fraction_at(s, end, negative, units)
-    } else {
-        NumberRead::Malformed
-    }
+    let end = skip_digits(s, at, 5)?;
+    let units = whole_of(s, at, end);
+    fraction_at(s, end, negative, units)
 }
 
 // The place behind a minus, or the place itself where there is none.
@@ -113,8 +96,9 @@ pub fn behind_minus(s: &[u8], at: usize) -> usize
     if byte_is(s, at, b'-') { at + 1 } else { at }
 }
 
-pub fn number_at(s: &[u8], at: usize) -> NumberRead
-    ensures { number_means s.now result ≡ number (drop at s.now) }
+// The number that stands at a place of the bytes, with the place behind it, or none.
+pub fn number_at(s: &[u8], at: usize) -> Option<(f32, usize)>
+    ensures { taken_means s.now result ≡ number (drop at s.now) }
 {
     magnitude_at(s, behind_minus(s, at), byte_is(s, at, b'-'))
 }

@@ -107,10 +107,10 @@ pub fn order_patch(
     ensures { OrdersPatch bytes.now point_count order.old words.old
         floats.old result order.new words.new floats.new }
 {
-    let seen = face_lines::scan_faces(bytes, point_count);
-    if seen.malformed != 0 {
-        return refused(answers::LINE, seen.malformed);
-    }
+    let seen = match face_lines::scan_faces(bytes, point_count) {
+        Ok(seen) => seen,
+        Err(malformed) => return refused(answers::LINE, malformed.line),
+    };
     let first = first_answer(
         point_count,
         seen.outside,

@@ -1,30 +1,25 @@
 -- What each answer of the crate's functions stands for. Definitions only.
-use Rattle.std.specs.Prelude.{ℕ, ◌≤◌, ◌≡◌, false, List, length, drop}
+use Rattle.std.specs.Prelude.{ℕ, ◌≤◌, ◌≡◌, List, length, drop, Option, Some, None, Result, Ok, Err}
 use Rattle.lists.specs.Lists.{any}
 use Rattle.numerals.specs.Format.{Parsed, parsed, malformed}
+use Rattle.numerals.specs.declared.MalformedLine.{MalformedLine}
 use Rattle.patch.specs.Lay.{Face, face}
 use Rattle.patch.specs.View.{written}
 use Rattle.face_lines.specs.Format.{FaceLines, good, wrong, face_file, outside, twice}
-use Rattle.face_lines.specs.declared.line.PointNumberRead.{PointNumberRead}
-use Rattle.face_lines.specs.declared.line.FaceLineRead.{FaceLineRead}
+use Rattle.face_lines.specs.declared.line.FaceLine.{FaceLine}
 use Rattle.face_lines.specs.declared.FacesScanned.{FacesScanned}
 
--- ---- the enums: a value with `next` stands for the value and the bytes s from `next` on
-unfoldable pub point_number_means : List ℕ → PointNumberRead → Parsed ℕ
-point_number_means s (PointNumberRead.Number value next) = parsed value (drop next s)
-point_number_means s PointNumberRead.Malformed = malformed
+-- a face and the place behind its line stand for the face and the bytes s from there on
+unfoldable pub line_means : List ℕ → Option (FaceLine × ℕ) → Parsed Face
+line_means s (Some r) = parsed (face r.0.a r.0.b r.0.c) (drop r.1 s)
+line_means s None = malformed
 
-unfoldable pub line_means : List ℕ → FaceLineRead → Parsed Face
-line_means s (FaceLineRead.Face a b c next) = parsed (face a b c) (drop next s)
-line_means s FaceLineRead.Malformed = malformed
-
--- ---- what a file of lines comes to, for n points: the first malformed line, or 0, how many faces there are, whether
--- some face has a number out of range, and whether some face has two equal numbers
-unfoldable pub scan_of_lines : ℕ → FaceLines → FacesScanned
+-- ---- what a file of lines comes to, for n points: the first malformed line, or how many faces there are, whether some
+-- face has a number out of range, and whether some face has two equal numbers
+unfoldable pub scan_of_lines : ℕ → FaceLines → Result FacesScanned MalformedLine
 unfolding outside twice
-scan_of_lines n (good fs) =
-    record { malformed = 0; count = length fs; outside = any (outside n) fs; twice = any twice fs }
-scan_of_lines n (wrong number) = record { malformed = number; count = 0; outside = false; twice = false }
+scan_of_lines n (good fs) = Ok (record { count = length fs; outside = any (outside n) fs; twice = any twice fs })
+scan_of_lines n (wrong number) = Err (record { line = number })
 
 -- ---- storing
 -- all lines are well formed, and the faces are few

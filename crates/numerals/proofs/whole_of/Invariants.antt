@@ -8,8 +8,5 @@ use Rattle.numerals.proofs.whole_of.Given as goal
 
 abbrev pub invariant-loop-i : goal.invariant-loop-i
 invariant-loop-i l =
-    (l.at ≤ l.i) × (l.i ≤ l.end) × (l.end - l.i ≤ digits (drop l.i l.s)) × (digits_value l.v (take (l.end - l.i) (drop l.i l.s)) ≡ digits_value 0 (take (l.end - l.at) (drop l.at l.s)))
+    (l.end - l.i ≤ digits (drop l.i l.s)) × (digits_value l.v (take (l.end - l.i) (drop l.i l.s)) ≡ digits_value 0 (take (l.end - l.at) (drop l.at l.s)))
     × (l.v < 10 ^ (l.i - l.at))
-
-abbrev pub decreases-loop-i : goal.decreases-loop-i
-decreases-loop-i l = l.end - l.i

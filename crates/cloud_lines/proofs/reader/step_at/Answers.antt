@@ -3,13 +3,13 @@
 use Rattle.cloud_lines.proofs.Means.{stepped_line, stepped_not}
 use Rattle.cloud_lines.proofs.reader.step_at.Goals as goal
 
-pub returns-in-Line : goal.returns-in-Line
-returns-in-Line c =
+pub returns-in-Some : goal.returns-in-Some
+returns-in-Some c =
     let a = c.args in
-    let e = c.point_at.ensures in
-    stepped_line a.s.now a.at _ _ _ e.means e.in_bounds c.in-Line.is
+    let e = c.in-Some.ensures in
+    stepped_line a.s.now a.at _ e.means e.in_bounds
 
-pub returns-in-Malformed : goal.returns-in-Malformed
-returns-in-Malformed c =
+pub returns-in-None : goal.returns-in-None
+returns-in-None c =
     let a = c.args in
-    stepped_not a.s.now a.at _ c.point_at.ensures.means c.in-Malformed.is
+    stepped_not a.s.now a.at c.in-None.ensures.means

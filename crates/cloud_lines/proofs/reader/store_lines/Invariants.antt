@@ -1,14 +1,10 @@
 -- `cloud_lines::reader::store_lines`: after k lines, the slices hold what k lines store, and the reader stands behind them.
-use Rattle.std.proofs.Common.{◌-◌, ◌≡◌, ◌≤◌}
+use Rattle.std.proofs.Common.{◌≡◌}
 use Rattle.cloud_lines.specs.Inner.Storing.{StoredLines}
 use Rattle.cloud_lines.proofs.reader.store_lines.Given as goal
 
 abbrev pub invariant-loop-k : goal.invariant-loop-k
 invariant-loop-k l = record {
-  behind : l.k ≤ l.count;
   kept : l.r.src ≡ l.initial.r.src;
   stored : StoredLines l.src l.from l.k l.r.at l.initial.points l.initial.normals l.points l.normals;
 }
-
-abbrev pub decreases-loop-k : goal.decreases-loop-k
-decreases-loop-k l = l.count - l.k

@@ -16,5 +16,4 @@ returns-then-byte_is c =
 
 pub returns-else-byte_is : goal.returns-else-byte_is
 returns-else-byte_is c =
-    let a = c.args in fraction_absent a.s.now a.at c.requires
-    (sym c.byte_is.ensures ∙ c.if-byte_is.false)
+    let a = c.args in fraction_absent a.s.now a.at (sym c.byte_is.ensures ∙ c.if-byte_is.false)

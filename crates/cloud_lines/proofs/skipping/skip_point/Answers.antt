@@ -5,18 +5,17 @@ use Rattle.cloud_lines.specs.Format.{triple, point_fields}
 use Rattle.cloud_lines.proofs.Bare.{then_none, then_some, bare_then}
 use Rattle.cloud_lines.proofs.skipping.skip_point.Goals as goal
 
-pub returns-then-middle-eq0 : goal.returns-then-middle-eq0
+pub returns-in_err-middle : goal.returns-in_err-middle
 unfolding point_fields
-returns-then-middle-eq0 c =
-    let a = c.args in then_none a.s.now _ (triple 44 (drop a.at a.s.now)) _ c.skip_triple-middle.ensures
-    c.if-middle-eq0.true
+returns-in_err-middle c =
+    let a = c.args in
+    rw c.from_residual.ensures (then_none a.s.now (triple 44 (drop a.at a.s.now)) _ c.in_err-middle.ensures)
 
 pub returns : goal.returns
 unfolding point_fields
 returns c =
-    let b = c in
-    let a = b.args in
+    let a = c.args in
     let s = a.s.now in
-    let middle = b.skip_triple-middle.result in
-    then_some s _ (triple 44 (drop a.at s)) _ b.skip_triple-middle.ensures _ b.if-middle-eq0.false
-    (λ p. c.skip_triple.ensures ∙ bare_then (triple 10 (drop middle s)) _)
+    let middle = c.in_ok-middle.middle in
+    then_some s (triple 44 (drop a.at s)) _ _ c.in_ok-middle.ensures _
+    (λ p. c.skip_triple-2.ensures ∙ bare_then (triple 10 (drop middle s)) _)

@@ -5,29 +5,28 @@ use Rattle.cloud_lines.specs.Format.{field, triple}
 use Rattle.cloud_lines.proofs.Bare.{then_none, then_some, bare_then}
 use Rattle.cloud_lines.proofs.skipping.skip_triple.Goals as goal
 
-pub returns-then-second-eq0 : goal.returns-then-second-eq0
+pub returns-in_err-second : goal.returns-in_err-second
 unfolding triple
-returns-then-second-eq0 c =
-    let a = c.args in then_none a.s.now _ (field 44 (drop a.at a.s.now)) _ c.skip_field-second.ensures c.if-second-eq0.true
+returns-in_err-second c =
+    let a = c.args in
+    rw c.from_residual.ensures (then_none a.s.now (field 44 (drop a.at a.s.now)) _ c.in_err-second.ensures)
 
-pub returns-then-third-eq0 : goal.returns-then-third-eq0
+pub returns-in_err-third : goal.returns-in_err-third
 unfolding triple
-returns-then-third-eq0 c =
-    let b = c in
-    let a = b.args in
+returns-in_err-third c =
+    let a = c.args in
     let s = a.s.now in
-    let second = b.skip_field-second.result in
-    then_some s _ (field 44 (drop a.at s)) _ b.skip_field-second.ensures _ b.if-second-eq0.false
-    (λ x. then_none s _ (field 44 (drop second s)) _ c.skip_field-third.ensures c.if-third-eq0.true)
+    let second = c.in_ok-second.second in
+    rw c.from_residual-in_err-third.ensures (then_some s (field 44 (drop a.at s)) _ _ c.in_ok-second.ensures _
+    (λ x. then_none s (field 44 (drop second s)) _ c.in_err-third.ensures))
 
 pub returns : goal.returns
 unfolding triple
 returns c =
-    let b = c in
-    let a = b.args in
+    let a = c.args in
     let s = a.s.now in
-    let second = b.skip_field-second.result in
-    let third = c.skip_field-third.result in
-    then_some s _ (field 44 (drop a.at s)) _ b.skip_field-second.ensures _ b.if-second-eq0.false
-    (λ x. then_some s _ (field 44 (drop second s)) _ c.skip_field-third.ensures _ c.if-third-eq0.false
-    (λ y. c.skip_field.ensures ∙ bare_then (field a.last (drop third s)) _))
+    let second = c.in_ok-second.second in
+    let third = c.in_ok-third.third in
+    then_some s (field 44 (drop a.at s)) _ _ c.in_ok-second.ensures _
+    (λ x. then_some s (field 44 (drop second s)) _ _ c.in_ok-third.ensures _
+    (λ y. c.skip_field-3.ensures ∙ bare_then (field a.last (drop third s)) _))

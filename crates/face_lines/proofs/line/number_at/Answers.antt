@@ -2,41 +2,35 @@
 use mathlib.Core.Path.{sym, ◌∙◌}
 use native.Mathlib.Omega.{arith}
 use lib.Dec.{lit≤}
+use Rattle.numerals.specs.Inner.Answers.{taken_means}
 use Rattle.numerals.proofs.Bytes.{starts_inside}
-use Rattle.numerals.proofs.Numeral.{found_digits}
-use Rattle.face_lines.specs.Inner.Answers.{point_number_means}
+use Rattle.numerals.proofs.Numeral.{skipped_some, skipped_digits_ready}
 use Rattle.face_lines.proofs.Parts.{number_digits, number_open, number_read}
 use Rattle.face_lines.proofs.line.number_at.Goals as goal
 
-pub whole_of-value-requires : goal.whole_of-value-requires
-whole_of-value-requires c = found_digits _ _ _ c.digits_end-stop.ensures 5 (lit≤ tt) (sym c.is_few.ensures ∙ c.if-is_few.true)
+pub returns-in_err-stop : goal.returns-in_err-stop
+unfolding taken_means
+returns-in_err-stop c =
+    let a = c.args in rw c.from_residual.ensures (number_digits a.s.now a.at a.end c.in_err-stop.ensures)
+
+pub whole_of-requires : goal.whole_of-requires
+whole_of-requires c = skipped_digits_ready _ _ _ _ (skipped_some _ _ _ _ c.in_ok-stop.ensures) (lit≤ tt)
 
 pub overflow_add-result : goal.overflow_add-result
 overflow_add-result c =
-    let digits_end = c.digits_end-stop in
-    let start = c in
-    let h = starts_inside start.args.end start.args.s.now digits_end.result (sym c.byte_is.ensures ∙ c.if-byte_is.true) in
+    let a = c.args in
+    let h = starts_inside a.end a.s.now c.in_ok-stop.stop (sym c.byte_is.ensures ∙ c.if-byte_is.true) in
     omega arith
 
 pub returns-then-byte_is : goal.returns-then-byte_is
-unfolding point_number_means
+unfolding taken_means
 returns-then-byte_is c =
-    let digits_end = c.digits_end-stop in
-    let start = c in
-    number_read start.args.s.now start.args.at _ start.args.end digits_end.ensures (sym c.is_few.ensures ∙ c.if-is_few.true) _
-    (sym c.byte_is.ensures ∙ c.if-byte_is.true) c.whole_of-value.ensures.0
+    let a = c.args in
+    number_read a.s.now a.at a.end _ (skipped_some _ _ _ _ c.in_ok-stop.ensures) _ (sym c.byte_is.ensures ∙ c.if-byte_is.true)
+    c.whole_of.ensures.0
 
 pub returns-else-byte_is : goal.returns-else-byte_is
-unfolding point_number_means
+unfolding taken_means
 returns-else-byte_is c =
-    let digits_end = c.digits_end-stop in
-    let start = c in
-    number_open start.args.s.now start.args.at _ start.args.end digits_end.ensures (sym c.is_few.ensures ∙ c.if-is_few.true)
-    (sym c.byte_is.ensures ∙ c.if-byte_is.false)
-
-pub returns-else-is_few : goal.returns-else-is_few
-unfolding point_number_means
-returns-else-is_few c =
-    let start = c in
-    number_digits start.args.s.now start.args.at _ start.args.end c.digits_end-stop.ensures
-    (sym c.is_few.ensures ∙ c.if-is_few.false)
+    let a = c.args in
+    number_open a.s.now a.at a.end _ (skipped_some _ _ _ _ c.in_ok-stop.ensures) (sym c.byte_is.ensures ∙ c.if-byte_is.false)
