@@ -1,7 +1,8 @@
 -- The least angles of needles whose squares lie in intervals (`needles_within`), whichever edge is the shortest
 -- (`second_within`, `third_within`). Assumes nothing.
 use mathlib.Core.Path.{◌≡◌}
-use lib.Ieee.{Float}
+use Rattle.std.specs.Prelude.{Option, Some, None, IfSome, unwrap_or}
+use lib.Ieee.{Float, nan, is_nan}
 use Rattle.numbers.specs.Order.{minimum, maximum}
 use Rattle.numbers.proofs.OrderLaws.{le_left, le_right, le_trans}
 use Rattle.numbers.proofs.Minimum.{minimum_first, minimum_le}
@@ -26,3 +27,9 @@ second_within h = record { bound = λ a b c fa fb fc x y z. second_angle (h.boun
 
 pub third_within : {i j k : Interval} {m : Float} → AnglesWithin k i j m → AnglesWithin i j k m
 third_within h = record { bound = λ a b c fa fb fc x y z. third_angle (h.bound c a b fc fa fb z x y) }
+
+-- a bound that there is none of is not a number
+pub angle_or_none : {least most short long : Float} (m : Option Float) → IfSome m (NeedleAngle least most short long)
+    → NeedleAngle least most short long (unwrap_or m nan)
+angle_or_none (Some m) h = h
+angle_or_none None h = record { bound = λ x y z fx fy fz a b c d e f. record { most = λ u v t o n. absurd (unfold is_nan in n) } }

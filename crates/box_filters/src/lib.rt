@@ -47,13 +47,13 @@ pub fn areas_of(p: Bounds, q: Bounds, t: Bounds, x: Interval) -> Interval
 }
 
 // What the least angle is at most in each order, with the squares of one edge in i and of the others in j and k. Where
-// the first one isn't much shorter it is not a number.
+// the first one isn't much shorter it is not a number, which a score takes for an angle without a bound.
 fn needle_angle(i: Interval, j: Interval, k: Interval) -> f32
     ensures { AnglesWithin i j k result }
 {
     let short = numbers::min(j.lo, k.lo);
     let long = numbers::max(j.hi, k.hi);
-    needle_angles::needle_angle(i.lo, i.hi, short, long)
+    needle_angles::needle_angle(i.lo, i.hi, short, long).unwrap_or(0.0 / 0.0)
 }
 
 // What the least angle of all triangles with such edges is at most. Which edge is the shortest is a guess.

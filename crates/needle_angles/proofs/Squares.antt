@@ -8,7 +8,7 @@ use mathlib.Core.Bool.{false}
 use mathlib.Core.List.{List}
 use lib.Dec.{T}
 use lib.Pow.{pow_pos}
-use lib.Ieee.{Float, binary32, round, mul, le, fits, is_nan, of_bits}
+use lib.Ieee.{Float, binary32, round, mul, le, fits, of_bits}
 use lib.Ieee.Order.{round_mono}
 use lib.Ieee.Positive.{positive, positive-finite, between}
 use Rattle.numbers.specs.Rounded.{f32, ◌⊗◌, ◌⊘◌}
@@ -21,9 +21,10 @@ use Rattle.rounding_errors.proofs.Rounding.{Units, units_pos, units_positive}
 use Rattle.rounding_errors.proofs.Operations.{between_units, mul_units, div_at, div_units, root_units, units_le}
 use Rattle.six_orders.specs.Inner.SixOrders.{EdgeBound}
 use Rattle.six_orders.proofs.Positive.{number, maximum_either}
-use Rattle.six_orders.proofs.Edges.{edges_bounded, no_edge_bound}
+use Rattle.six_orders.proofs.Edges.{edges_bounded}
 use Rattle.slivers.proofs.Arc.{w}
-use Rattle.needle_angles.specs.Inner.NeedleAngles.{NeedleAngle, NeedleRatio, NeedleClass, angle_of, ratio_of}
+use Rattle.needle_angles.specs.declared.NeedleClass.TheVariants.{Times10, Times16, Times32, Times64, Times128}
+use Rattle.needle_angles.specs.Inner.NeedleAngles.{NeedleAngle, NeedleRatio, OfClass, angle_of, ratio_of}
 use Rattle.needle_angles.proofs.Opposite.{has_room, edges_near, edges_far}
 use Rattle.needle_angles.proofs.LeftOver.{Step, are_all}
 use Rattle.needle_angles.proofs.Table.{first, first_all, second, second_all, third, third_all, fourth, fourth_all, fifth, fifth_all}
@@ -152,7 +153,7 @@ module _ (K : ℕ) (some : 0 < K) (θ : Float) (κ : ℕ) (m : Float) (steps : L
 -- ---- the classes
 
 module _ {least most short long : Float} (p : Plain least most long) where
-  pub needle_10 : T (le (most ⊗ f32 0x42ca0000) short) → NeedleClass least most short long 10
+  pub needle_10 : T (le (most ⊗ f32 0x42ca0000) short) → OfClass least most short long Times10
   unfolding IsLe angle_of ratio_of
   needle_10 h =
       let r = of_class 10 (le_by_compare 1 10 tt) (f32 0x3e570a3d) 0x3f7a7000 (f32 0x3fbbe819) first first_all 0x3f7a7800 8014 tt tt tt (f32 0x41200000)
@@ -168,7 +169,7 @@ module _ {least most short long : Float} (p : Plain least most long) where
             (2 ^ 165) tt;
       }
 
-  pub needle_16 : T (le (most ⊗ f32 0x43808000) short) → NeedleClass least most short long 16
+  pub needle_16 : T (le (most ⊗ f32 0x43808000) short) → OfClass least most short long Times16
   unfolding IsLe angle_of ratio_of
   needle_16 h =
       let r = of_class 16 (le_by_compare 1 16 tt) (f32 0x3e051eb8) 0x3f7de000 (f32 0x3fc0ddf9) second second_all 0x3f7de800 8124 tt tt tt (f32 0x41800000)
@@ -184,7 +185,7 @@ module _ {least most short long : Float} (p : Plain least most long) where
             (2 ^ 165) tt;
       }
 
-  pub needle_32 : T (le (most ⊗ f32 0x44802000) short) → NeedleClass least most short long 32
+  pub needle_32 : T (le (most ⊗ f32 0x44802000) short) → OfClass least most short long Times32
   unfolding IsLe angle_of ratio_of
   needle_32 h =
       let r = of_class 32 (le_by_compare 1 32 tt) (f32 0x3d8f5c29) 0x3f7f6000 (f32 0x3fc4bf94) third third_all 0x3f7f6800 8172 tt tt tt (f32 0x42000000)
@@ -200,7 +201,7 @@ module _ {least most short long : Float} (p : Plain least most long) where
             (2 ^ 165) tt;
       }
 
-  pub needle_64 : T (le (most ⊗ f32 0x45800800) short) → NeedleClass least most short long 64
+  pub needle_64 : T (le (most ⊗ f32 0x45800800) short) → OfClass least most short long Times64
   unfolding IsLe angle_of ratio_of
   needle_64 h =
       let r = of_class 64 (le_by_compare 1 64 tt) (f32 0x3d4ccccd) 0x3f7fb000 (f32 0x3fc5efc0) fourth fourth_all 0x3f7fb800 8182 tt tt tt (f32 0x42800000)
@@ -216,7 +217,7 @@ module _ {least most short long : Float} (p : Plain least most long) where
             (2 ^ 165) tt;
       }
 
-  pub needle_128 : T (le (most ⊗ f32 0x46800200) short) → NeedleClass least most short long 128
+  pub needle_128 : T (le (most ⊗ f32 0x46800200) short) → OfClass least most short long Times128
   unfolding IsLe angle_of ratio_of
   needle_128 h =
       let r = of_class 128 (le_by_compare 1 128 tt) (f32 0x3d23d70a) 0x3f7fd000 (f32 0x3fc68fcd) fifth fifth_all 0x3f7fd800 8186 tt tt tt (f32 0x43000000)
@@ -231,10 +232,3 @@ module _ {least most short long : Float} (p : Plain least most long) where
         high = le_by_compare (16385 * 2 ^ 149)
             (2 ^ 165) tt;
       }
-
-pub no_needle : (least most short long : Float) → NeedleClass least most short long 0
-unfolding angle_of ratio_of
-no_needle least most short long = record {
-  angle = record { bound = λ x y z fx fy fz a b c d e f. record { most = λ u v t o n. absurd (unfold is_nan in n) } };
-  ratio = record { bound = λ x y z fx fy fz a b c d e f. no_edge_bound (root x) (root y) (root z) };
-}

@@ -4,6 +4,8 @@
 
 ghost use Rattle.needle_limits.specs.Inner.Needles.{NeedleLimit, ClassLimits, ClassLimit};
 
+use needle_angles::NeedleClass;
+
 // Limits for `is_thin`, of the classes with edges 10, 16, 32, 64 and 128 times as long.
 #[derive(Clone, Copy)]
 pub struct NeedleLimits {
@@ -47,24 +49,15 @@ pub fn needle_limits(threshold: f32) -> NeedleLimits
     }
 }
 
-// The limit of a class; of none one that passes no triangle.
-pub fn class_limit(l: NeedleLimits, class: u32) -> f32
+// The limit of a class.
+pub fn class_limit(l: NeedleLimits, class: NeedleClass) -> f32
     ensures { ClassLimit l class result }
 {
-    if class == 10 {
-        return l.times_10;
+    match class {
+        NeedleClass::Times10 => l.times_10,
+        NeedleClass::Times16 => l.times_16,
+        NeedleClass::Times32 => l.times_32,
+        NeedleClass::Times64 => l.times_64,
+        NeedleClass::Times128 => l.times_128,
     }
-    if class == 16 {
-        return l.times_16;
-    }
-    if class == 32 {
-        return l.times_32;
-    }
-    if class == 64 {
-        return l.times_64;
-    }
-    if class == 128 {
-        return l.times_128;
-    }
-    -1.0
 }

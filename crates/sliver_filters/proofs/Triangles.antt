@@ -2,7 +2,6 @@
 -- angles (`slivers_along`), or are thin needles (`needles_along`), have a low score in each order, whichever edge is
 -- the longest or the shortest (`slivers_turned`, `slivers_swapped`). Assumes nothing.
 use mathlib.Core.Path.{◌≡◌, ◌∙◌}
-use Prim.Native.Nat.{ℕ}
 use lib.Dec.{T}
 use lib.Ieee.{Float, binary32, lt, le, fits}
 use Rattle.numbers.specs.Rounded.{f32, ◌⊗◌}
@@ -26,7 +25,8 @@ use Rattle.thin.specs.Inner.Thin.{ThinLimit, AllThin, LongerThan, ThinUpTo}
 use Rattle.thin.proofs.Thin.{not_below}
 use Rattle.slivers.specs.Inner.Slivers.{SmallAngles}
 use Rattle.cosines.specs.Inner.Cosine.{NarrowAngle, AtLeast}
-use Rattle.needle_angles.specs.Inner.NeedleAngles.{NeedleClass}
+use Rattle.needle_angles.specs.declared.NeedleClass.{NeedleClass}
+use Rattle.needle_angles.specs.Inner.NeedleAngles.{OfClass}
 use Rattle.needle_limits.specs.Inner.Needles.{ClassLimit}
 use Rattle.sliver_filters.specs.declared.SliverFilter.{SliverFilter}
 use Rattle.sliver_filters.specs.Inner.SliversWithin.{Filtering, HeldIn, ThinWithin, TriangleWithin, LowEach, SliversWithin}
@@ -116,8 +116,8 @@ module _ (l : SliverFilter) (a b c : Interval) (cross : Float) (at_first : Narro
 
 -- ---- needles
 
-pub needles_along : (l : SliverFilter) (a b c : Interval) (cross : Float) {r : Interval} {k : ℕ} {limit : Float} → Joined b c r
-    → NeedleClass a.lo a.hi r.lo r.hi k → ClassLimit l.needles k limit → ThinWithin limit a b c cross → SliversWithin l a b c cross
+pub needles_along : (l : SliverFilter) (a b c : Interval) (cross : Float) {r : Interval} {k : NeedleClass} {limit : Float} → Joined b c r
+    → OfClass a.lo a.hi r.lo r.hi k → ClassLimit l.needles k limit → ThinWithin limit a b c cross → SliversWithin l a b c cross
 needles_along l a b c cross {r} joined class limits slim = record {
   low =
       λ threshold g p q t h.

@@ -71,7 +71,9 @@ fn is_needle_along(l: SliverFilter, a: Interval, b: Interval, c: Interval, cross
         return false;
     }
     let others = intervals::joined(b, c);
-    let class = needle_angles::needle_class(a.lo, a.hi, others.lo, others.hi);
+    let Some(class) = needle_angles::needle_class(a.lo, a.hi, others.lo, others.hi) else {
+        return false;
+    };
     let limit = needle_limits::class_limit(l.needles, class);
     is_thin_within(a, b, c, cross, limit)
 }

@@ -3,59 +3,39 @@ use mathlib.Core.Path.{◌≡◌}
 use mathlib.Core.Bool.{true}
 use lib.Ieee.{Float, le}
 use Rattle.numbers.specs.Rounded.{f32, ◌⊗◌}
-use Rattle.needle_angles.proofs.Squares.{Plain, needle_10, needle_16, needle_32, needle_64, needle_128, no_needle}
+use Rattle.needle_angles.proofs.Squares.{Plain, needle_10, needle_16, needle_32, needle_64, needle_128}
 use Rattle.needle_angles.proofs.needle_class.Goals as goal
 
 plain : (least most long : Float) → le (f32 0x2b800000) least ≡ true → le most (f32 0x4c800000) ≡ true → le long (f32 0x4c800000) ≡ true
     → le long (least ⊗ f32 0x4c800000) ≡ true → Plain least most long
 plain least most long h i j k = record { from = rw h tt; most_under = rw i tt; long_under = rw j tt; far = rw k tt }
 
-pub returns-then-not-least : goal.returns-then-not-least
-returns-then-not-least c = no_needle _ _ _ _
-
-pub returns-then-not-most : goal.returns-then-not-most
-returns-then-not-most c = no_needle _ _ _ _
-
-pub returns-then-not-long : goal.returns-then-not-long
-returns-then-not-long c = no_needle _ _ _ _
-
-pub returns-then-not-long-least : goal.returns-then-not-long-least
-returns-then-not-long-least c = no_needle _ _ _ _
-
 pub returns-then-most-short : goal.returns-then-most-short
 returns-then-most-short c =
-    let x = c in
-    let a = x.args in
-    needle_128 (plain a.least a.most a.long x.if-not-least.false x.if-not-most.false x.if-not-long.false
-    x.if-not-long-least.false) (rw c.if-most-short.true tt)
+    let a = c.args in
+    needle_128 (plain a.least a.most a.long c.if-not-least.false c.if-not-most.false c.if-not-long.false
+    c.if-not-long-least.false) (rw c.if-most-short.true tt)
 
 pub returns-then-most-short-2 : goal.returns-then-most-short-2
 returns-then-most-short-2 c =
-    let x = c in
-    let a = x.args in
-    needle_64 (plain a.least a.most a.long x.if-not-least.false x.if-not-most.false x.if-not-long.false x.if-not-long-least.false)
+    let a = c.args in
+    needle_64 (plain a.least a.most a.long c.if-not-least.false c.if-not-most.false c.if-not-long.false c.if-not-long-least.false)
     (rw c.if-most-short-2.true tt)
 
 pub returns-then-most-short-3 : goal.returns-then-most-short-3
 returns-then-most-short-3 c =
-    let x = c in
-    let a = x.args in
-    needle_32 (plain a.least a.most a.long x.if-not-least.false x.if-not-most.false x.if-not-long.false x.if-not-long-least.false)
+    let a = c.args in
+    needle_32 (plain a.least a.most a.long c.if-not-least.false c.if-not-most.false c.if-not-long.false c.if-not-long-least.false)
     (rw c.if-most-short-3.true tt)
 
 pub returns-then-most-short-4 : goal.returns-then-most-short-4
 returns-then-most-short-4 c =
-    let x = c in
-    let a = x.args in
-    needle_16 (plain a.least a.most a.long x.if-not-least.false x.if-not-most.false x.if-not-long.false x.if-not-long-least.false)
+    let a = c.args in
+    needle_16 (plain a.least a.most a.long c.if-not-least.false c.if-not-most.false c.if-not-long.false c.if-not-long-least.false)
     (rw c.if-most-short-4.true tt)
 
 pub returns-then-most-short-5 : goal.returns-then-most-short-5
 returns-then-most-short-5 c =
-    let x = c in
-    let a = x.args in
-    needle_10 (plain a.least a.most a.long x.if-not-least.false x.if-not-most.false x.if-not-long.false x.if-not-long-least.false)
+    let a = c.args in
+    needle_10 (plain a.least a.most a.long c.if-not-least.false c.if-not-most.false c.if-not-long.false c.if-not-long-least.false)
     (rw c.if-most-short-5.true tt)
-
-pub returns : goal.returns
-returns c = no_needle _ _ _ _
