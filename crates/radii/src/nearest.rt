@@ -31,10 +31,8 @@ fn take_roots(f: &mut [f32], at: usize, count: usize)
     ensures { (take count (drop at f.new) ≡ map root (take count (drop at f.old)))
         × (take at f.new ≡ take at f.old) }
 {
-    let mut k: usize = 0;
-    while k < count {
-        f[at + k] = numbers::sqrt(f[at + k]);
-        k += 1;
+    for x in f[at..at + count].iter_mut() {
+        *x = numbers::sqrt(*x);
     }
 }
 

@@ -14,9 +14,9 @@ use Rattle.radii.proofs.compute_adaptive_radii.Goals as goal
 
 pub returns-then-not-config : goal.returns-then-not-config
 returns-then-not-config c =
-    let s = c in (
+    (
       subst (λ (xs : List Float). RadiiListed xs (record { list = replicate 17 (f32 0); count = 0 }))
-          (radii_off s.args.config s.args.grid s.args.points.now s.args.n c.if-not-config.true) listed_none,
+          (radii_off c.args.config c.args.grid c.args.points.now c.args.n c.if-not-config.true) listed_none,
       refl,
       refl,
     )
@@ -25,14 +25,12 @@ pub returns-then-count-eq0 : goal.returns-then-count-eq0
 returns-then-count-eq0 c =
     let measure = c.measure-count in
     let if1 = c.if-not-config in
-    let start = c in
-    let s = start in
     let m = measure in
     let u : List Float = m.new.f in (
       subst (λ (xs : List Float). RadiiListed xs (record { list = replicate 17 (f32 0); count = 0 }))
-          (radii_none s.args.config u
-          (densities_from s.args.config s.args.grid s.args.points.now s.args.n (step_of s.args.n) 0 (sample_count s.args.n))
-          (ap (λ (k : ℕ). take k u) (sym c.if-count-eq0.true) ∙ m.ensures.0) ∙ radii_on s.args.config s.args.grid s.args.points.now s.args.n
+          (radii_none c.args.config u
+          (densities_from c.args.config c.args.grid c.args.points.now c.args.n (step_of c.args.n) 0 (sample_count c.args.n))
+          (ap (λ (k : ℕ). take k u) (sym c.if-count-eq0.true) ∙ m.ensures.0) ∙ radii_on c.args.config c.args.grid c.args.points.now c.args.n
           if1.false) listed_none,
       m.ensures.2,
       m.ensures.3,
@@ -43,15 +41,13 @@ returns c =
     let if2 = c.if-count-eq0 in
     let measure = c.measure-count in
     let if1 = c.if-not-config in
-    let start = c in
-    let s = start in
     let m = measure in
     let u : List Float = m.new.f in (
       subst (λ (xs : List Float). RadiiListed xs c.choose.result)
-          (radii_some s.args.config u
-          (densities_from s.args.config s.args.grid s.args.points.now s.args.n (step_of s.args.n) 0 (sample_count s.args.n)) m.result
-          (omega (arith, if2.false)) (omega (arith, m.ensures.1, m.auto.f, s.requires.room)) m.ensures.0 ∙ radii_on s.args.config
-          s.args.grid s.args.points.now s.args.n if1.false) c.choose.ensures,
+          (radii_some c.args.config u
+          (densities_from c.args.config c.args.grid c.args.points.now c.args.n (step_of c.args.n) 0 (sample_count c.args.n)) m.result
+          (omega (arith, if2.false)) (omega (arith, m.ensures.1, m.auto.f, c.requires.room)) m.ensures.0 ∙ radii_on c.args.config
+          c.args.grid c.args.points.now c.args.n if1.false) c.choose.ensures,
       m.ensures.2,
       m.ensures.3,
     )

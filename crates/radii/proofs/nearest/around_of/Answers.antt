@@ -9,7 +9,6 @@ use Rattle.radii.proofs.nearest.around_of.Goals as goal
 pub returns : goal.returns
 unfolding range_of
 returns c =
-    let s = c in
-    let around : ℕ → Cell → Around = λ (range : ℕ) (cell : Cell). record { indexed = s.args.config.use_spatial_index; range = range; cell = cell } in
+    let around : ℕ → Cell → Around = λ (range : ℕ) (cell : Cell). record { indexed = c.args.config.use_spatial_index; range = range; cell = cell } in
     ap (λ (range : ℕ). around range c.cell_of-cell.result) c.ceil_cut.ensures ∙ ap (around _)
     c.cell_of-cell.ensures
