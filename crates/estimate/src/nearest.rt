@@ -12,6 +12,9 @@ ghost use Rattle.estimate.specs.Inner.Squares.{lesser_square, least_square, Look
 
 use spatial_hash::Hash;
 
+// So often a look goes near by before one goes everywhere.
+const LOOKS: usize = 6;
+
 pub fn infinity() -> f32
     ensures { result ≡ inf false }
 {
@@ -38,10 +41,8 @@ fn least_square(points: &[f32], n: usize, i: usize, w: &[u32], found: usize) -> 
         ≡ least_square points.now i (inf false) (take found (drop (neighbors_at n) w.now)) }
 {
     let mut s = infinity();
-    let mut k: usize = 0;
-    while k < found {
+    for k in 0..found {
         s = lesser(points, i, w[regions::NEIGHBORS * n + k] as usize, s);
-        k += 1;
     }
     s
 }
@@ -77,14 +78,12 @@ pub fn least_distance(
 {
     let everywhere = infinity();
     let mut limit = guess * guess;
-    let mut tries: u32 = 0;
-    while tries < 6 {
+    for _look in 0..LOOKS {
         let s = look_within(points, n, hash, i, limit, w);
         if s <= limit {
             return numbers::sqrt(s);
         }
         limit = wider(limit, s);
-        tries += 1;
     }
     let least = look_within(points, n, hash, i, everywhere, w);
     numbers::sqrt(least)
@@ -95,23 +94,16 @@ pub fn guess_spacing(points: &[f32], n: usize) -> f32
     requires { (n ≤ 4096) × (3 * n ≤ length points.now) }
 {
     let mut far = 0.0;
-    let mut i: usize = 0;
-    while i < n {
+    for i in 0..n {
         far = numbers::max(
             far,
             vector::distance_squared(points::point_at(points, i), points::point_at(points, 0)),
         );
-        i += 1;
     }
     numbers::sqrt(far / n as f32)
 }
 
 // A guess for the next sample: a little more than the distance of the last one, if it has one.
 pub fn guess_after(guess: f32, d: f32) -> f32 {
-    if d < infinity() {
-        if d > 0.0 {
-            return d * 1.5;
-        }
-    }
-    guess
+    if d < infinity() && d > 0.0 { d * 1.5 } else { guess }
 }

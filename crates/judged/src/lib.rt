@@ -29,13 +29,9 @@ fn is_beside(
     requires { FilterAround s points.now w.now radius f i × (k < s.n) }
     ensures { result ≡ is_beside s points.now radius i k }
 {
-    if i == k {
-        return false;
-    }
-    if !grid::search::is_near(w, s.n, s.indexed, f.range, f.cell, k) {
-        return false;
-    }
-    decisions::is_close(points, radius, i, k)
+    i != k
+        && (grid::search::is_near(w, s.n, s.indexed, f.range, f.cell, k)
+            && decisions::is_close(points, radius, i, k))
 }
 
 // Whether it is another one than j, and close to it, besides.
@@ -52,13 +48,8 @@ fn is_beside_both(
     requires { FilterAround s points.now w.now radius f i × (j < s.n) × (k < s.n) }
     ensures { result ≡ is_beside_both s points.now radius i j k }
 {
-    if j == k {
-        return false;
-    }
-    if !is_beside(s, points, w, radius, f, i, k) {
-        return false;
-    }
-    decisions::is_close(points, radius, j, k)
+    j != k
+        && (is_beside(s, points, w, radius, f, i, k) && decisions::is_close(points, radius, j, k))
 }
 
 // Whether one of the listed points is.
@@ -76,10 +67,8 @@ fn find_third(
     ensures { result ≡ any (is_beside_both s points.now radius i j)
         (neighbors_listed s w.now count) }
 {
-    let mut m: usize = 0;
-    while m < count {
+    for m in 0..count {
         let k = nearby::listed_point(s, w, count, m);
-        m += 1;
         if is_beside_both(s, points, w, radius, f, i, j, k) {
             return true;
         }
@@ -101,10 +90,7 @@ fn has_third(
     requires { FilterAround s points.now w.now radius f i × NeighborsListed s w.now count × (j < s.n) }
     ensures { result ≡ has_third s points.now radius (neighbors_listed s w.now count) i j }
 {
-    if !is_beside(s, points, w, radius, f, i, j) {
-        return false;
-    }
-    find_third(s, points, w, count, radius, f, i, j)
+    is_beside(s, points, w, radius, f, i, j) && find_third(s, points, w, count, radius, f, i, j)
 }
 
 // Whether one of the listed points does.
@@ -121,10 +107,8 @@ fn find_second(
     ensures { result ≡ any (has_third s points.now radius (neighbors_listed s w.now count) i)
         (neighbors_listed s w.now count) }
 {
-    let mut m: usize = 0;
-    while m < count {
+    for m in 0..count {
         let j = nearby::listed_point(s, w, count, m);
-        m += 1;
         if has_third(s, points, w, count, radius, f, i, j) {
             return true;
         }
@@ -148,16 +132,10 @@ pub fn is_any_judged(s: Scene, points: &[f32], w: &mut [u32], radius: f32, hash:
     requires { Fresh s hash points.now w.old }
     ensures { result ≡ reaches (floats_of s points.now) s.n radius }
 {
-    let n = s.n;
-    let mut i: usize = 0;
-    while i < n {
-        if TRIED <= i {
-            return false;
-        }
+    for i in 0..s.n.min(TRIED) {
         if is_first(s, points, w, radius, hash, i) {
             return true;
         }
-        i += 1;
     }
     false
 }

@@ -1,44 +1,29 @@
 -- `find_second` meets its contract. The loop's invariant: what is among all listed points is among those from m on.
 -- Assumes nothing.
-use native.Mathlib.Omega.{arith}
 use Rattle.nearby.specs.Inner.Ready.{neighbors_listed}
 use Rattle.judged.specs.Inner.Triples.{has_third}
 use Rattle.judged.proofs.Triples.{seek_start, seek_hit, seek_miss, seek_end}
 use Rattle.judged.proofs.find_second.Goals as goal
 
 pub loop-m-init : goal.loop-m-init
-loop-m-init c = let a = c in seek_start (has_third c.args.s c.args.points.now c.args.radius (neighbors_listed c.args.s c.args.w.now c.args.count) c.args.i) a.requires.0.held a.requires.1
+loop-m-init c = seek_start (has_third c.args.s c.args.points.now c.args.radius (neighbors_listed c.args.s c.args.w.now c.args.count) c.args.i) c.requires.0.held c.requires.1
 
 pub listed_point-j-requires : goal.listed_point-j-requires
 listed_point-j-requires c =
-    let a = c in
-    (a.requires.0.held.few, a.requires.0.held.work_long, a.requires.1, c.loop-m-test.true)
-
-pub overflow_add-m : goal.overflow_add-m
-overflow_add-m c =
-    let a = c in
-    omega (arith, c.loop-m-test.true, a.requires.1.most, a.requires.0.held.few)
+    (c.requires.0.held.few, c.requires.0.held.work_long, c.requires.1, c.loop-m-test.true)
 
 pub has_third-requires : goal.has_third-requires
-has_third-requires c = let a = c in
-    (a.requires.0, a.requires.1, c.listed_point-j.ensures.1)
+has_third-requires c = (c.requires.0, c.requires.1, c.listed_point-j.ensures.1)
 
 pub returns-then-has_third : goal.returns-then-has_third
 returns-then-has_third c =
-    let p = c in
-    let l = p in
-    seek_hit (has_third c.args.s c.args.points.now c.args.radius (neighbors_listed c.args.s c.args.w.now c.args.count) c.args.i) l.loop-m.invariant p.loop-m-test.true p.listed_point-j.ensures.0 c.has_third.ensures
+    seek_hit (has_third c.args.s c.args.points.now c.args.radius (neighbors_listed c.args.s c.args.w.now c.args.count) c.args.i) c.loop-m.invariant c.loop-m-test.true c.listed_point-j.ensures.0 c.has_third.ensures
     c.if-has_third.true
-
-pub loop-m-smaller : goal.loop-m-smaller
-loop-m-smaller c = omega (arith, c.loop-m-test.true)
 
 pub loop-m-preserved : goal.loop-m-preserved
 loop-m-preserved c =
-    let p = c in
-    let l = p in
-    seek_miss (has_third c.args.s c.args.points.now c.args.radius (neighbors_listed c.args.s c.args.w.now c.args.count) c.args.i) l.loop-m.invariant p.loop-m-test.true p.listed_point-j.ensures.0 c.has_third.ensures
+    seek_miss (has_third c.args.s c.args.points.now c.args.radius (neighbors_listed c.args.s c.args.w.now c.args.count) c.args.i) c.loop-m.invariant c.loop-m-test.true c.listed_point-j.ensures.0 c.has_third.ensures
     c.if-has_third.false
 
 pub returns : goal.returns
-returns c = let l = c in seek_end (has_third c.args.s c.args.points.now c.args.radius (neighbors_listed c.args.s c.args.w.now c.args.count) c.args.i) l.loop-m.invariant c.loop-m-test.false
+returns c = seek_end (has_third c.args.s c.args.points.now c.args.radius (neighbors_listed c.args.s c.args.w.now c.args.count) c.args.i) c.loop-m.invariant c.loop-m-test.false

@@ -1,12 +1,8 @@
 -- `find_third` meets its contract. The loop's invariant: what is among all listed points is among those from m on.
 -- Assumes nothing.
-use Prim.Native.Nat.{◌-◌}
 use Rattle.judged.specs.Inner.Triples.{is_beside_both}
 use Rattle.judged.proofs.Triples.{Seeking}
 use Rattle.judged.proofs.find_third.Given as goal
 
 abbrev pub invariant-loop-m : goal.invariant-loop-m
 invariant-loop-m l = Seeking (is_beside_both l.s l.points l.radius l.i l.j) l.s l.w l.count l.m
-
-abbrev pub decreases-loop-m : goal.decreases-loop-m
-decreases-loop-m l = l.count - l.m

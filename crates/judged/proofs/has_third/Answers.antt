@@ -6,14 +6,13 @@ use Rattle.judged.proofs.has_third.Goals as goal
 pub is_beside-requires : goal.is_beside-requires
 is_beside-requires c = (c.requires.0, c.requires.2)
 
-pub returns-then-not-is_beside : goal.returns-then-not-is_beside
-unfolding has_third
-returns-then-not-is_beside c = rw (sym c.is_beside.ensures, c.if-not-is_beside.true)
-
 pub find_third-requires : goal.find_third-requires
 find_third-requires c = c.requires
 
-pub returns : goal.returns
+pub returns-then-is_beside : goal.returns-then-is_beside
 unfolding has_third
-returns c =
-    rw (sym c.is_beside.ensures, c.if-not-is_beside.false) c.find_third.ensures
+returns-then-is_beside c = rw (sym c.is_beside.ensures, c.if-is_beside.true) c.find_third.ensures
+
+pub returns-else-is_beside : goal.returns-else-is_beside
+unfolding has_third
+returns-else-is_beside c = rw (sym c.is_beside.ensures, c.if-is_beside.false)

@@ -8,15 +8,9 @@ use Rattle.judged.proofs.is_any_judged.Goals as goal
 pub loop-i-init : goal.loop-i-init
 loop-i-init c = ask_start c.requires
 
-pub shape_of-w-then-i-ge-TRIED : goal.shape_of-w-then-i-ge-TRIED
-shape_of-w-then-i-ge-TRIED c = c.loop-i.invariant.words
-
-pub returns-then-i-ge-TRIED : goal.returns-then-i-ge-TRIED
-returns-then-i-ge-TRIED c = ask_none c.loop-i.invariant (λ t. omega (arith, t.tried, c.if-i-ge-TRIED.true))
-
 pub is_first-requires : goal.is_first-requires
 is_first-requires c =
-    (c.loop-i.invariant.fresh, c.loop-i-test.true, omega (arith, c.if-i-ge-TRIED.false))
+    (c.loop-i.invariant.fresh, omega (arith, c.loop-i-test.true), omega (arith, c.loop-i-test.true))
 
 pub shape_of-w-then-is_first : goal.shape_of-w-then-is_first
 shape_of-w-then-is_first c =
@@ -24,15 +18,6 @@ shape_of-w-then-is_first c =
 
 pub returns-then-is_first : goal.returns-then-is_first
 returns-then-is_first c = ask_some c.is_first.ensures.0 c.if-is_first.true
-
-pub overflow_add-i : goal.overflow_add-i
-overflow_add-i c =
-    let loop-test = c.loop-i-test in
-    let loop = c.loop-i in
-    omega (arith, loop-test.true, loop.invariant.fresh.held.few)
-
-pub loop-i-smaller : goal.loop-i-smaller
-loop-i-smaller c = omega (arith, c.loop-i-test.true)
 
 pub loop-i-preserved : goal.loop-i-preserved
 loop-i-preserved c =
@@ -43,4 +28,4 @@ pub shape_of-w : goal.shape_of-w
 shape_of-w c = c.loop-i.invariant.words
 
 pub returns : goal.returns
-returns c = ask_none c.loop-i.invariant (λ t. omega (arith, t.point, c.loop-i-test.false))
+returns c = ask_none c.loop-i.invariant (λ t. omega (arith, t.point, t.tried, c.loop-i-test.false))

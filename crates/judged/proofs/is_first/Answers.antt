@@ -15,20 +15,18 @@ point_at-place-requires c = omega (arith, c.requires.1, c.requires.0.held.points
 
 pub gather_near-count-requires : goal.gather_near-count-requires
 gather_near-count-requires c =
-    let start = c in
-    let p = start.requires in (
+    let p = c.requires in (
       p.0.hashed,
       subst Finite (sym (c.filter_of-f.ensures.center_is ∙ c.point_at-place.ensures))
-          (p.0.hashed.linked.ready.numbers start.args.i p.1),
+          (p.0.hashed.linked.ready.numbers c.args.i p.1),
     )
 
 pub find_second-requires : goal.find_second-requires
 find_second-requires c =
     let filter-of = c.filter_of-f in
     let point_at_lem = c.point_at-place in
-    let start = c in
-    let a = start.args in
-    let p = start.requires in
+    let a = c.args in
+    let p = c.requires in
     let g = c.gather_near-count in
     let h = held_kept g.new.w p.0.held g.auto.w in (
       record {
@@ -45,9 +43,8 @@ returns c =
     let gather-near = c.gather_near-count in
     let filter-of = c.filter_of-f in
     let point_at_lem = c.point_at-place in
-    let start = c in
-    let a = start.args in
-    let p = start.requires in
+    let a = c.args in
+    let p = c.requires in
     let g = gather-near in
     let fs = subst (λ (q : Point3f). Filters a.s q q (reach a.radius) filter-of.result) point_at_lem.ensures filter-of.ensures in
     (first_told a.radius a.i p.0 p.1 p.2 fs g.ensures c.find_second.ensures, g.ensures.kept)

@@ -5,18 +5,18 @@ use lib.Ieee.{Float, le}
 use borrow.Author.Rules.{rules}
 use Rattle.estimate.proofs.nearest.least_distance.Goals as goal
 
-pub loop-tries-init : goal.loop-tries-init
-loop-tries-init c = let s = c in (s.requires.1, refl, search rules)
+pub loop-look-init : goal.loop-look-init
+loop-look-init c = (c.requires.1, refl)
 
 pub returns-then-s-limit : goal.returns-then-s-limit
 returns-then-s-limit c =
     let r = c.look_within-s.ensures in
     (c.sqrt.ensures ∙ r.decides (subst T (sym c.if-s-limit.true) tt), r.hashed)
 
-pub loop-tries-preserved : goal.loop-tries-preserved
-loop-tries-preserved c =
+pub loop-look-preserved : goal.loop-look-preserved
+loop-look-preserved c =
     let l = c.look_within-s in
-    (l.ensures.hashed, search rules, search rules)
+    (l.ensures.hashed, search rules)
 
 pub returns : goal.returns
 returns c =

@@ -7,27 +7,23 @@ use Rattle.estimate.proofs.Looking.{looked}
 use Rattle.estimate.proofs.nearest.look_within.Goals as goal
 
 pub gather_within-found-requires : goal.gather_within-found-requires
-gather_within-found-requires c =
-    let s = c in (
-      s.requires.1.linked,
-      subst (λ (p : Point3f). Finite p) (sym c.point_at-place.ensures)
-          (s.requires.1.linked.ready.numbers s.args.i s.requires.0),
-    )
+gather_within-found-requires c = (
+  c.requires.1.linked,
+  subst (λ (p : Point3f). Finite p) (sym c.point_at-place.ensures)
+      (c.requires.1.linked.ready.numbers c.args.i c.requires.0),
+)
 
 pub least_square-requires : goal.least_square-requires
 least_square-requires c =
-    let s = c in
     let g = c.gather_within-found in
-    let r = s.requires.1.linked.ready in
-    (s.requires.0, r.few, g.ensures.most, r.points_long, omega (arith, r.work_long, g.auto.w), g.ensures.surrounds.below)
+    let r = c.requires.1.linked.ready in
+    (c.requires.0, r.few, g.ensures.most, r.points_long, omega (arith, r.work_long, g.auto.w), g.ensures.surrounds.below)
 
 pub returns : goal.returns
 returns c =
     let gather-within = c.gather_within-found in
     let point_at_lem = c.point_at-place in
-    let start = c in
-    let s = start in
     let p = point_at_lem in
     let g = gather-within in
-    looked s.args.hash s.args.points.now s.args.n s.args.i s.args.limit s.args.w.now g.new.w p.result g.result
-    c.least_square.result s.requires.0 s.requires.1 g.auto.w p.ensures g.ensures c.least_square.ensures
+    looked c.args.hash c.args.points.now c.args.n c.args.i c.args.limit c.args.w.now g.new.w p.result g.result
+    c.least_square.result c.requires.0 c.requires.1 g.auto.w p.ensures g.ensures c.least_square.ensures
