@@ -1,19 +1,16 @@
--- Entries taken and pushed, points marked, a face written, flags cleared. Assumes nothing.
-use Prim.Native.Nat.{ℕ, zero, suc, ◌+◌, ◌-◌, ◌*◌, ◌≤◌, ◌<◌}
-use mathlib.Core.Path.{◌≡◌, refl, sym, ap, ap₂, ◌∙◌}
+-- Entries taken and pushed, points marked, a face written. Assumes nothing.
+use Prim.Native.Nat.{ℕ, ◌+◌, ◌-◌, ◌*◌, ◌≤◌, ◌<◌}
+use mathlib.Core.Path.{◌≡◌, sym, ap, ap₂, ◌∙◌}
 use mathlib.Core.List.{List, [], ◌∷◌, ◌++◌, append_assoc}
-use mathlib.Core.Option.{some}
 use native.Mathlib.Omega.{arith}
-use lib.ListN.{length, get_or, take, drop, set, replicate, length-set, length-drop}
-use lib.Seq.{get_or-take, drop-set-add, take-set-lt, take-suc-set}
+use lib.ListN.{length, get_or, take, drop, set, length-drop}
+use lib.Seq.{get_or-take, drop-set-add, take-set-lt}
 use borrow.Rule.Slice.PartMut.{put_mid}
-use Rattle.lists.specs.Lists.{count}
 use Rattle.patch.specs.Lay.{face, marked}
 use Rattle.patch.specs.Frontier.{after_pop}
 use Rattle.patch.proofs.View.{written_more, written_full, length_written}
-use Rattle.regions.specs.Inner.Regions.{used_in}
-use Rattle.laying_words.specs.Inner.Words.{entries_in, WordsSized, OnlyIn, Taken, Pushed, WordsMarked, WroteFace}
-use Rattle.laying_words.proofs.Slices.{only_none, only_set, only_wider, only_both, word_stored, tail_is, back, only_tail}
+use Rattle.laying_words.specs.Inner.Words.{entries_in, WordsSized, Taken, Pushed, WordsMarked, WroteFace}
+use Rattle.laying_words.proofs.Slices.{only_set, only_wider, only_both, word_stored, tail_is, back, only_tail}
 
 module _ (n first count : ℕ) (w ys : List ℕ) (r : ℕ) (sized : WordsSized n w) (some-wait : 0 < count) (few : first + count ≤ 3 * n) where
   pub taken : let at = 6 * n + first in
@@ -77,34 +74,3 @@ module _ (count a b k : ℕ) (slice : List ℕ) where
 
   pub wrote_full : length slice < 3 * count + 3 → WroteFace count (face a b k) slice slice
   wrote_full h lent fs l e = e ∙ written_full fs (face a b k) lent (omega (arith, ap length e, length_written fs lent))
-
-replicate_more : (i : ℕ) → ◌++◌ {A = ℕ} (replicate i 0) (0 ∷ []) ≡ replicate (suc i) 0
-replicate_more zero = refl
-replicate_more (suc i) = ap (λ (l : List ℕ). 0 ∷ l) (replicate_more i)
-
--- i flags are cleared
-pub record Clearing (n : ℕ) (w₀ w : List ℕ) (i : ℕ) : Type 0 where
-  pub inside : i ≤ n
-  pub sized : WordsSized n w
-  pub zeros : take i (drop (5 * n) w) ≡ replicate i 0
-  pub only : OnlyIn (5 * n) (6 * n) w₀ w
-
-pub clearing_start : (n : ℕ) (w : List ℕ) → WordsSized n w → Clearing n w w 0
-clearing_start n w sized = record { inside = omega arith; sized = sized; zeros = refl; only = only_none (5 * n) (6 * n) w }
-
-pub clearing_step : (n : ℕ) (w₀ w : List ℕ) (i : ℕ) → Clearing n w₀ w i → i < n → Clearing n w₀ (set w (5 * n + i) 0) (i + 1)
-clearing_step n w₀ w i c h =
-    let s : i + 1 ≡ suc i = omega arith in
-    let l : i < length (drop (5 * n) w) = omega (arith, length-drop (5 * n) w, c.sized.long) in
-    record {
-      inside = omega arith;
-      sized = record { some = c.sized.some; few = c.sized.few; long = omega (arith, c.sized.long, length-set w (5 * n + i) 0) };
-      zeros = ap₂ (λ (j : ℕ) (xs : List ℕ). take j xs) s (drop-set-add (5 * n) w i 0) ∙ take-suc-set (drop (5 * n) w) i 0 l ∙ ap
-          (λ (xs : List ℕ). xs ++ (0 ∷ [])) c.zeros ∙ replicate_more i ∙ ap (λ (j : ℕ). replicate j 0) (sym s);
-      only = only_both c.only (only_set (5 * n) (6 * n) w (5 * n + i) 0 (omega arith) (omega arith));
-    }
-
-pub clearing_end : (n : ℕ) (w₀ w : List ℕ) (i : ℕ) → Clearing n w₀ w i → n ≤ i → (used_in n w ≡ replicate n 0) × OnlyIn (5 * n) (6 * n) w₀ w
-clearing_end n w₀ w i c h =
-    let e : i ≡ n = omega (arith, c.inside) in
-    (ap (λ (j : ℕ). take j (drop (5 * n) w)) (sym e) ∙ c.zeros ∙ ap (λ (j : ℕ). replicate j 0) e, c.only)

@@ -16,11 +16,8 @@ pub fn clear_used(w: &mut [u32], n: usize)
     ensures w_after { used_in n w.new ≡ replicate n 0 }
     ensures only_in { OnlyIn (used_at n) (frontier_at n) w.old w.new }
 {
-    let mut i: usize = 0;
-    while i < n {
-        w[regions::USED * n + i] = 0;
-        i += 1;
-    }
+    let at = regions::USED * n;
+    w[at..at + n].fill(0);
 }
 
 // Takes an entry out of the `count` ones that wait from `first` on, as a heap does.

@@ -1,7 +1,4 @@
 use Rattle.laying_words.proofs.Parts.{marked_three}
-use Rattle.laying_words.proofs.mark_seed.Reads as reads
-use Rattle.laying_words.proofs.mark_seed.Lts as lts
-use Rattle.laying_words.proofs.mark_used.Reads as mark-used-reads
 use Rattle.laying_words.proofs.mark_seed.Goals as goal
 
 pub returns : goal.returns

@@ -1,6 +1,4 @@
 use Rattle.laying_words.proofs.Parts.{marked_one}
-use Rattle.laying_words.proofs.mark_used.Reads as reads
-use Rattle.laying_words.proofs.mark_used.Lts as lts
 use Rattle.laying_words.proofs.mark_used.Goals as goal
 
 pub returns : goal.returns

@@ -1,7 +1,4 @@
 use Rattle.laying_words.proofs.Parts.{taken}
-use Rattle.laying_words.proofs.pop_frontier.Reads as reads
-use Rattle.laying_words.proofs.pop_frontier.Lts as lts
-use Rattle.laying_words.proofs.heap.pop.Reads as pop-reads
 use Rattle.laying_words.proofs.pop_frontier.Goals as goal
 
 pub returns : goal.returns

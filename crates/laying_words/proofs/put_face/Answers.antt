@@ -1,8 +1,6 @@
 use Rattle.laying_words.proofs.Parts.{wrote_more, wrote_full}
 use lib.ListN.{length-set}
 use native.Mathlib.Omega.{arith}
-use Rattle.laying_words.proofs.put_face.Reads as reads
-use Rattle.laying_words.proofs.put_face.Lts as lts
 use Rattle.laying_words.proofs.put_face.Goals as goal
 
 pub bounds-faces-i-then-i-faces : goal.bounds-faces-i-then-i-faces

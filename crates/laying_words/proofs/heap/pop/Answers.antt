@@ -1,8 +1,5 @@
 use Rattle.laying_words.proofs.Sifting.{pop_more, pop_none}
 use mathlib.Core.Path.{refl}
-use Rattle.laying_words.proofs.heap.pop.Reads as reads
-use Rattle.laying_words.proofs.heap.pop.Lts as lts
-use Rattle.laying_words.proofs.heap.sift_down.Reads as sift-down-reads
 use Rattle.laying_words.proofs.heap.pop.Goals as goal
 
 pub returns-then-left-gt0 : goal.returns-then-left-gt0

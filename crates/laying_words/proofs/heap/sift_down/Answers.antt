@@ -5,8 +5,6 @@ use borrow.Author.Rules.{rules}
 use mathlib.Core.Path.{refl}
 use lib.ListN.{length-set}
 use Rattle.laying_words.proofs.Sifting.{start, step, end_left, end_none}
-use Rattle.laying_words.proofs.heap.sift_down.Reads as reads
-use Rattle.laying_words.proofs.heap.sift_down.Lts as lts
 use Rattle.laying_words.proofs.heap.sift_down.Goals as goal
 
 pub loop-p-init : goal.loop-p-init

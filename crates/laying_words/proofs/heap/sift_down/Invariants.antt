@@ -4,8 +4,6 @@ use Prim.Native.Nat.{◌-◌, ◌≤◌, ◌<◌}
 use mathlib.Core.Path.{◌≡◌}
 use lib.ListN.{length}
 use Rattle.laying_words.proofs.Sifting.{Sifting}
-use Rattle.laying_words.proofs.heap.sift_down.Reads as reads
-use Rattle.laying_words.proofs.heap.sift_down.Lts as lts
 use Rattle.laying_words.proofs.heap.sift_down.Given as goal
 
 abbrev pub invariant-loop-p : goal.invariant-loop-p
