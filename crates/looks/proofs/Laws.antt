@@ -1,71 +1,51 @@
 -- Which way a face looks, by its parent's way, and sides as numbers. Assumes nothing.
-use mathlib.Core.Path.{◌≡◌, refl, sym, ap, ◌∙◌, subst}
+use mathlib.Core.Path.{◌≡◌, refl, sym, ap, ◌∙◌}
 use mathlib.Core.Bool.{Bool, true, false, cond, not}
 use mathlib.Core.Logic.{◌⊎◌, inl, inr, ⊎_elim, dite}
 use native.Mathlib.Decide.{dec_lt}
 use mathlib.Core.List.{List}
 use Prim.Native.Nat.{ℕ, zero, suc, ◌+◌, ◌≤◌, ◌<◌}
 use native.Mathlib.Omega.{arith}
-use lib.Dec.{eqb}
-use borrow.Author.Tests.{le-ltb}
+use mir.Val.{bool_byte}
+use lib.Dec.{eqb, leb, ltb}
+use borrow.Author.Tests.{le-leb, le-ltb}
 use lib.ListN.{length, get_or, set, length-set}
 use lib.Seq.{get_or-set_same, get_or-set_other}
-use Rattle.origins.specs.Sides.{out_after, in_after, looks_out, looks_in}
+use Rattle.origins.specs.Sides.{out_after, looks_out, looks_in}
 use Rattle.origins.proofs.Looking.{other_out, other_in, in_not_out}
 use Rattle.looks.specs.Inner.Looks.{parent_in, side_of, HasSides, SidesWritten}
 
--- the four ways out of the two functions, over the parent that was read and what the other function answered
+-- a seed, and a face whose parent p was asked
 module _ (parent : ℕ → ℕ) (face p : ℕ) (is : p ≡ parent face) where
   seed_out : (n : ℕ) → face ≤ p → true ≡ out_after n parent face
   unfolding out_after
   seed_out zero h = refl
   seed_out (suc n) h = rw (← is, le-ltb p face h)
 
-  seed_in_lem : (n : ℕ) → face ≤ p → false ≡ in_after n parent face
-  unfolding out_after
-  seed_in_lem zero h = refl
-  seed_in_lem (suc n) h = rw (← is, le-ltb p face h)
-
-  falls : p < face → parent face < face
-  falls h = omega (arith, is)
-
-  pub out_seed : face ≤ p → true ≡ looks_out parent face
+  pub out_seed : face ≤ p → leb face p ≡ looks_out parent face
   unfolding looks_out
-  out_seed = seed_out face
+  out_seed h = le-leb face p h ∙ seed_out face h
 
-  pub in_seed : face ≤ p → false ≡ looks_in parent face
-  unfolding looks_in
-  in_seed = seed_in_lem face
+  pub out_child : (r : Bool) → p < face → r ≡ looks_out parent p → not r ≡ looks_out parent face
+  out_child r h e = ap not e ∙ sym (in_not_out parent p) ∙ ap (looks_in parent) is ∙ sym (other_out parent face (omega (arith, is)))
 
-  pub out_child : {r : Bool} → p < face → r ≡ looks_in parent p → r ≡ looks_out parent face
-  out_child h e = e ∙ ap (looks_in parent) is ∙ sym (other_out parent face (falls h))
+  pub in_seed : face ≤ p → ltb p face ≡ looks_in parent face
+  in_seed h = le-ltb p face h ∙ ap not (sym (le-leb face p h)) ∙ ap not (out_seed h) ∙ sym (in_not_out parent face)
 
-  pub in_child : {r : Bool} → p < face → r ≡ looks_out parent p → r ≡ looks_in parent face
-  in_child h e = e ∙ ap (looks_out parent) is ∙ sym (other_in parent face (falls h))
+  pub in_child : p < face → looks_out parent p ≡ looks_in parent face
+  in_child h = ap (looks_out parent) is ∙ sym (other_in parent face (omega (arith, is)))
 
 -- ---- the sides that are told
-told_back : (b : Bool) → eqb (cond b 1 0) 0 ≡ not b
+told_back : (b : Bool) → eqb (cond (not b) 1 0) 0 ≡ b
 told_back true = refl
 told_back false = refl
 
-not_not : (b : Bool) → not (not b) ≡ b
-not_not true = refl
-not_not false = refl
-
-module _ (origins sides : List ℕ) (known face : ℕ) (r : Bool) (k : HasSides origins sides known) (h : face < known) (e : r ≡ eqb (get_or sides face 0) 0) where
-  read_not : r ≡ not (looks_in (parent_in origins) face)
-  unfolding side_of
-  read_not = e ∙ ap (λ (x : ℕ). eqb x 0) (k.right face h) ∙ told_back (looks_in (parent_in origins) face)
-
-  pub known_in : not r ≡ looks_in (parent_in origins) face
-  known_in = ap not read_not ∙ not_not (looks_in (parent_in origins) face)
-
-  pub known_out : r ≡ looks_out (parent_in origins) face
-  known_out = read_not ∙ ap not (in_not_out (parent_in origins) face) ∙ not_not (looks_out (parent_in origins) face)
-
-pub side_is : (origins : List ℕ) (face side : ℕ) (r : Bool) → r ≡ looks_in (parent_in origins) face → side ≡ cond r 1 0 → side ≡ side_of origins face
+pub told_out : (origins sides : List ℕ) (n face : ℕ) → HasSides origins sides n → face < n
+    → eqb (get_or sides face 0) 0 ≡ looks_out (parent_in origins) face
 unfolding side_of
-side_is origins face side r e f = f ∙ ap (λ (b : Bool). cond b 1 0) e
+told_out origins sides n face k h =
+    ap (λ (x : ℕ). eqb x 0) (k.right face h ∙ ap (λ (b : Bool). cond b 1 0) (in_not_out (parent_in origins) face))
+    ∙ told_back (looks_out (parent_in origins) face)
 
 -- ---- the pass
 below : (a n : ℕ) → a < n + 1 → (a < n) ⊎ (a ≡ n)
@@ -73,6 +53,14 @@ below a n h = dite (dec_lt a n) inl (λ q. inr (omega arith))
 
 pub told_start : (origins sides : List ℕ) → SidesWritten origins sides sides 0
 told_start origins sides = record { known = record { long = omega arith; right = λ face h. absurd (omega arith) }; same = refl; rest = λ k h. refl }
+
+byte_side : (b : Bool) → bool_byte b ≡ cond b 1 0
+byte_side true = refl
+byte_side false = refl
+
+pub side_is : (origins : List ℕ) (face side : ℕ) (inward : Bool) → inward ≡ looks_in (parent_in origins) face → side ≡ bool_byte inward → side ≡ side_of origins face
+unfolding side_of
+side_is origins face side inward e f = f ∙ ap bool_byte e ∙ byte_side (looks_in (parent_in origins) face)
 
 pub told_step : (origins before now : List ℕ) (n side : ℕ) → n < length now → side ≡ side_of origins n → SidesWritten origins before now n
     → SidesWritten origins before (set now n side) (n + 1)
@@ -87,6 +75,3 @@ told_step origins before now n side l e t = record {
   same = length-set now n side ∙ t.same;
   rest = λ k h. get_or-set_other now n k side 0 (λ z. omega arith) ∙ t.rest k (omega arith);
 }
-
-pub told_end : {origins before after : List ℕ} {k : ℕ} (n : ℕ) → SidesWritten origins before after k → k ≤ n → n ≤ k → SidesWritten origins before after n
-told_end {origins} {before} {after} n t h g = subst (λ (j : ℕ). SidesWritten origins before after j) (omega arith) t

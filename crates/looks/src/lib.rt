@@ -15,88 +15,34 @@ fn parent_of(origins: &[u32], face: usize) -> usize
     ensures { result ≡ parent_in origins.now face }
 {
     if face < origins.len() / 2 {
-        wide(origins[2 * face])
+        origins[2 * face] as usize
     } else {
         face
     }
 }
 
-fn wide(x: u32) -> usize
-    ensures { result ≡ x }
-{
-    x as usize
-}
-
-// A seed looks out; any other face looks out when its parent looks in.
-#[cycle(looks_in_looks_out)]
+// A seed looks out; any other face looks out when its parent does not.
 pub fn looks_out(origins: &[u32], face: usize) -> bool
     ensures { result ≡ looks_out (parent_in origins.now) face }
 {
     let parent = parent_of(origins, face);
-    if face <= parent {
-        return true;
-    }
-    looks_in(origins, parent)
+    face <= parent || !looks_out(origins, parent)
 }
 
-// A seed does not look in; any other face looks in when its parent looks out.
-#[cycle(looks_in_looks_out)]
+// A face that does not look out looks in.
 pub fn looks_in(origins: &[u32], face: usize) -> bool
     ensures { result ≡ looks_in (parent_in origins.now) face }
 {
-    let parent = parent_of(origins, face);
-    if face <= parent {
-        return false;
-    }
-    looks_out(origins, parent)
+    !looks_out(origins, face)
 }
 
-// Whether a face looks out, where of the first `known` faces the side is told already: the two functions go back no
-// farther.
-#[cycle(told_in_told_out)]
-fn told_out(origins: &[u32], sides: &[u32], known: usize, face: usize) -> bool
-    requires { HasSides origins.now sides.now known }
-    ensures { result ≡ looks_out (parent_in origins.now) face }
-{
-    if face < known {
-        return is_out(sides, face);
-    }
-    let parent = parent_of(origins, face);
-    if face <= parent {
-        return true;
-    }
-    told_in(origins, sides, known, parent)
-}
-
-// Whether a face looks in, likewise.
-#[cycle(told_in_told_out)]
-fn told_in(origins: &[u32], sides: &[u32], known: usize, face: usize) -> bool
-    requires { HasSides origins.now sides.now known }
+// Whether a face looks in, where the sides of the faces before it are told already: its parent looks out.
+fn told_in(origins: &[u32], sides: &[u32], face: usize) -> bool
+    requires { HasSides origins.now sides.now face }
     ensures { result ≡ looks_in (parent_in origins.now) face }
 {
-    if face < known {
-        return !is_out(sides, face);
-    }
     let parent = parent_of(origins, face);
-    if parent < face {
-        return told_out(origins, sides, known, parent);
-    }
-    false
-}
-
-// The side that is told of a face.
-fn is_out(sides: &[u32], face: usize) -> bool
-    requires { face < length sides.now }
-    ensures { result ≡ eqb (get_or sides.now face 0) 0 }
-{
-    sides[face] == 0
-}
-
-// 1 for a face that looks in, else 0.
-fn side(inward: bool) -> u32
-    ensures { result ≡ cond inward 1 0 }
-{
-    if inward { 1 } else { 0 }
+    parent < face && sides[parent] == 0
 }
 
 // One pass over the first n faces: each asks which way its parent looks, which is told already.
@@ -104,24 +50,9 @@ pub fn tell_sides(origins: &[u32], sides: &mut [u32], n: usize)
     requires { n ≤ length sides.old }
     ensures { SidesWritten origins.now sides.old sides.new n }
 {
-    let mut face: usize = 0;
-    while face < n {
-        let inward = told_in(origins, sides, face, face);
-        sides[face] = side(inward);
-        face += 1;
+    for face in 0..n {
+        sides[face] = u32::from(told_in(origins, sides, face));
     }
-}
-
-// The first two numbers of a face that stands there change places.
-fn swap_first(faces: &mut [u32], at: usize)
-    requires { at + 1 < length faces.old }
-    ensures { faces.new ≡ set (set faces.old at (get_or faces.old (at + 1) 0))
-        (at + 1) (get_or faces.old at 0) }
-{
-    let a = faces[at];
-    let b = faces[at + 1];
-    faces[at] = b;
-    faces[at + 1] = a;
 }
 
 // Of the first n faces those that look in swap their first two points.
@@ -131,13 +62,9 @@ fn turn_told(sides: &[u32], faces: &mut [u32], n: usize)
         → faces.new ≡ sets faces.old 0
         (flat (turned_from (parent_in origins) 0 (faces_from faces.old 0 n))) }
 {
-    let mut k: usize = 0;
-    while k < n {
-        let at = 3 * k;
-        let side = sides[k];
-        k += 1;
-        if side != 0 {
-            swap_first(faces, at);
+    for k in 0..n {
+        if sides[k] != 0 {
+            faces.swap(3 * k, 3 * k + 1);
         }
     }
 }

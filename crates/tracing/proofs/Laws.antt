@@ -1,16 +1,19 @@
 -- The pass, one face after the other: what each leaves, and that what is left leads to the whole. Assumes nothing.
 use mathlib.Core.Path.{◌≡◌, refl, sym, ap, ◌∙◌}
-use mathlib.Core.Bool.{not}
+use mathlib.Core.Bool.{cond, not}
 use mathlib.Core.List.{List, [], ◌∷◌, ◌++◌, append-nil, append_assoc}
 use Prim.Native.Nat.{ℕ, zero, suc, ◌+◌, ◌-◌, ◌*◌, ◌≤◌, ◌<◌, max}
 use native.Mathlib.Omega.{arith}
 use native.Mathlib.Numerals.{add-one}
-use lib.Dec.{ltb}
-use lib.ListN.{length, get_or, set, take, length-append}
-use lib.Seq.{sets, take-suc}
-use borrow.Author.Tests.{eq-eqb, ne_eqb, lt-ltb, le-ltb}
-use Rattle.lists.specs.Lists.{bit, count}
-use Rattle.lists.proofs.Counts.{count_append}
+use mathlib.Core.Logic.{dite}
+use native.Mathlib.Decide.{dec_lt}
+use lib.Dec.{leb, ltb}
+use Rattle.std.specs.List.{count_by}
+use Rattle.std.proofs.lemmas.List.Recursion.{is_count_by}
+use lib.ListN.{length, get_or, set, length-append}
+use lib.Seq.{sets}
+use borrow.Author.Tests.{eq-eqb, ne_eqb, lt-ltb, le-ltb, lt-leb, le-leb}
+use Rattle.lists.specs.Lists.{bit}
 use Rattle.patch.specs.Lay.{face}
 use Rattle.origins.specs.Pass.{parent_at, brought_after, place_of, origins_from}
 use Rattle.words.proofs.Laws.{sets_then}
@@ -32,34 +35,15 @@ module _ (k a b c first : ℕ) (w : List ℕ) (is : first ≡ get_or w a 0) wher
       let other = ne_eqb (get_or w a 0) 0 (λ q. n (is ∙ q)) in
       (rw other (ap (λ (m : ℕ). m - 1) (l ∙ ap (λ (x : ℕ). max x second) is ∙ ap (max (get_or w a 0)) s)), rw other e)
 
--- ---- the place
-module _ (marks : List ℕ) (k i : ℕ) (within : i < length marks) where
-  place_next : (mark : ℕ) → mark ≡ get_or marks i 0 → place_of (take (i + 1) marks) k ≡ place_of (take i marks) k + bit (not (ltb k mark))
-  unfolding place_of
-  place_next mark e =
-      let one : take (i + 1) marks ≡ take i marks ++ (mark ∷ []) =
-      ap (λ (j : ℕ). take j marks) (add-one i) ∙ take-suc marks i 0 within ∙ ap (λ (m : ℕ). take i marks ++ (m ∷ [])) (sym e) in
-      let both = count_append (λ m. not (ltb k m)) (take i marks) (mark ∷ []) in
-      ap (count (λ m. not (ltb k m))) one ∙ both ∙ omega arith
+-- ---- the place, as a count
+at_most : (k m n : ℕ) → bit (not (ltb k m)) + n ≡ cond (leb m k) (1 + n) n
+at_most k m n =
+    dite (dec_lt k m) (λ h. rw (lt-leb m k h, lt-ltb k m h) (omega arith))
+    (λ h. let g : m ≤ k = omega arith in rw (le-leb m k g, le-ltb k m g) (omega arith))
 
-  pub place_passed : (mark place : ℕ) → mark ≡ get_or marks i 0 → mark ≤ k → place ≡ place_of (take i marks) k → place + 1 ≡ place_of (take (i + 1) marks) k
-  place_passed mark place e h p =
-      let n = place_next mark e in
-      let one : bit (not (ltb k mark)) ≡ 1 = rw (le-ltb k mark h) in
-      omega arith
-
-  pub place_not_yet : (mark place : ℕ) → mark ≡ get_or marks i 0 → k < mark → place ≡ place_of (take i marks) k → place ≡ place_of (take (i + 1) marks) k
-  place_not_yet mark place e h p =
-      let n = place_next mark e in
-      let none : bit (not (ltb k mark)) ≡ 0 = rw (lt-ltb k mark h) in
-      omega arith
-
-pub place_none : (marks : List ℕ) (k : ℕ) → 0 ≡ place_of (take 0 marks) k
+pub place_counts : (k : ℕ) (marks : List ℕ) → place_of marks k ≡ count_by (λ m. leb m k) marks
 unfolding place_of
-place_none marks k = refl
-
-pub place_end : (marks : List ℕ) (k place i radii : ℕ) → i ≤ radii → radii ≤ i → place ≡ place_of (take i marks) k → place ≡ place_of (take radii marks) k
-place_end marks k place i radii a b e = let same : i ≡ radii = omega arith in e ∙ ap (λ (j : ℕ). place_of (take j marks) k) same
+place_counts k marks = is_count_by (λ ms. place_of ms k) (λ m. leb m k) refl (λ m ms. at_most k m (place_of ms k)) marks
 
 -- ---- the pass: k faces are traced
 pub record Tracing (marks faces : List ℕ) (total : ℕ) (w₀ origins₀ w origins : List ℕ) (k : ℕ) : Type 0 where

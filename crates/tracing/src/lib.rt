@@ -12,11 +12,7 @@ ghost use Rattle.tracing.specs.Plain.{plain_origins};
 fn word_at(words: &[u32], point: u32) -> u32
     ensures { result ≡ get_or words.now point 0 }
 {
-    let at = point as usize;
-    if at < words.len() {
-        return words[at];
-    }
-    0
+    words.get(point as usize).copied().unwrap_or(0)
 }
 
 // Gives a point a word, if it has a place for one.
@@ -27,15 +23,6 @@ fn put_word(words: &mut [u32], point: u32, word: u32)
     if at < words.len() {
         words[at] = word;
     }
-}
-
-fn later(x: u32, y: u32) -> u32
-    ensures { result ≡ max x y }
-{
-    if x < y {
-        return y;
-    }
-    x
 }
 
 // The parent of face k, whose points are a, b and c; the points that it brings in get its number, plus 1.
@@ -52,7 +39,7 @@ fn trace_face(words: &mut [u32], k: u32, a: u32, b: u32, c: u32) -> u32
         put_word(words, c, word);
         return k;
     }
-    let last = later(first, word_at(words, b));
+    let last = first.max(word_at(words, b));
     put_word(words, c, word);
     last - 1
 }
@@ -62,16 +49,7 @@ fn place_of(marks: [usize; 17], radii: usize, k: usize) -> u32
     requires { radii ≤ 17 }
     ensures { result ≡ place_of (take radii marks) k }
 {
-    let mut place: u32 = 0;
-    let mut i: usize = 0;
-    while i < radii {
-        let mark = marks[i];
-        i += 1;
-        if mark <= k {
-            place += 1;
-        }
-    }
-    place
+    marks[..radii].iter().filter(|mark| **mark <= k).count() as u32
 }
 
 // Parent and place of each of the first `count` faces, where `marks` has how many there were after each of the radii.
@@ -88,8 +66,7 @@ pub fn write_origins(
     ensures { origins.new ≡ sets origins.old 0
         (origins_from (take radii marks) 0 words.old (faces_from faces.now 0 count)) }
 {
-    let mut k: usize = 0;
-    while k < count {
+    for k in 0..count {
         let parent = trace_face(
             words,
             k as u32,
@@ -100,7 +77,6 @@ pub fn write_origins(
         let place = place_of(marks, radii, k);
         origins[2 * k] = parent;
         origins[2 * k + 1] = place;
-        k += 1;
     }
 }
 
@@ -109,10 +85,8 @@ pub fn write_plain_origins(count: usize, origins: &mut [u32])
     requires { (count ≤ 10000) × (2 * count ≤ length origins.old) }
     ensures { origins.new ≡ sets origins.old 0 (plain_origins count) }
 {
-    let mut k: usize = 0;
-    while k < count {
+    for k in 0..count {
         origins[2 * k] = k as u32;
         origins[2 * k + 1] = 0;
-        k += 1;
     }
 }

@@ -1,39 +1,29 @@
--- The loop's invariant: k faces are turned, whatever the origins that the sides are told of. Assumes nothing.
-use mathlib.Core.Path.{refl, ◌∙◌}
+-- A face that looks in has its first two points swapped. Assumes nothing.
+use mathlib.Core.Path.{sym, subst, ◌∙◌}
+use Prim.Native.Nat.{ℕ, ◌*◌, ◌+◌}
+use mathlib.Core.List.{List}
 use native.Mathlib.Omega.{arith}
+use Rattle.std.proofs.lemmas.List.Edits.{swap_is}
 use Rattle.looks.specs.Inner.Looks.{parent_in}
-use Rattle.looks.proofs.Turns.{turning_start, told_in, told_out, turning_end}
-use borrow.Author.Rules.{rules}
+use Rattle.looks.proofs.Turns.{Turning, told_in, told_out, turning_end}
 use Rattle.looks.proofs.turn_told.Goals as goal
-
-pub loop-k-init : goal.loop-k-init
-loop-k-init c = (omega arith, refl, λ origins known. turning_start (parent_in origins) c.args.faces.now c.args.n)
-
-pub loop-k-preserved-then-side-ne0 : goal.loop-k-preserved-then-side-ne0
-loop-k-preserved-then-side-ne0 c = (
-  search rules,
-  c.swap_first.auto.faces ∙ c.loop-k.invariant.1,
-  λ origins known. told_in origins c.args.sides.now
-      c.args.faces.now
-      c.args.n known
-      c.loop-k.faces
-      c.loop-k.k
-      c.loop-k-test.true
-      (c.loop-k.invariant.2 origins known) _
-      c.if-side-ne0.true c.swap_first.ensures,
-)
+use Rattle.looks.proofs.turn_told.Goals.{then-sides-k-ne0, else-sides-k-ne0}
 
 pub loop-k-preserved : goal.loop-k-preserved
-loop-k-preserved c = (
-  search rules,
-  c.loop-k.invariant.1,
-  λ origins known. told_out origins
-      c.args.sides.now c.args.faces.now
-      c.args.n known c.loop-k.faces c.loop-k.k
-      c.loop-k-test.true (c.loop-k.invariant.2 origins known) c.if-side-ne0.false,
-)
+loop-k-preserved c origins known =
+    let t = c.loop-k.invariant origins known in
+    elim c.if-sides-k-ne0.branch [
+      | then-sides-k-ne0 w ↦
+          told_in origins c.args.sides.now c.args.faces.now c.args.n known c.loop-k.faces c.loop-k.k c.loop-k-test.true t
+          c.if-sides-k-ne0.faces w.if-sides-k-ne0.true
+          (w.faces-is ∙ w.swap.ensures.after
+          ∙ sym (swap_is c.loop-k.faces (3 * c.loop-k.k) (3 * c.loop-k.k + 1) 0 (omega arith) (omega arith)))
+      | else-sides-k-ne0 w ↦
+          subst (λ (l : List ℕ). Turning (parent_in origins) c.args.faces.now c.args.n l (c.loop-k.k + 1)) (sym w.faces-is)
+          (told_out origins c.args.sides.now c.args.faces.now c.args.n known c.loop-k.faces c.loop-k.k c.loop-k-test.true t
+          w.if-sides-k-ne0.false)
+    ]
 
 pub returns : goal.returns
-returns c =
-    λ origins known. turning_end (parent_in origins) c.args.faces.now c.args.n _ _
-    c.loop-k-test.false (c.loop-k.invariant.2 origins known)
+returns c origins known =
+    turning_end (parent_in origins) c.args.faces.now c.args.n _ _ c.loop-k-test.false (c.loop-k.invariant origins known)
