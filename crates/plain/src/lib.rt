@@ -4,7 +4,7 @@
 mod acceptance;
 mod near;
 
-ghost use Rattle.std.specs.Prelude.{◌≡◌, cond, ◌||◌, [], ◌∷◌, ◌+◌, ◌/◌, ◌≤◌, ◌<◌, length, take, drop, get_or};
+ghost use Rattle.std.specs.Prelude.{◌≡◌, cond, [], ◌∷◌, ◌+◌, ◌/◌, ◌≤◌, ◌<◌, length, take, drop, get_or};
 ghost use Rattle.points.specs.Points.{point_at};
 ghost use Rattle.lists.specs.Lists.{up_from};
 ghost use Rattle.vector.specs.Vector.{distance};
@@ -115,8 +115,7 @@ fn faces_over(
     let a = w[at] as usize;
     let la = lengths[at];
     let mut laid = count;
-    let mut k = at + 1;
-    while k < listed {
+    for k in at + 1..listed {
         laid = try_face(
             points,
             radius,
@@ -129,7 +128,6 @@ fn faces_over(
             faces,
             laid,
         );
-        k += 1;
     }
     laid
 }
@@ -153,12 +151,10 @@ fn faces_among(
         count faces.new result }
 {
     let mut laid = count;
-    let mut at: usize = 0;
-    while at < listed {
+    for at in 0..listed {
         laid = faces_over(
             points, radius, limits, i, w, lengths, listed, at, faces, laid,
         );
-        at += 1;
     }
     laid
 }
@@ -196,12 +192,6 @@ fn faces_at(
     }
 }
 
-fn is_either(a: bool, b: bool) -> bool
-    ensures { result ≡ (a || b) }
-{
-    a || b
-}
-
 // Faces go to the front of the slice as far as they fit; all of them, up to the limit, are counted. Where there are
 // none, it is told whether any triple was judged.
 // The front of the two work slices is used.
@@ -222,12 +212,10 @@ pub fn simple_triangulate(
     let limits = limits_of(radius);
     let mut laid: usize = 0;
     let mut judged = false;
-    let mut i: usize = 0;
-    while i < n {
+    for i in 0..n {
         let step = faces_at(points, radius, limits, i, w, lengths, faces, laid);
         laid = step.faces;
-        judged = is_either(judged, step.judged);
-        i += 1;
+        judged |= step.judged;
     }
     Triangulated {
         faces: laid,

@@ -51,10 +51,8 @@ pub fn list_candidates(
     ensures { CandidatesListed points.now radius i w.new lengths.new result }
 {
     let mut count: usize = 0;
-    let mut j: usize = 0;
-    while j < i {
+    for j in 0..i {
         count = add_candidate(points, radius, limits, i, j, w, lengths, count);
-        j += 1;
     }
     count
 }

@@ -15,12 +15,6 @@ pub loop-i-init : goal.loop-i-init
 loop-i-init c =
     let a = c.args in (
       search rules,
-      refl,
-      search rules,
-      refl,
-      refl,
-      refl,
-      c.limits_of-limits.ensures,
       leads_start _ _
           (ap (plain_faces_from a.points.now a.radius) (up_start (length a.points.now / 3))),
       track_start a.points.now a.radius,
@@ -31,16 +25,9 @@ loop-i-preserved c =
     let f = c.faces_at-step in
     let l = c.loop-i in
     let a = c.args in (
-      search rules,
-      search rules,
       f.ensures.0.most,
-      search rules,
-      search rules,
-      search rules,
-      l.invariant.6,
-      leads_step l.invariant.7 (of_more a.points.now a.radius l.i _ c.loop-i-test.true) f.ensures.0,
-      track_step a.points.now a.radius l.invariant.8 c.loop-i-test.true l.invariant.2 f.ensures.0 f.ensures.1
-          c.is_either-judged.ensures,
+      leads_step l.invariant.1 (of_more a.points.now a.radius l.i _ c.loop-i-test.true) f.ensures.0,
+      track_step a.points.now a.radius l.invariant.2 c.loop-i-test.true l.invariant.0 f.ensures.0 f.ensures.1 refl,
     )
 
 pub returns : goal.returns
@@ -48,5 +35,5 @@ unfolding plain_faces plain_reached
 returns c =
     let l = c.loop-i in
     let a = c.args in
-    let e = lays_whole (leads_end l.invariant.7 (of_none a.points.now a.radius l.i _ c.loop-i-test.false) l.invariant.2) in
-    (e.0, e.1, track_end a.points.now a.radius l.invariant.8 c.loop-i-test.false)
+    let e = lays_whole (leads_end l.invariant.1 (of_none a.points.now a.radius l.i _ c.loop-i-test.false) l.invariant.0) in
+    (e.0, e.1, track_end a.points.now a.radius l.invariant.2 c.loop-i-test.false)

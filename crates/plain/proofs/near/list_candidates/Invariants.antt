@@ -1,9 +1,9 @@
 -- `plain::near::list_candidates` meets its contract. The loop's invariant: what is listed, and what is to come, is all.
 -- Assumes nothing.
-use Prim.Native.Nat.{◌-◌, ◌≤◌}
+use Prim.Native.Nat.{◌≤◌}
 use mathlib.Core.Path.{◌≡◌}
 use mathlib.Core.List.{◌++◌}
-use lib.ListN.{length, take}
+use lib.ListN.{take}
 use Rattle.lists.specs.Lists.{up_from}
 use Rattle.plain.specs.Plain.{candidates}
 use Rattle.plain.specs.Inner.Listed.{DistancesListed}
@@ -12,8 +12,5 @@ use Rattle.plain.proofs.near.list_candidates.Given as goal
 
 abbrev pub invariant-loop-j : goal.invariant-loop-j
 invariant-loop-j l =
-    (l.j ≤ l.i) × (l.count ≤ l.j) × (length l.w ≡ length l.initial.w) × (length l.lengths ≡ length l.initial.lengths) × DistancesListed l.points l.i l.w l.lengths l.count
+    (l.count ≤ l.j) × DistancesListed l.points l.i l.w l.lengths l.count
     × (take l.count l.w ++ from l.points l.radius l.i l.j ≡ candidates l.points l.radius l.i (up_from 0 l.i))
-
-abbrev pub decreases-loop-j : goal.decreases-loop-j
-decreases-loop-j l = l.i - l.j
