@@ -5,9 +5,11 @@ use Prim.Native.Nat.{ℕ, zero, suc, ◌+◌, ◌<◌, ◌≤◌}
 use native.Mathlib.Nat.{not-suc-le-zero, le_of_suc-le-suc}
 use native.Mathlib.Numerals.{add-one}
 use native.Mathlib.Omega.{arith}
+use mathlib.Core.Bool.{Bool, true, false}
+use mir.Val.{bool_byte}
 use lib.Dec.{eqb, ltb}
-use lib.ListN.{length, set, get_or, take, replicate, length-set, length-replicate}
-use lib.Seq.{take-suc, take_all, set-get_or}
+use lib.ListN.{length, set, get_or, take, replicate, length-replicate}
+use lib.Seq.{take-suc}
 use borrow.Author.Tests.{eq-eqb, ne_eqb}
 use Rattle.coverage.specs.Coverage.{mark, marks, reached_marks}
 use Rattle.lists.specs.Lists.{bit, count, any}
@@ -75,20 +77,14 @@ reached_step faces n i w l e =
     ap (λ (t : List ℕ). set t (get_or faces i 0) 1) e ∙ marks_set (take i faces) 0 n (get_or faces i 0) ∙ ap
     (λ (k : ℕ). marks (take i faces ++ (k ∷ [])) 0 n) z ∙ ap (λ (t : List ℕ). marks t 0 n) (sym s)
 
--- a store at an entry that is not 1 makes one more; elsewhere it changes nothing
+pub bit_byte : (b : Bool) → (bool_byte b ≡ bit b) × (bool_byte b ≤ 1)
+bit_byte true = (refl, omega arith)
+bit_byte false = (refl, omega arith)
+
+-- a store at an entry that is not 1 makes one more
 pub set_new : (w : List ℕ) (k : ℕ) → k < length w → (get_or w k 0 ≡ 1 → ⊥) → count (eqb 1) (set w k 1) ≡ 1 + count (eqb 1) w
 set_new [] k l h = absurd (not-suc-le-zero l)
 set_new (x ∷ w) zero l h =
     let t : bit (eqb 1 x) ≡ 0 = ap bit (ne_eqb 1 x (λ (e : 1 ≡ x). h (sym e))) in
     omega arith
 set_new (x ∷ w) (suc k) l h = let ih = set_new w k (le_of_suc-le-suc l) h in omega arith
-
-pub set_old : (w : List ℕ) (k : ℕ) → get_or w k 0 ≡ 1 → set w k 1 ≡ w
-set_old w k h = ap (λ (y : ℕ). set w k y) (sym h) ∙ set-get_or w k 0
-
-pub set_length : (w u : List ℕ) (k : ℕ) → u ≡ set w k 1 → length u ≡ length w
-set_length w u k e = ap length e ∙ length-set w k 1
-
--- once all numbers were seen
-pub reached_end : (faces : List ℕ) (n m i : ℕ) (w : List ℕ) → length faces ≤ i → m ≡ n → w ≡ reached_marks (take i faces) m → w ≡ reached_marks faces n
-reached_end faces n m i w l e h = h ∙ ap (λ (f : List ℕ). reached_marks f m) (take_all i faces l) ∙ ap (reached_marks faces) e

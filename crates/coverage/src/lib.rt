@@ -1,22 +1,20 @@
 // Which points of a cloud the faces of its patch reach, as marks in a lent slice, and how many.
 #![tactic(auto)]
 
-ghost use Rattle.std.specs.Prelude.{◌≡◌, ◌+◌, ◌≤◌, eqb, set};
+ghost use Rattle.std.specs.Prelude.{◌≡◌, ◌+◌, eqb, set};
 ghost use Rattle.coverage.specs.Coverage.{Marked};
-ghost use Rattle.lists.specs.Lists.{count};
+ghost use Rattle.lists.specs.Lists.{bit, count};
 
-// Marks a point, if it has an entry. The answer is 1 if it was not marked before, else 0.
-fn mark_point(reached: &mut [u32], point: usize) -> usize
-    ensures { (result ≤ 1) × (reached.new ≡ set reached.old point 1)
-        × (count (eqb 1) reached.new ≡ result + count (eqb 1) reached.old) }
+// Marks a point, if it has an entry; tells whether it was not marked before.
+fn mark_point(reached: &mut [u32], point: usize) -> bool
+    ensures { (reached.new ≡ set reached.old point 1)
+        × (count (eqb 1) reached.new ≡ bit result + count (eqb 1) reached.old) }
 {
-    if point < reached.len() {
-        if reached[point] != 1 {
-            reached[point] = 1;
-            return 1;
-        }
+    if point < reached.len() && reached[point] != 1 {
+        reached[point] = 1;
+        return true;
     }
-    0
+    false
 }
 
 // `reached` has an entry for each point: it gets 1 where a face has the point, else 0. Numbers beyond the entries are
@@ -26,11 +24,8 @@ pub fn mark_reached(faces: &[u32], reached: &mut [u32]) -> usize
 {
     clearing::clear_u32(reached);
     let mut total: usize = 0;
-    let mut i: usize = 0;
-    while i < faces.len() {
-        let point = faces[i] as usize;
-        total += mark_point(reached, point);
-        i += 1;
+    for point in faces {
+        total += usize::from(mark_point(reached, *point as usize));
     }
     total
 }
