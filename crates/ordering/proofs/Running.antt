@@ -5,6 +5,7 @@ use mathlib.Core.Logic.{◌≢◌, inl, inr, ⊎_elim}
 use mathlib.Core.Bool.{Bool, true, false, not, ◌&&◌}
 use mathlib.Core.List.{List, [], ◌∷◌}
 use native.Mathlib.Omega.{arith}
+use mir.Val.{bool_byte}
 use lib.Dec.{eqb, ltb}
 use lib.ListN.{length, set, get_or}
 use lib.Seq.{get_or-set_same, get_or-set_other}
@@ -28,6 +29,7 @@ use Rattle.offers.specs.Inner.Offers.{Faces}
 use Rattle.placing.specs.Inner.Placing.{lies, is_placed, value, PlacedKept, Places}
 use Rattle.placing.proofs.Keeping.{value_placed, value_joined, value_left}
 use Rattle.regions.specs.Inner.Ordering.{reached_words_at, tree_at, tree_end, placed_at}
+use Rattle.std.specs.Prelude.{Some, None}
 use Rattle.ordering.specs.Inner.Ordering.{least_face, OrderFound, FindsOrder}
 use Rattle.ordering.proofs.Rising.{Rising, rising_up, rising_without, first_is, first_default, head_least}
 
@@ -333,18 +335,16 @@ module _ (n faces : ℕ) (few : faces ≤ n) (corner : ℕ → ℕ) (fs : List F
     unfolding order_accepted
     accepted_all = rw (few_uncrowded fs different few_all, fits_all)
 
-    pub run_end : OrderFound n fs true seeded w
+    pub run_end : OrderFound n fs (Some seeded) w
     unfolding seeds
-    run_end = record {
-      decided = sym accepted_all;
-      many = λ _. (let a = r.here.loosed in let e : loose at r.placed (ahead n faces few corner at r.placed r.left)
-          ≡ 0 = ap (loose at r.placed) nothing in omega arith);
-      none = λ t. absurd (true_not_false refl t);
-      order = λ _ j b. r.here.order j (omega arith);
-    }
+    run_end =
+        let a = r.here.loosed in
+        let e : loose at r.placed (ahead n faces few corner at r.placed r.left) ≡ 0 = ap (loose at r.placed) nothing in
+        let all : seeded ≡ seeds fs = omega arith in
+        record { decided = rw accepted_all (ap Some all); order = λ _ j b. r.here.order j (omega arith) }
 
-  pub refused : (w : List ℕ) → order_accepted fs ≡ false → OrderFound n fs false 0 w
-  refused w h = record { decided = sym h; many = λ t. absurd (true_not_false t refl); none = λ _. refl; order = λ t. absurd (true_not_false t refl) }
+  pub refused : (w : List ℕ) → order_accepted fs ≡ false → OrderFound n fs None w
+  refused w h = record { decided = rw h; order = λ t. absurd (true_not_false t h) }
 
 -- ---- whatever the faces
 abbrev pub Runs : ℕ → ℕ → List ℕ → ℕ → ℕ → List ℕ → Type 0
@@ -357,7 +357,7 @@ runs_start n faces w few corner fs many different held kept = run_start n faces 
 
 module _ (n faces : ℕ) (few : faces ≤ n) (start w : List ℕ) (k seeded : ℕ) (runs : Runs n faces start k seeded w) where
   -- the face that comes next is one
-  pub runs_astray : (z : List ℕ) → k < faces → faces ≤ least_face faces (get_or w (tree_at n + 1) 0) → FindsOrder n faces false 0 start z
+  pub runs_astray : (z : List ℕ) → k < faces → faces ≤ least_face faces (get_or w (tree_at n + 1) 0) → FindsOrder n faces None start z
   runs_astray z l h = record {
     finds = λ corner fs many different held kept.
         (let p = run_picks n faces few corner fs many different k seeded w l (runs few corner fs many different held kept) in
@@ -372,7 +372,7 @@ module _ (n faces : ℕ) (few : faces ≤ n) (start w : List ℕ) (k seeded : �
     abbrev shared : Bool
     shared = ltb (get_or w (tree_at n + 1) 0) faces
 
-    pub runs_refused : Places n faces next shared false w z → FindsOrder n faces false 0 start z
+    pub runs_refused : Places n faces next shared false w z → FindsOrder n faces None start z
     runs_refused p = record {
       finds = λ corner fs many different held kept.
           let r = runs few corner fs many different held kept in
@@ -392,12 +392,16 @@ module _ (n faces : ℕ) (few : faces ≤ n) (start w : List ℕ) (k seeded : �
         let d = p.places corner (face_at fs) r.placed held r.here.kept q.shared in
         run_step n faces few corner fs many different k seeded w z l r u is room (λ j b. p.outside j (inr b)) (d.kept refl) (d.fit refl) more m
 
-  pub runs_end : faces ≤ k → FindsOrder n faces true seeded start w
+  pub runs_end : faces ≤ k → FindsOrder n faces (Some seeded) start w
   runs_end l = record {
     finds = λ corner fs many different held kept. run_end n faces few corner fs many different k seeded w l (runs few corner fs many different held kept);
   }
 
 -- ---- for the loop
+pub byte_bit : (b : Bool) → (bool_byte b ≡ bit b) × (bool_byte b ≤ 1)
+byte_bit true = (refl, omega arith)
+byte_bit false = (refl, omega arith)
+
 pub places_as : (n faces i j : ℕ) (shared r s : Bool) (w z : List ℕ) → i ≡ j → r ≡ s → Places n faces i shared r w z → Places n faces j shared s w z
 places_as n faces i j shared r s w z e f p = subst (λ (q : Bool). Places n faces j shared q w z) f (subst (λ (q : ℕ). Places n faces q shared r w z) e p)
 

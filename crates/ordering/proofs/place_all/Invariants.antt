@@ -2,14 +2,8 @@
 -- so far. Assumes nothing.
 use Rattle.ordering.proofs.Running.{Runs}
 use Rattle.corners.specs.Corners.{Bound}
-use lib.ListN.{length}
-use mathlib.Core.Path.{◌≡◌}
-use Prim.Native.Nat.{◌-◌, ◌*◌, ◌≤◌}
+use Prim.Native.Nat.{◌*◌, ◌≤◌}
 use Rattle.ordering.proofs.place_all.Given as goal
 
 abbrev pub invariant-loop-k : goal.invariant-loop-k
-invariant-loop-k l =
-    (length l.words ≡ length l.initial.words) × (l.k ≤ l.count) × (l.seeds ≤ l.k) × Bound l.n (3 * l.count) l.words × Runs l.n l.count l.initial.words l.k l.seeds l.words
-
-abbrev pub decreases-loop-k : goal.decreases-loop-k
-decreases-loop-k l = l.count - l.k
+invariant-loop-k l = (l.seeds ≤ l.k) × Bound l.n (3 * l.count) l.words × Runs l.n l.count l.initial.words l.k l.seeds l.words
