@@ -1,18 +1,17 @@
 -- Numbers that were copied to the front of the words stand there as the search for an order wants them. Assumes
 -- nothing.
-use mathlib.Core.Path.{◌≡◌, refl, sym, ap, ◌∙◌, subst}
-use mathlib.Core.Bool.{Bool, true, false}
+use mathlib.Core.Path.{◌≡◌, sym, ap, ◌∙◌, subst}
+use mathlib.Core.Bool.{true, false}
 use mathlib.Core.List.{List}
 use Prim.Native.Nat.{ℕ, ◌+◌, ◌*◌, ◌/◌, ◌≤◌, ◌<◌}
 use native.Mathlib.Omega.{arith}
-use lib.ListN.{length, get_or, set, length-set}
-use mathlib.Core.Logic.{dite}
-use native.Mathlib.Decide.{dec_lt}
-use lib.Seq.{get_or-set_same, get_or-set_other}
+use lib.ListN.{length, get_or}
 use Rattle.patch.specs.Lay.{Face, face}
 use Rattle.orders.specs.Order.{face_at, order_accepted}
 use Rattle.corners.specs.Corners.{face_in}
+use Rattle.std.specs.Prelude.{Some, None}
 use Rattle.ordering.specs.Inner.Ordering.{FacesInWords, FacesOrdered}
+use Rattle.ordering.proofs.Slices.{told_order, told_none}
 use Rattle.regions.specs.Inner.Ordering.{placed_end}
 use Rattle.patch_order.specs.Ordering.{refused_with, ordered_of, order_after}
 use Rattle.patch_order.specs.Inner.Ready.{too_many}
@@ -23,23 +22,6 @@ use Rattle.patch_order.proofs.Last.{last_short, last_none, last_passed}
 use Rattle.patch_order.proofs.Stands.{few_most}
 use Rattle.face_order.specs.Faces.{faces_of, Ready, Judged}
 use Rattle.face_order.proofs.Seen.{faces_many, face_at_lem}
-
--- ---- copying
-pub record Copied (numbers words₀ : List ℕ) (k : ℕ) (words : List ℕ) : Type 0 where
-  pub size : length words ≡ length words₀
-  pub same : (j : ℕ) → j < k → get_or words j 0 ≡ get_or numbers j 0
-
-pub copied_start : (numbers words : List ℕ) → Copied numbers words 0 words
-copied_start numbers words = record { size = refl; same = λ j h. absurd (omega arith) }
-
-pub copied_step : {numbers words₀ : List ℕ} {k : ℕ} {words : List ℕ} {v : ℕ} → Copied numbers words₀ k words → k < length words → v ≡ get_or numbers k 0
-    → Copied numbers words₀ (k + 1) (set words k v)
-copied_step {numbers} {words₀} {k} {words} {v} c h e = record {
-  size = length-set words k v ∙ c.size;
-  same = λ j l. dite (dec_lt j k) (λ b. get_or-set_other words k j v 0 (λ q. omega arith) ∙ c.same j b)
-      (λ b. let q : j ≡ k = omega arith in ap (λ (x : ℕ). get_or (set words k v) x 0) q ∙ get_or-set_same words k v 0 h ∙ e
-      ∙ ap (λ (x : ℕ). get_or numbers x 0) (sym q));
-}
 
 -- ---- faces that are not too many
 module _ (numbers : List ℕ) (n words : ℕ) (p : Ready numbers n words) where
@@ -97,15 +79,19 @@ module _ (numbers : List ℕ) (n words : ℕ) (p : Ready numbers n words) where
           words_below words' n many point_below,
         )
 
-        module _ (ok : Bool) (number : ℕ) (order' : List ℕ) (f : (gs : List Face) → FacesInWords many gs words' → FacesOrdered gs ok number order order') where
-          found : FacesOrdered fs ok number order order'
-          found = f fs stands
-
-          pub found_order : ok ≡ true → (r : Ordered) → r ≡ record { answer = 0; detail = 0; faces = many; seeds = number } → Judged fs order r order'
+        module _ (order' : List ℕ) where
+          pub found_order : (number : ℕ) → ((gs : List Face) → FacesInWords many gs words' → FacesOrdered gs (Some number) order order')
+              → (r : Ordered) → r ≡ record { answer = 0; detail = 0; faces = many; seeds = number } → Judged fs order r order'
           unfolding ordered_of order_after
-          found_order is r e =
-              let s = last_passed (length order) fs fits_faces (sym found.decided ∙ is) in
-              record { result = rw s (e ∙ rw (faces_many numbers, found.many is)); order_left = rw s (found.ordered is) }
+          found_order number f r e =
+              let found = f fs stands in
+              let is = told_order fs number found.decided in
+              let s = last_passed (length order) fs fits_faces is.0 in
+              record { result = rw s (e ∙ rw (faces_many numbers, is.1)); order_left = rw s (found.ordered is.0) }
 
-          pub found_none : ok ≡ false → (r : Ordered) → r ≡ refused_with 23 0 → Judged fs order r order'
-          found_none is r e = subst (Judged fs order r) (sym (found.untouched is)) (none_refused (sym found.decided ∙ is) r e)
+          pub found_none : ((gs : List Face) → FacesInWords many gs words' → FacesOrdered gs None order order')
+              → (r : Ordered) → r ≡ refused_with 23 0 → Judged fs order r order'
+          found_none f r e =
+              let found = f fs stands in
+              let none = told_none fs found.decided in
+              subst (Judged fs order r) (sym (found.untouched none)) (none_refused none r e)

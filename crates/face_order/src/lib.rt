@@ -22,14 +22,12 @@ fn look_at(faces: &[u32], n: usize) -> FacesSeen
     let count = faces.len() / 3;
     let mut outside = false;
     let mut twice = false;
-    let mut i: usize = 0;
-    while i < count {
+    for i in 0..count {
         let a = faces[3 * i];
         let b = faces[3 * i + 1];
         let c = faces[3 * i + 2];
         outside = face_lines::is_outside(outside, n, a, b, c);
         twice = face_lines::is_twice(twice, a, b, c);
-        i += 1;
     }
     FacesSeen {
         outside: outside,
@@ -43,11 +41,7 @@ fn copy_numbers(faces: &[u32], words: &mut [u32])
     ensures { (k : ℕ) → k < length faces.now
         → get_or words.new k 0 ≡ get_or faces.now k 0 }
 {
-    let mut k: usize = 0;
-    while k < faces.len() {
-        words[k] = faces[k];
-        k += 1;
-    }
+    words[..faces.len()].copy_from_slice(faces);
 }
 
 // Faces that have passed the checks so far: 13, 23 or their order. More than n - 2 faces have none, and are not copied.
@@ -63,16 +57,14 @@ fn order_checked(faces: &[u32], n: usize, order: &mut [u32], words: &mut [u32]) 
         return patch_order::refused(answers::NO_ORDER, 0);
     }
     copy_numbers(faces, words);
-    let ordered = ordering::order_faces(n, count, order, words);
-    if ordered.ok {
-        Ordered {
+    match ordering::order_faces(n, count, order, words) {
+        Some(seeds) => Ordered {
             answer: 0,
             detail: 0,
             faces: count,
-            seeds: ordered.seeds,
-        }
-    } else {
-        patch_order::refused(answers::NO_ORDER, 0)
+            seeds,
+        },
+        None => patch_order::refused(answers::NO_ORDER, 0),
     }
 }
 

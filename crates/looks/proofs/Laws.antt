@@ -58,7 +58,8 @@ byte_side : (b : Bool) → bool_byte b ≡ cond b 1 0
 byte_side true = refl
 byte_side false = refl
 
-pub side_is : (origins : List ℕ) (face side : ℕ) (inward : Bool) → inward ≡ looks_in (parent_in origins) face → side ≡ bool_byte inward → side ≡ side_of origins face
+pub side_is : (origins : List ℕ) (face side : ℕ) (inward : Bool) → inward ≡ looks_in (parent_in origins) face → side ≡ bool_byte inward
+    → side ≡ side_of origins face
 unfolding side_of
 side_is origins face side inward e f = f ∙ ap bool_byte e ∙ byte_side (looks_in (parent_in origins) face)
 

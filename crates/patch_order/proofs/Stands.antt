@@ -12,10 +12,11 @@ use borrow.Author.Tests.{ltb-false}
 use Rattle.patch.specs.Lay.{Face}
 use Rattle.patch.specs.View.{written}
 use Rattle.patch.proofs.View.{length_written}
-use Rattle.orders.specs.Order.{order_accepted}
 use Rattle.face_lines.specs.Inner.Answers.{Readable, Stored}
 use Rattle.corners.specs.Corners.{face_in}
+use Rattle.std.specs.Prelude.{Some, None}
 use Rattle.ordering.specs.Inner.Ordering.{FacesInWords, FacesOrdered}
+use Rattle.ordering.proofs.Slices.{told_order, told_none}
 use Rattle.regions.specs.Inner.Ordering.{placed_end}
 use Rattle.patch_order.specs.Ordering.{refused_with}
 use Rattle.patch_order.specs.Inner.Ready.{too_many, Checked, OrderJudged}
@@ -77,18 +78,19 @@ module _ (bytes : List ℕ) (n count : ℕ) (words : List ℕ) (p : Checked byte
       fits_faces : length p.faces ≤ length order
       fits_faces = omega (arith, p.many)
 
-      module _ (ok : Bool) (number : ℕ) (order' : List ℕ) (f : (fs : List Face) → FacesInWords count fs words' → FacesOrdered fs ok number order order') where
-        found : FacesOrdered p.faces ok number order order'
-        found = f p.faces told
+      module _ (order' : List ℕ) where
+        pub found_order : (number : ℕ) → ((fs : List Face) → FacesInWords count fs words' → FacesOrdered fs (Some number) order order')
+            → (r : Ordered) → r ≡ record { answer = 0; detail = 0; faces = count; seeds = number } → OrderJudged bytes order r order'
+        found_order number f r h =
+            let found = f p.faces told in
+            let is = told_order p.faces number found.decided in
+            judged_ordered bytes order p.faces p.lines (last_passed (length order) p.faces fits_faces is.0) r order' (h ∙ rw (p.many, is.1))
+            (found.ordered is.0)
 
-        pub found_order : ok ≡ true → (r : Ordered) → r ≡ record { answer = 0; detail = 0; faces = count; seeds = number } → OrderJudged bytes order r order'
-        found_order is r h =
-            let e : order_accepted p.faces ≡ true = sym found.decided ∙ is in
-            judged_ordered bytes order p.faces p.lines (last_passed (length order) p.faces fits_faces e) r order' (h ∙ rw (p.many, found.many is))
-            (found.ordered is)
-
-        pub found_none : ok ≡ false → (r : Ordered) → r ≡ refused_with 23 0 → OrderJudged bytes order r order'
-        found_none is r h =
-            let e : order_accepted p.faces ≡ false = sym found.decided ∙ is in
-            subst (OrderJudged bytes order r) (sym (found.untouched is))
+        pub found_none : ((fs : List Face) → FacesInWords count fs words' → FacesOrdered fs None order order')
+            → (r : Ordered) → r ≡ refused_with 23 0 → OrderJudged bytes order r order'
+        found_none f r h =
+            let found = f p.faces told in
+            let e = told_none p.faces found.decided in
+            subst (OrderJudged bytes order r) (sym (found.untouched e))
             (judged_refused bytes order p.faces p.lines 23 refl (last_none (length order) p.faces fits_faces e) r h)

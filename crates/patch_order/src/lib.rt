@@ -84,16 +84,14 @@ fn order_lines(
         return refused(answers::NO_ORDER, 0);
     }
     face_lines::store_faces(bytes, words);
-    let ordered = ordering::order_faces(n, count, order, words);
-    if ordered.ok {
-        Ordered {
+    match ordering::order_faces(n, count, order, words) {
+        Some(seeds) => Ordered {
             answer: 0,
             detail: 0,
             faces: count,
-            seeds: ordered.seeds,
-        }
-    } else {
-        refused(answers::NO_ORDER, 0)
+            seeds,
+        },
+        None => refused(answers::NO_ORDER, 0),
     }
 }
 

@@ -1,20 +1,10 @@
 -- `look_at` meets its contract: what was seen of the first faces is carried on. Assumes nothing.
 use mathlib.Core.Path.{refl}
-use native.Mathlib.Omega.{arith}
 use Rattle.face_order.proofs.Seen.{looked_start, looked_step, looked_end}
 use Rattle.face_order.proofs.look_at.Goals as goal
 
 pub loop-i-init : goal.loop-i-init
 loop-i-init c = looked_start c.args.n c.args.faces.now
-
-pub bounds-faces-i : goal.bounds-faces-i
-bounds-faces-i c = omega (arith, c.loop-i-test.true)
-
-pub bounds-faces-i-in-loop-i : goal.bounds-faces-i-in-loop-i
-bounds-faces-i-in-loop-i c = omega (arith, c.loop-i-test.true)
-
-pub bounds-faces-i-in-loop-i-2 : goal.bounds-faces-i-in-loop-i-2
-bounds-faces-i-in-loop-i-2 c = omega (arith, c.loop-i-test.true)
 
 pub loop-i-preserved : goal.loop-i-preserved
 loop-i-preserved c =

@@ -1,10 +1,6 @@
 -- `look_at` meets its contract: what was seen of the first faces is carried on. Assumes nothing.
-use Prim.Native.Nat.{◌-◌}
 use Rattle.face_order.proofs.Seen.{Looked}
 use Rattle.face_order.proofs.look_at.Given as goal
 
 abbrev pub invariant-loop-i : goal.invariant-loop-i
 invariant-loop-i l = Looked l.n l.faces l.i l.outside l.twice
-
-abbrev pub decreases-loop-i : goal.decreases-loop-i
-decreases-loop-i l = l.count - l.i

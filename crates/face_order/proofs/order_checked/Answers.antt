@@ -23,8 +23,8 @@ copy_numbers-requires c =
     c.args.order.now c.if-order-count.false
     (sym c.is_too_many.ensures ∙ c.if-is_too_many.false)
 
-pub order_faces-ordered-requires : goal.order_faces-ordered-requires
-order_faces-ordered-requires c =
+pub order_faces-requires : goal.order_faces-requires
+order_faces-requires c =
     between_looks c.args.faces.now
     c.args.n _
     c.requires
@@ -34,10 +34,12 @@ order_faces-ordered-requires c =
     ∙ c.if-is_too_many.false) c.copy_numbers.new.words
     c.copy_numbers.auto.words c.copy_numbers.ensures
 
-pub returns-then-ordered : goal.returns-then-ordered
-returns-then-ordered c =
-    found_order c.args.faces.now c.args.n _ c.requires c.args.order.now c.if-order-count.false (sym c.is_too_many.ensures ∙ c.if-is_too_many.false) c.copy_numbers.new.words c.copy_numbers.auto.words c.copy_numbers.ensures _ _ _ c.order_faces-ordered.ensures c.if-ordered.true _ refl
+pub returns-in-Some : goal.returns-in-Some
+returns-in-Some c =
+    found_order c.args.faces.now c.args.n _ c.requires c.args.order.now c.if-order-count.false (sym c.is_too_many.ensures ∙ c.if-is_too_many.false)
+    c.copy_numbers.new.words c.copy_numbers.auto.words c.copy_numbers.ensures _ _ c.in-Some.ensures _ refl
 
-pub returns-else-ordered : goal.returns-else-ordered
-returns-else-ordered c =
-    found_none c.args.faces.now c.args.n _ c.requires c.args.order.now c.if-order-count.false (sym c.is_too_many.ensures ∙ c.if-is_too_many.false) c.copy_numbers.new.words c.copy_numbers.auto.words c.copy_numbers.ensures _ _ _ c.order_faces-ordered.ensures c.if-ordered.false _ c.refused-else-ordered.ensures
+pub returns-in-None : goal.returns-in-None
+returns-in-None c =
+    found_none c.args.faces.now c.args.n _ c.requires c.args.order.now c.if-order-count.false (sym c.is_too_many.ensures ∙ c.if-is_too_many.false)
+    c.copy_numbers.new.words c.copy_numbers.auto.words c.copy_numbers.ensures _ c.in-None.ensures _ c.refused-in-None.ensures

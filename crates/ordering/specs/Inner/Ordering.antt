@@ -1,5 +1,6 @@
 -- What the search for the greedy order leaves. Definitions only.
-use Rattle.std.specs.Prelude.{ℕ, ◌+◌, ◌-◌, ◌<◌, ◌≡◌, true, false, cond, Option, Some, None, List, [], ◌++◌, ltb, length, get_or, drop}
+use Rattle.std.specs.Prelude.{ℕ, ◌+◌, ◌-◌, ◌<◌, ◌≡◌, true, false, cond, Option, Some, None, List, [], ◌++◌}
+use Rattle.std.specs.Prelude.{ltb, length, get_or, drop}
 use Rattle.patch.specs.Lay.{Face}
 use Rattle.orders.specs.Order.{face_at, greedy, seeds, AllDifferent, order_accepted}
 use Rattle.corners.specs.Corners.{face_in}
@@ -24,7 +25,8 @@ order_told fs = cond (order_accepted fs) (Some (seeds fs)) None
 -- what is told, and the order in words
 pub record OrderFound (n : ℕ) (fs : List Face) (r : Option ℕ) (after : List ℕ) : Type 0 where
   pub decided : r ≡ order_told fs
-  pub order : order_accepted fs ≡ true → (j : ℕ) → j < length fs → get_or after (placed_at n + j) 0 ≡ get_or (greedy fs) j 0
+  pub order :
+      order_accepted fs ≡ true → (j : ℕ) → j < length fs → get_or after (placed_at n + j) 0 ≡ get_or (greedy fs) j 0
 
 -- whatever the faces, where none is placed yet
 pub record FindsOrder (n faces : ℕ) (r : Option ℕ) (before after : List ℕ) : Type 0 where

@@ -29,24 +29,18 @@ pub store_faces-requires : goal.store_faces-requires
 store_faces-requires c =
     readable _ _ _ c.args.words.now c.requires (sym c.is_too_many.ensures ∙ c.if-is_too_many.false)
 
-pub order_faces-ordered-requires : goal.order_faces-ordered-requires
-order_faces-ordered-requires c =
+pub order_faces-requires : goal.order_faces-requires
+order_faces-requires c =
     let store-faces = c.store_faces in
     let if1 = c.if-order-count in
     between_looks _ _ _ c.args.words.now c.requires (sym c.is_too_many.ensures ∙ c.if-is_too_many.false) _ store-faces.ensures c.args.order.now if1.false
 
-pub returns-then-ordered : goal.returns-then-ordered
-returns-then-ordered c =
-    let order-faces = c.order_faces-ordered in
-    let store-faces = c.store_faces in
-    let if1 = c.if-order-count in
-    found_order _ _ _ c.args.words.now c.requires (sym c.is_too_many.ensures ∙ c.if-is_too_many.false) _ store-faces.ensures c.args.order.now if1.false _ _ _
-    order-faces.ensures c.if-ordered.true _ refl
+pub returns-in-Some : goal.returns-in-Some
+returns-in-Some c =
+    found_order _ _ _ c.args.words.now c.requires (sym c.is_too_many.ensures ∙ c.if-is_too_many.false) _ c.store_faces.ensures c.args.order.now
+    c.if-order-count.false _ _ c.in-Some.ensures _ refl
 
-pub returns-else-ordered : goal.returns-else-ordered
-returns-else-ordered c =
-    let order-faces = c.order_faces-ordered in
-    let store-faces = c.store_faces in
-    let if1 = c.if-order-count in
-    found_none _ _ _ c.args.words.now c.requires (sym c.is_too_many.ensures ∙ c.if-is_too_many.false) _ store-faces.ensures c.args.order.now if1.false _ _ _
-    order-faces.ensures c.if-ordered.false _ c.refused-else-ordered.ensures
+pub returns-in-None : goal.returns-in-None
+returns-in-None c =
+    found_none _ _ _ c.args.words.now c.requires (sym c.is_too_many.ensures ∙ c.if-is_too_many.false) _ c.store_faces.ensures c.args.order.now
+    c.if-order-count.false _ c.in-None.ensures _ c.refused-in-None.ensures
