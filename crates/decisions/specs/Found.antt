@@ -1,4 +1,4 @@
--- The definition's answers as the code gives them, and what it works out on the way. Definitions only.
+-- What the code works out on the way to the definition's answers. Definitions only.
 use Rattle.std.specs.Prelude.{ℕ, ◌≡◌, false, cond, List, Float}
 use Rattle.std.proofs.Math.Option.{Option, none, some}
 use Rattle.std.specs.Float.Ieee.{le}
@@ -9,12 +9,6 @@ use Rattle.quality.specs.declared.TriangleQuality.{TriangleQuality}
 use Rattle.points.specs.Points.{point_at}
 use Rattle.decisions.specs.Decisions.{accepts}
 use Rattle.decisions.specs.declared.Scene.{Scene}
-use Rattle.decisions.specs.declared.Score.{Score}
-use Rattle.decisions.specs.declared.Score.TheVariants.{Of, None}
-
-abbrev pub score_found : Option Float → Score
-score_found none = None
-score_found (some x) = Of x
 
 -- a score, if it is not below `top`
 unfoldable pub at_least : Float → Option Float → Option Float

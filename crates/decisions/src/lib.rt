@@ -8,7 +8,8 @@ ghost use Rattle.patch.specs.Lay.{edge};
 ghost use Rattle.decisions.specs.Decisions.{apart, is_close, quality_at, accepts, halfway, middle};
 ghost use Rattle.decisions.specs.Inner.Completes.{completes};
 ghost use Rattle.decisions.specs.Decisions.{pivotable};
-ghost use Rattle.decisions.specs.Found.{score_found, at_least, area_at, accepted_score, ShapeRefused};
+ghost use Rattle.lists.specs.Inner.Found.{option_found};
+ghost use Rattle.decisions.specs.Found.{at_least, area_at, accepted_score, ShapeRefused};
 
 use grid::SpatialGrid;
 use quality::{Shape, TriangleQuality};
@@ -23,13 +24,6 @@ pub struct Scene {
     pub min_triangle_area: f32,
     pub quality_threshold: f32,
     pub max_edge_factor: f32,
-}
-
-// The score of a triangle that may be laid.
-#[derive(Clone, Copy)]
-pub enum Score {
-    Of(f32),
-    None,
 }
 
 // How far points i and j are from each other.
@@ -97,39 +91,34 @@ pub fn is_pivotable(points: &[f32], radius: f32, a: usize, b: usize) -> bool
     ensures { result ≡ pivotable points.now radius (edge a b) }
 {
     let d = apart_at(points, b, a);
-    if d > radius * 2.0 {
-        return false;
-    }
-    !(d < 1e-10)
+    !(d > radius * 2.0) && !(d < 1e-10)
 }
 
 // The score of a triangle with edges of lengths a, b and c, if the settings accept it and the score is not below `top`.
 // The bound is asked first, since it needs no angle.
-pub fn score_from(s: Scene, radius: f32, a: f32, b: f32, c: f32, area: f32, top: f32) -> Score
-    ensures { result ≡ score_found (at_least top (accepted_score s radius (quality_of a b c area))) }
+pub fn score_from(s: Scene, radius: f32, a: f32, b: f32, c: f32, area: f32, top: f32) -> Option<f32>
+    ensures { result ≡ option_found (at_least top (accepted_score s radius (quality_of a b c area))) }
 {
     let shape = quality::shape_of(a, b, c, area);
     if score_bounds::score_bound(shape) < top {
-        return Score::None;
+        return None;
     }
     let q = quality::quality_of(a, b, c, shape);
     if !(q.quality_score >= top) {
-        return Score::None;
+        return None;
     }
     if !is_accepted(s, radius, q) {
-        return Score::None;
+        return None;
     }
-    Score::Of(q.quality_score)
+    Some(q.quality_score)
 }
 
 // Whether the settings refuse every triangle of a shape at a radius, whatever its angles.
 fn is_shape_refused(s: Scene, radius: f32, shape: Shape) -> bool
     ensures { result ≡ true → ShapeRefused s radius shape }
 {
-    if score_bounds::score_bound(shape) < s.quality_threshold {
-        return true;
-    }
-    shape.edge_ratio * numbers::sqrt(shape.area) > radius * s.max_edge_factor
+    score_bounds::score_bound(shape) < s.quality_threshold
+        || shape.edge_ratio * numbers::sqrt(shape.area) > radius * s.max_edge_factor
 }
 
 // Whether the settings accept the triangle of points i, j and k, `to_i` and `to_j` being the lengths of two edges.

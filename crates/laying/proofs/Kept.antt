@@ -23,9 +23,6 @@ use Rattle.spatial_hash.specs.declared.Hash.{Hash}
 use Rattle.decisions.specs.declared.Scene.{Scene}
 use Rattle.nearby.specs.Inner.Ready.{SceneKept}
 use Rattle.nearby.proofs.Keeping.{held_kept, hashed_search}
-use Rattle.pivot.specs.declared.Pivot.{Pivot}
-use Rattle.pivot.specs.declared.Pivot.TheVariants.{To, Nowhere}
-use Rattle.pivot.specs.Inner.Found.{pivot_found}
 use Rattle.seed.specs.declared.Seed.{Seed}
 use Rattle.seed.specs.declared.Seed.TheVariants.{Triangle, Nothing}
 use Rattle.seed.specs.Inner.Found.{seed_found}
@@ -169,14 +166,6 @@ none_waits [] h = refl
 none_waits (x ∷ xs) h = absurd (omega arith)
 
 -- ---- the answers of the searches
-abbrev pub point_of : Pivot → Option ℕ
-point_of Nowhere = none
-point_of (To k) = some k
-
-pub point_of_found : (o : Option ℕ) → point_of (pivot_found o) ≡ o
-point_of_found none = refl
-point_of_found (some k) = refl
-
 abbrev pub seed_in : Seed → Option (ℕ × ℕ × ℕ)
 seed_in Nothing = none
 seed_in (Triangle i j k) = some (i, j, k)

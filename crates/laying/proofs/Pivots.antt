@@ -9,6 +9,9 @@ use borrow.Author.Tests.{eqb-true, eq-eqb}
 use lib.Dec.{eqb}
 use lib.ListN.{length, take}
 use lib.Ieee.{Float}
+use Rattle.std.specs.Prelude.{Option as Outcome, Some, None}
+use Rattle.lists.specs.Inner.Found.{option_found, option_sought}
+use Rattle.lists.proofs.Found.{sought_found}
 use Rattle.lists.specs.Lists.{bit, count, any}
 use Rattle.patch.specs.Lay.{Edge, edge, same, State, popped, met, pivoted, with_face, marked, look, next}
 use Rattle.patch.specs.Fair.{Free, Fair}
@@ -26,16 +29,12 @@ use Rattle.decisions.specs.declared.Scene.{Scene}
 use Rattle.decisions.specs.Decisions.{floats_of}
 use Rattle.decisions.proofs.Within.{within}
 use Rattle.nearby.specs.Inner.Ready.{SceneKept, used_in_scene}
-use Rattle.pivot.specs.declared.Pivot.{Pivot}
-use Rattle.pivot.specs.declared.Pivot.TheVariants.{To, Nowhere}
-use Rattle.pivot.specs.Inner.Found.{pivot_found}
 use Rattle.laying_steps.specs.declared.Counts.{Counts}
 use Rattle.laying_words.specs.Inner.Words.{OnlyIn}
 use Rattle.laying_steps.specs.Inner.Work.{HoldsState, Takes, NoEntryWaits, Open, Misses, FrontierReady, FaceRoom}
 use Rattle.laying_steps.proofs.Work.{ready}
 use Rattle.laying.specs.Inner.Laying.{LayingSearchable, Without, rules_of, pivot_over, look_under, LaysState, EntryOpened, Pivoting}
-use Rattle.laying.proofs.Kept.{Beside, beside_both, beside_search, beside_without, holds_beside, sized, searchable_searched, searchable_laid, point_of}
-use Rattle.laying.proofs.Kept.{point_of_found}
+use Rattle.laying.proofs.Kept.{Beside, beside_both, beside_search, beside_without, holds_beside, sized, searchable_searched, searchable_laid}
 
 -- seeds and pivots are free points
 pub fair : (s : Scene) (pts : List Float) → Fair s.n (rules_of s pts)
@@ -147,24 +146,24 @@ module _ {s : Scene} {hash : Hash} {pts : List Float} (r : Float) {c : Counts} {
   pub few_pivots : c.pivots ≤ 8192
   few_pivots = omega (arith, pivot_ready.pivots, pivot_ready.sized.few)
 
-  module _ {found : Pivot} {u : List ℕ} (is : found ≡ pivot_found ((rules_of s pts).pivot_of r (used_in_scene s w) (edge a b))) (kept : SceneKept s w u)
+  module _ {found : Outcome ℕ} {u : List ℕ} (is : found ≡ option_found ((rules_of s pts).pivot_of r (used_in_scene s w) (edge a b))) (kept : SceneKept s w u)
       (long : length u ≡ length w) where
-    point_met : (lent : List ℕ) (t : State) (o : Option ℕ) → HoldsState s.n lent t c w slice → found ≡ pivot_found o
+    point_met : (lent : List ℕ) (t : State) (o : Option ℕ) → HoldsState s.n lent t c w slice → found ≡ option_found o
         → (rules_of s pts).pivot_of r t.used (edge a b) ≡ o
     point_met lent t o h f =
         ap (λ (used : List ℕ). (rules_of s pts).pivot_of r used (edge a b)) (sym h.used)
-        ∙ sym (point_of_found ((rules_of s pts).pivot_of r (used_in_scene s w) (edge a b))) ∙ ap point_of (sym is ∙ f) ∙ point_of_found o
+        ∙ sym (sought_found ((rules_of s pts).pivot_of r (used_in_scene s w) (edge a b))) ∙ ap option_sought (sym is ∙ f) ∙ sought_found o
 
-    free_met : {k : ℕ} (lent : List ℕ) (t : State) → HoldsState s.n lent t c w slice → found ≡ To k → Free s.n t.used k
+    free_met : {k : ℕ} (lent : List ℕ) (t : State) → HoldsState s.n lent t c w slice → found ≡ Some k → Free s.n t.used k
     free_met {k} lent t h f = (fair s pts).pivots r t.used (edge a b) k (point_met lent t (some k) h f)
 
-    pub free_point : {k : ℕ} → found ≡ To k → Free s.n p.state.used k
+    pub free_point : {k : ℕ} → found ≡ Some k → Free s.n p.state.used k
     free_point f = free_met p.lent p.state p.holds f
 
     pub searched : LayingSearchable s hash pts u
     searched = searchable_searched u p.searchable kept long
 
-    pub pivot_missed : {next : Counts} → found ≡ Nowhere → Misses c next
+    pub pivot_missed : {next : Counts} → found ≡ None → Misses c next
         → LaysState s hash pts (EntryOpened s.n (edge a b)) (pivot_over s pts r (edge a b)) c w slice next u slice
     unfolding met
     pivot_missed {next} f misses = record {
@@ -176,7 +175,7 @@ module _ {s : Scene} {hash : Hash} {pts : List Float} (r : Float) {c : Counts} {
     }
 
     -- the point that was met is out
-    module _ {k : ℕ} {v : List ℕ} (f : found ≡ To k) (removed : Removed hash pts s.n u v k) (same : length v ≡ length u) where
+    module _ {k : ℕ} {v : List ℕ} (f : found ≡ Some k) (removed : Removed hash pts s.n u v k) (same : length v ≡ length u) where
       aside : Beside s.n w v
       aside = beside_both (beside_search u kept long) (beside_without v (without_one removed) same)
 

@@ -17,7 +17,6 @@ ghost use Rattle.spatial_hash.specs.Inner.Near.{HashLinked};
 
 use decisions::Scene;
 use laying_steps::Counts;
-use pivot::Pivot;
 use seed::{Seed, Told};
 use spatial_hash::Hash;
 
@@ -49,11 +48,11 @@ fn pivot_over(
     let hash = p.hash;
     let found = pivot::try_ball_pivot(s, points, w, p.radius, a as usize, b as usize, hash);
     match found {
-        Pivot::To(k) => {
+        Some(k) => {
             spatial_hash::remove(points, w, s.n, hash, k);
             laying_steps::lay_pivot(faces, w, s.n, c, a, b, k as u32)
         }
-        Pivot::Nowhere => laying_steps::miss(c),
+        None => laying_steps::miss(c),
     }
 }
 

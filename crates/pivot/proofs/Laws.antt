@@ -6,15 +6,14 @@ use mathlib.Core.List.{List, [], ◌∷◌}
 use mathlib.Core.Option.{Option, none, some}
 use lib.Dec.{eqb}
 use lib.Ieee.{Float, lt}
+use Rattle.std.specs.Prelude.{None}
+use Rattle.lists.specs.Inner.Found.{option_found}
 use Rattle.numbers.specs.Rounded.{f32}
 use Rattle.patch.specs.Lay.{Edge}
 use Rattle.patch.specs.Search.{Floats, score_of, best_of, searching}
 use Rattle.lists.specs.Lists.{unused}
-use Rattle.decisions.specs.Found.{score_found, at_least}
-use Rattle.decisions.specs.declared.Score.TheVariants.{None}
+use Rattle.decisions.specs.Found.{at_least}
 use Rattle.nearby.proofs.Laws.{chosen, passed}
-use Rattle.pivot.specs.declared.Pivot.TheVariants.{Nowhere}
-use Rattle.pivot.specs.Inner.Found.{pivot_found}
 
 -- a score, if it is above `top`
 unfoldable pub above : Float → Option Float → Option Float
@@ -23,9 +22,9 @@ above top (some x) = cond (lt top x) (some x) none
 
 module _ {R : Type 0} (floats : Floats R) (r : R) (used : List ℕ) where
   -- ---- the candidates
-  pub unscored : (e : Edge) (k : ℕ) (top : Float) → score_of floats r used e k ≡ none → None ≡ score_found (at_least top (score_of floats r used e k))
+  pub unscored : (e : Edge) (k : ℕ) (top : Float) → score_of floats r used e k ≡ none → None ≡ option_found (at_least top (score_of floats r used e k))
   unfolding at_least
-  unscored e k top h = ap (λ (o : Option Float). score_found (at_least top o)) (sym h)
+  unscored e k top h = ap (λ (o : Option Float). option_found (at_least top o)) (sym h)
 
   pub not_met : (e : Edge) (k : ℕ) → (not (eqb k e.v1) && (not (eqb k e.v2) && unused used k)) ≡ false → score_of floats r used e k ≡ none
   unfolding score_of
@@ -63,11 +62,11 @@ module _ {R : Type 0} (floats : Floats R) (r : R) (used : List ℕ) where
   best_end e top best = refl
 
   -- ---- the pivot
-  pub pivot_not : (n : ℕ) (e : Edge) → floats.pivotable r e ≡ false → Nowhere ≡ pivot_found ((searching floats n).pivot_of r used e)
+  pub pivot_not : (n : ℕ) (e : Edge) → floats.pivotable r e ≡ false → None ≡ option_found ((searching floats n).pivot_of r used e)
   unfolding searching
-  pivot_not n e h = ap pivot_found (sym (passed (floats.pivotable r e) (best_of floats r used e (floats.around r e) (f32 0) none) none h))
+  pivot_not n e h = ap option_found (sym (passed (floats.pivotable r e) (best_of floats r used e (floats.around r e) (f32 0) none) none h))
 
-  pub pivot_is : (n : ℕ) (e : Edge) → floats.pivotable r e ≡ true → pivot_found (best_of floats r used e (floats.around r e) (f32 0) none)
-      ≡ pivot_found ((searching floats n).pivot_of r used e)
+  pub pivot_is : (n : ℕ) (e : Edge) → floats.pivotable r e ≡ true → option_found (best_of floats r used e (floats.around r e) (f32 0) none)
+      ≡ option_found ((searching floats n).pivot_of r used e)
   unfolding searching
-  pivot_is n e h = ap pivot_found (sym (chosen (floats.pivotable r e) (best_of floats r used e (floats.around r e) (f32 0) none) none h))
+  pivot_is n e h = ap option_found (sym (chosen (floats.pivotable r e) (best_of floats r used e (floats.around r e) (f32 0) none) none h))

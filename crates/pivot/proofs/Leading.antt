@@ -10,15 +10,15 @@ use native.Mathlib.Omega.{arith}
 use lib.Dec.{T, eqb}
 use lib.Ieee.{Float, lt, le}
 use lib.Ieee.Bits.{is_true}
+use Rattle.std.specs.Prelude.{Option as Outcome, Some, None}
+use Rattle.lists.specs.Inner.Found.{option_found}
 use Rattle.numbers.specs.Rounded.{f32}
 use Rattle.numbers.proofs.OrderLaws.{le_right, lt_le, le_or_lt, le_not_lt, le_trans, lt_le_trans, le_lt_trans}
 use Rattle.lists.specs.Lists.{count}
 use Rattle.patch.specs.Lay.{Edge}
 use Rattle.patch.specs.Search.{Floats, score_of, best_of}
 use Rattle.lists.proofs.Bools.{either, not-true, true_not_false, and_both, and_false}
-use Rattle.decisions.specs.declared.Score.{Score}
-use Rattle.decisions.specs.declared.Score.TheVariants.{Of, None}
-use Rattle.decisions.specs.Found.{score_found, at_least}
+use Rattle.decisions.specs.Found.{at_least}
 use Rattle.lists.specs.Members.{only, In}
 use Rattle.lists.proofs.Members.{in_head, in_cases}
 use Rattle.nearby.proofs.Ordered.{Strict, Sorted}
@@ -72,36 +72,37 @@ module _ (less : ℕ → ℕ → Bool) (top : Float) (best : Option ℕ) (k : �
 
   -- only if its cell is near enough
   ahead_near : (near : Bool) (z : Option Float) → (near ≡ true → score_ahead less top best k z ≡ none) → None
-      ≡ score_found (score_ahead less top best k (cond near z none))
+      ≡ option_found (score_ahead less top best k (cond near z none))
   unfolding score_ahead
-  ahead_near true z h = ap score_found (sym (h refl))
+  ahead_near true z h = ap option_found (sym (h refl))
   ahead_near false z h = refl
 
 -- ---- a score that the code finds
-at_least_lem : (top : Float) (z : Option Float) (x : Float) → score_found (at_least top z) ≡ Of x → (z ≡ some x) × (le top x ≡ true)
+at_least_lem : (top : Float) (z : Option Float) (x : Float) → option_found (at_least top z) ≡ Some x → (z ≡ some x) × (le top x ≡ true)
 unfolding at_least
 at_least_lem top none x h = absurd (let z : ◌≡◌ {A = ℕ} 0 1 = cc in omega arith)
 at_least_lem top (some y) x h = go (le top y) refl h
   where
-    go : (t : Bool) → le top y ≡ t → score_found (cond t (some y) none) ≡ Of x → (some y ≡ some x) × (le top x ≡ true)
+    go : (t : Bool) → le top y ≡ t → option_found (cond t (some y) none) ≡ Some x → (some y ≡ some x) × (le top x ≡ true)
     go true q h = let i : y ≡ x = cc in (ap some i, ap (le top) (sym i) ∙ q)
     go false q h = absurd (let z : ◌≡◌ {A = ℕ} 0 1 = cc in omega arith)
 
-below : (top : Float) (z : Option Float) → score_found (at_least top z) ≡ None → (x : Float) → z ≡ some x → le top x ≡ false
+below : (top : Float) (z : Option Float) → option_found (at_least top z) ≡ None → (x : Float) → z ≡ some x → le top x ≡ false
 unfolding at_least
 below top none h x q = absurd (let z : ◌≡◌ {A = ℕ} 0 1 = cc in omega arith)
 below top (some y) h x q = let i : y ≡ x = cc in ap (le top) (sym i) ∙ go (le top y) h
   where
-    go : (t : Bool) → score_found (cond t (some y) none) ≡ None → t ≡ false
+    go : (t : Bool) → option_found (cond t (some y) none) ≡ None → t ≡ false
     go true h = absurd (let z : ◌≡◌ {A = ℕ} 0 1 = cc in omega arith)
     go false h = refl
 
-module _ (less : ℕ → ℕ → Bool) (top : Float) (best : Option ℕ) (k : ℕ) (near : Bool) (z : Option Float) {o : Score} (e : o ≡ score_found (at_least top z)) where
-  pub found_low : o ≡ None → None ≡ score_found (score_ahead less top best k (cond near z none))
+module _ (less : ℕ → ℕ → Bool) (top : Float) (best : Option ℕ) (k : ℕ) (near : Bool) (z : Option Float)
+    {o : Outcome Float} (e : o ≡ option_found (at_least top z)) where
+  pub found_low : o ≡ None → None ≡ option_found (score_ahead less top best k (cond near z none))
   found_low h = ahead_near less top best k near z (λ n. not_ahead less top best k z (λ x q. rw (below top z (sym e ∙ h) x q)))
 
-  module _ {x : Float} {b : Bool} (h : o ≡ Of x) (t : b ≡ (near && (lt top x || is_before_best less k best))) where
-    pub found_behind : b ≡ false → None ≡ score_found (score_ahead less top best k (cond near z none))
+  module _ {x : Float} {b : Bool} (h : o ≡ Some x) (t : b ≡ (near && (lt top x || is_before_best less k best))) where
+    pub found_behind : b ≡ false → None ≡ option_found (score_ahead less top best k (cond near z none))
     found_behind g = ahead_near less top best k near z (λ n. not_ahead less top best k z (λ y i.
         let j : x ≡ y = same (sym (at_least_lem top z x (sym e ∙ h)).0 ∙ i) in
         subst (λ (v : Float). (le top v && (lt top v || is_before_best less k best)) ≡ false) j (rw (behind n) (and_false (le top x)))))
@@ -112,7 +113,7 @@ module _ (less : ℕ → ℕ → Bool) (top : Float) (best : Option ℕ) (k : �
         behind : near ≡ true → (lt top x || is_before_best less k best) ≡ false
         behind n = ap (λ (m : Bool). m && (lt top x || is_before_best less k best)) (sym n) ∙ sym t ∙ g
 
-    pub found_ahead : b ≡ true → Of x ≡ score_found (score_ahead less top best k (cond near z none))
+    pub found_ahead : b ≡ true → Some x ≡ option_found (score_ahead less top best k (cond near z none))
     unfolding score_ahead
     found_ahead g =
         let p = and_both {p = near} (sym t ∙ g) in

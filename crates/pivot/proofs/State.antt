@@ -10,6 +10,8 @@ use lib.Dec.{ltb}
 use lib.ListN.{take}
 use lib.Ieee.{Float, lt}
 use borrow.Author.Tests.{ltb-true, lt-ltb}
+use Rattle.std.specs.Prelude.{Option as Outcome, Some, None}
+use Rattle.lists.specs.Inner.Found.{option_sought}
 use Rattle.numbers.specs.Rounded.{f32}
 use Rattle.vector.specs.declared.Point3f.{Point3f}
 use Rattle.points.specs.Points.{point_at}
@@ -31,26 +33,24 @@ use Rattle.nearby.specs.Inner.Narrow.{in_reach, in_cells, cell_at, Filters, Coll
 use Rattle.nearby.proofs.Ordered.{Strict}
 use Rattle.nearby.proofs.Earlier.{earlier_strict, order_of_sorted, order_of_count, neighbors_only}
 use Rattle.nearby.proofs.Narrowing.{earlier_kept, in_reach_lem, in_unused, out_of_reach}
-use Rattle.pivot.specs.Inner.Found.{MetPoint, point_of}
-use Rattle.pivot.specs.declared.Pivot.{Pivot}
-use Rattle.pivot.specs.declared.Pivot.TheVariants.{To, Nowhere}
+use Rattle.pivot.specs.Inner.Found.{MetPoint}
 use Rattle.pivot.specs.Inner.Best.{is_before_best, leader, score_in}
 use Rattle.pivot.proofs.Leading.{any_order, in_order_lem}
 use Rattle.pivot.proofs.LeftOut.{first_far, second_far, score_out}
 
 -- the tests over the kept cells are those of the points' own
-pub test_kept : (s : Scene) (pts : List Float) (w : List ℕ) (f : Filter) (k : ℕ) (x top : Float) (best : Pivot) → Cells s.grid pts s.n w → k < s.n
+pub test_kept : (s : Scene) (pts : List Float) (w : List ℕ) (f : Filter) (k : ℕ) (x top : Float) (best : Outcome ℕ) → Cells s.grid pts s.n w → k < s.n
     → MetPoint s best
     → ((not s.indexed || in_range f.range f.cell (cell_in w s.n k))
-    && (lt top x || is_before_best (earlier s.indexed (cell_in w s.n)) k (point_of best)))
-    ≡ (in_cells s.indexed s.grid pts f.range f.cell k && (lt top x || is_before_best (earlier s.indexed (cell_at s.grid pts)) k (point_of best)))
+    && (lt top x || is_before_best (earlier s.indexed (cell_in w s.n)) k (option_sought best)))
+    ≡ (in_cells s.indexed s.grid pts f.range f.cell k && (lt top x || is_before_best (earlier s.indexed (cell_at s.grid pts)) k (option_sought best)))
 unfolding in_cells
 test_kept s pts w f k x top best c h m = rw (c k h, before_kept best m)
   where
-    before_kept : (best : Pivot) → MetPoint s best → is_before_best (earlier s.indexed (cell_in w s.n)) k (point_of best)
-        ≡ is_before_best (earlier s.indexed (cell_at s.grid pts)) k (point_of best)
-    before_kept Nowhere m = refl
-    before_kept (To j) m = earlier_kept s.indexed s.grid pts s.n w c k j h (m j refl)
+    before_kept : (best : Outcome ℕ) → MetPoint s best → is_before_best (earlier s.indexed (cell_in w s.n)) k (option_sought best)
+        ≡ is_before_best (earlier s.indexed (cell_at s.grid pts)) k (option_sought best)
+    before_kept None m = refl
+    before_kept (Some j) m = earlier_kept s.indexed s.grid pts s.n w c k j h (m j refl)
 
 -- a point with a score is among the collected ones
 scored_in : (s : Scene) (pts : List Float) (r : Float) (f : Filter) (w u : List ℕ) (found a b : ℕ) {q : Point3f} → Limit r f.limit → f.center

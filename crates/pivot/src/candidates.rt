@@ -10,16 +10,16 @@ ghost use Rattle.spatial_hash.specs.Inner.Near.{Hashed};
 ghost use Rattle.patch.specs.Lay.{edge};
 ghost use Rattle.patch.specs.Search.{score_of, best_of};
 ghost use Rattle.decisions.specs.Decisions.{floats_of};
-ghost use Rattle.decisions.specs.Found.{score_found, at_least};
+ghost use Rattle.lists.specs.Inner.Found.{option_found, option_sought};
+ghost use Rattle.decisions.specs.Found.{at_least};
 ghost use Rattle.scores.specs.Inner.Over.{edge_side, Thinned};
 ghost use Rattle.nearby.specs.Inner.Ready.{SceneHeld, NeighborsListed, SceneKept, used_in_scene, neighbors_listed};
 ghost use Rattle.nearby.specs.Inner.Narrow.{cell_at};
 ghost use Rattle.regions.specs.Inner.Regions.{neighbors_at};
-ghost use Rattle.pivot.specs.Inner.Found.{pivot_found, point_of, MetPoint};
+ghost use Rattle.pivot.specs.Inner.Found.{MetPoint};
 ghost use Rattle.pivot.specs.Inner.Best.{is_before_best, score_ahead, leader, score_in};
 
-use crate::Pivot;
-use decisions::{Scene, Score};
+use decisions::Scene;
 use nearby::Filter;
 use scores::Side;
 use spatial_hash::Hash;
@@ -35,51 +35,62 @@ pub struct Over {
 }
 
 // The score of point k over an edge, if it may be met and the score is not below `top`.
-fn score_of(s: Scene, points: &[f32], w: &[u32], o: Over, k: usize, top: f32, thin: f32) -> Score
+fn score_of(
+    s: Scene,
+    points: &[f32],
+    w: &[u32],
+    o: Over,
+    k: usize,
+    top: f32,
+    thin: f32,
+) -> Option<f32>
     requires { SceneHeld s points.now w.now × (k < s.n)
         × (o.side ≡ edge_side (point_at points.now o.a) (point_at points.now o.b)) × Thinned top thin }
     ensures { result
-        ≡ score_found
+        ≡ option_found
         (at_least top (score_of (floats_of s points.now) o.radius (used_in_scene s w.now)
         (edge o.a o.b) k)) }
 {
     if k == o.a {
-        return Score::None;
+        return None;
     }
     if k == o.b {
-        return Score::None;
+        return None;
     }
     if !nearby::is_unused(s, w, k) {
-        return Score::None;
+        return None;
     }
     let t = points::point_at(points, k);
     scores::score_over(s, o.radius, o.side, t, top, thin)
 }
 
 // Whether point k comes before the best one so far, if there is one.
-fn is_before(s: Scene, w: &[u32], k: usize, best: Pivot) -> bool
+fn is_before(s: Scene, w: &[u32], k: usize, best: Option<usize>) -> bool
     requires { MetPoint s best × (k < s.n) × (s.n ≤ 4096) × (neighbors_at s.n ≤ length w.now) }
-    ensures { result ≡ is_before_best (earlier s.indexed (cell_in w.now s.n)) k (point_of best) }
+    ensures { result ≡ is_before_best (earlier s.indexed (cell_in w.now s.n)) k (option_sought best) }
 {
-    if let Pivot::To(j) = best {
-        return grid::order::comes_first(w, s.n, s.indexed, k, j);
+    match best {
+        Some(j) => grid::order::comes_first(w, s.n, s.indexed, k, j),
+        None => false,
     }
-    false
 }
 
 // Whether point k, a neighbour if its cell is near enough, becomes the best with a score that is not below `top`.
-fn is_ahead(s: Scene, w: &[u32], f: Filter, k: usize, score: f32, top: f32, best: Pivot) -> bool
+fn is_ahead(
+    s: Scene,
+    w: &[u32],
+    f: Filter,
+    k: usize,
+    score: f32,
+    top: f32,
+    best: Option<usize>,
+) -> bool
     requires { MetPoint s best × (k < s.n) × (s.n ≤ 4096) × (neighbors_at s.n ≤ length w.now) }
     ensures { result ≡ ((not s.indexed || in_range f.range f.cell (cell_in w.now s.n k))
-        && (lt top score || is_before_best (earlier s.indexed (cell_in w.now s.n)) k (point_of best))) }
+        && (lt top score || is_before_best (earlier s.indexed (cell_in w.now s.n)) k (option_sought best))) }
 {
-    if !grid::search::is_near(w, s.n, s.indexed, f.range, f.cell, k) {
-        return false;
-    }
-    if score > top {
-        return true;
-    }
-    is_before(s, w, k, best)
+    grid::search::is_near(w, s.n, s.indexed, f.range, f.cell, k)
+        && (score > top || is_before(s, w, k, best))
 }
 
 // The score of point k if it becomes the best: if it is above `top`, or as high and k comes before the best so far.
@@ -91,22 +102,22 @@ fn score_ahead(
     k: usize,
     top: f32,
     thin: f32,
-    best: Pivot,
-) -> Score
+    best: Option<usize>,
+) -> Option<f32>
     requires { SceneHeld s points.now w.now × Cells s.grid points.now s.n w.now × (k < s.n)
         × (o.side ≡ edge_side (point_at points.now o.a) (point_at points.now o.b)) × Thinned top thin
         × MetPoint s best }
     ensures { result
-        ≡ score_found (score_ahead (earlier s.indexed (cell_at s.grid points.now)) top (point_of best) k
+        ≡ option_found (score_ahead (earlier s.indexed (cell_at s.grid points.now)) top (option_sought best) k
         (score_in s points.now o.radius (used_in_scene s w.now) o.filter (edge o.a o.b)
         k)) }
 {
-    if let Score::Of(x) = score_of(s, points, w, o, k, top, thin) {
-        if is_ahead(s, w, o.filter, k, x, top, best) {
-            return Score::Of(x);
-        }
+    let x = score_of(s, points, w, o, k, top, thin)?;
+    if is_ahead(s, w, o.filter, k, x, top, best) {
+        Some(x)
+    } else {
+        None
     }
-    Score::None
 }
 
 // Of the listed points that are neighbours the one with the highest score above 0, the first in their order on
@@ -120,12 +131,12 @@ fn best_of(
     f: Filter,
     a: usize,
     b: usize,
-) -> Pivot
+) -> Option<usize>
     requires { SceneHeld s points.now w.now × Cells s.grid points.now s.n w.now
         × NeighborsListed s w.now count
         × (a < s.n) × (b < s.n) }
     ensures { result
-        ≡ pivot_found (leader (earlier s.indexed (cell_at s.grid points.now))
+        ≡ option_found (leader (earlier s.indexed (cell_at s.grid points.now))
         (score_in s points.now radius (used_in_scene s w.now) f (edge a b))
         (neighbors_listed s w.now count) (f32 0) none) }
 {
@@ -140,13 +151,13 @@ fn best_of(
     };
     let mut top = 0.0;
     let mut thin = scores::thin_at(0.0);
-    let mut best = Pivot::Nowhere;
+    let mut best = None;
     for m in 0..count {
         let k = nearby::listed_point(s, w, count, m);
-        if let Score::Of(x) = score_ahead(s, points, w, over, k, top, thin, best) {
+        if let Some(x) = score_ahead(s, points, w, over, k, top, thin, best) {
             top = x;
             thin = scores::thin_at(x);
-            best = Pivot::To(k);
+            best = Some(k);
         }
     }
     best
@@ -161,11 +172,11 @@ pub fn find_best(
     a: usize,
     b: usize,
     hash: Hash,
-) -> Pivot
+) -> Option<usize>
     requires { SceneHeld s points.now w.old × CellsIndexed s.grid points.now s.n w.old
         × Hashed hash points.now s.n w.old × (a < s.n) × (b < s.n) }
     ensures { (result
-        ≡ pivot_found (best_of (floats_of s points.now) radius (used_in_scene s w.old) (edge a b)
+        ≡ option_found (best_of (floats_of s points.now) radius (used_in_scene s w.old) (edge a b)
         ((floats_of s points.now).around radius (edge a b)) (f32 0) none))
         × SceneKept s w.old w.new }
 {

@@ -10,16 +10,10 @@ ghost use Rattle.patch.specs.Lay.{edge};
 ghost use Rattle.patch.specs.Search.{searching};
 ghost use Rattle.decisions.specs.Decisions.{floats_of};
 ghost use Rattle.nearby.specs.Inner.Ready.{SceneHeld, used_in_scene, SceneKept};
-ghost use Rattle.pivot.specs.Inner.Found.{pivot_found};
+ghost use Rattle.lists.specs.Inner.Found.{option_found};
 
 use decisions::Scene;
 use spatial_hash::Hash;
-
-#[derive(Clone, Copy)]
-pub enum Pivot {
-    To(usize),
-    Nowhere,
-}
 
 // The unused point that makes the best acceptable triangle with the edge a, b.
 pub fn try_ball_pivot(
@@ -30,16 +24,16 @@ pub fn try_ball_pivot(
     a: usize,
     b: usize,
     hash: Hash,
-) -> Pivot
+) -> Option<usize>
     requires { SceneHeld s points.now w.old × CellsIndexed s.grid points.now s.n w.old
         × Hashed hash points.now s.n w.old × (a < s.n) × (b < s.n) }
     ensures { (result
-        ≡ pivot_found ((searching (floats_of s points.now) s.n).pivot_of radius
+        ≡ option_found ((searching (floats_of s points.now) s.n).pivot_of radius
         (used_in_scene s w.old)
         (edge a b))) × SceneKept s w.old w.new }
 {
     if !decisions::is_pivotable(points, radius, a, b) {
-        return Pivot::Nowhere;
+        return None;
     }
     candidates::find_best(s, points, w, radius, a, b, hash)
 }

@@ -7,6 +7,8 @@ use mathlib.Core.Option.{Option, none, some}
 use lib.Dec.{T, not_T}
 use lib.Ieee.{Float, le}
 use lib.Ieee.Bits.{is_false}
+use Rattle.std.specs.Prelude.{Option as Outcome, None}
+use Rattle.lists.specs.Inner.Found.{option_found}
 use Rattle.numbers.proofs.OrderLaws.{le_not_lt}
 use Rattle.numbers.specs.Rounded.{◌⊗◌}
 use Rattle.numbers.specs.Root.{root}
@@ -22,10 +24,8 @@ use Rattle.score_bounds.proofs.Aspect.{aspect_low}
 use Rattle.points.specs.Points.{point_at}
 use Rattle.patch.specs.Lay.{edge}
 use Rattle.decisions.specs.declared.Scene.{Scene}
-use Rattle.decisions.specs.declared.Score.{Score}
-use Rattle.decisions.specs.declared.Score.TheVariants.{None}
 use Rattle.decisions.specs.Decisions.{apart, quality_at, accepts, score_at}
-use Rattle.decisions.specs.Found.{score_found, at_least, accepted_score}
+use Rattle.decisions.specs.Found.{at_least, accepted_score}
 use Rattle.scores.specs.declared.Side.{Side}
 use Rattle.scores.specs.Inner.Over.{edge_side, score_near, score_over, Thinned}
 
@@ -33,16 +33,16 @@ use Rattle.scores.specs.Inner.Over.{edge_side, score_near, score_over, Thinned}
 
 -- one that is accepted counts if it is near
 module _ (s : Scene) (r top a b c area : Float) where
-  pub score_near_lem : le c r ≡ true → le b r ≡ true → {o : Score} → o ≡ score_found (at_least top (accepted_score s r (quality_of a b c area))) → o
-      ≡ score_found (at_least top (score_near s r a b c area))
+  pub score_near_lem : le c r ≡ true → le b r ≡ true → {o : Outcome Float} → o ≡ option_found (at_least top (accepted_score s r (quality_of a b c area))) → o
+      ≡ option_found (at_least top (score_near s r a b c area))
   unfolding score_near accepted_score
   score_near_lem h g e = rw (h, g) e
 
-  pub score_far : le c r ≡ false → None ≡ score_found (at_least top (score_near s r a b c area))
+  pub score_far : le c r ≡ false → None ≡ option_found (at_least top (score_near s r a b c area))
   unfolding score_near at_least
   score_far h = rw h
 
-  pub score_far_too : le b r ≡ false → None ≡ score_found (at_least top (score_near s r a b c area))
+  pub score_far_too : le b r ≡ false → None ≡ option_found (at_least top (score_near s r a b c area))
   unfolding score_near at_least
   score_far_too h = rw (h, and_false (le c r))
     where
@@ -52,9 +52,9 @@ module _ (s : Scene) (r top a b c area : Float) where
 
   -- an aspect ratio so low that no score reaches `top`
   pub score_thin : {limit : Float} → (l : Thinned top limit) → T (le (shape_of a b c area).aspect_ratio l.aspect) → None
-      ≡ score_found (at_least top (score_near s r a b c area))
+      ≡ option_found (at_least top (score_near s r a b c area))
   unfolding score_near at_least
-  score_thin l h = ap score_found (sym (go (le c r && (le b r && accepts s r (quality_of a b c area)))))
+  score_thin l h = ap option_found (sym (go (le c r && (le b r && accepts s r (quality_of a b c area)))))
     where
       x : Float
       x = (quality_of a b c area).quality_score
@@ -69,16 +69,16 @@ module _ (s : Scene) (r top a b c area : Float) where
 -- ---- of points
 
 module _ (s : Scene) (r top : Float) (p q t : Point3f) where
-  abbrev over : Score
-  over = score_found (at_least top (score_over s r p q t))
+  abbrev over : Outcome Float
+  over = option_found (at_least top (score_over s r p q t))
 
   over_is : score_near s r (root (squared q p)) (root (squared t q)) (root (squared t p)) (root (cross_squared p q t) ⊗ half) ≡ score_over s r p q t
   unfolding score_over distance area magnitude cross_squared
   over_is = refl
 
-  pub over_found : {o : Score} → o
-      ≡ score_found (at_least top (score_near s r (root (squared q p)) (root (squared t q)) (root (squared t p)) (root (cross_squared p q t) ⊗ half))) → o ≡ over
-  over_found e = e ∙ ap (λ (x : Option Float). score_found (at_least top x)) over_is
+  pub over_found : {o : Outcome Float} → o
+      ≡ option_found (at_least top (score_near s r (root (squared q p)) (root (squared t q)) (root (squared t p)) (root (cross_squared p q t) ⊗ half))) → o ≡ over
+  over_found e = e ∙ ap (λ (x : Option Float). option_found (at_least top x)) over_is
 
   pub over_thin : {limit : Float} → Thinned top limit → AllThin limit (squared q p) (squared t q) (squared t p) (cross_squared p q t) → None ≡ over
   over_thin l h = over_found

@@ -106,7 +106,18 @@ fn search_each(
     let mut left = budget;
     for m in first.from..end {
         let j = nearby::listed_point(s, w, end, m);
-        left = search_beside(s, points, w, to, radius, limits, i, j, later(from, m + 1), left);
+        left = search_beside(
+            s,
+            points,
+            w,
+            to,
+            radius,
+            limits,
+            i,
+            j,
+            later(from, m + 1),
+            left,
+        );
         if left == 0 {
             return 0;
         }

@@ -3,10 +3,10 @@ use mathlib.Core.Path.{sym}
 use Rattle.decisions.specs.Decisions.{pivotable}
 use Rattle.decisions.proofs.is_pivotable.Goals as goal
 
-pub returns-then-d-radius : goal.returns-then-d-radius
+pub returns-then-not-d-radius : goal.returns-then-not-d-radius
 unfolding pivotable
-returns-then-d-radius c = rw (sym c.apart_at-d.ensures, c.if-d-radius.true)
+returns-then-not-d-radius c = rw (sym c.apart_at-d.ensures, c.if-not-d-radius.true)
 
-pub returns : goal.returns
+pub returns-else-not-d-radius : goal.returns-else-not-d-radius
 unfolding pivotable
-returns c = rw (sym c.apart_at-d.ensures, c.if-d-radius.false)
+returns-else-not-d-radius c = rw (sym c.apart_at-d.ensures, c.if-not-d-radius.false)

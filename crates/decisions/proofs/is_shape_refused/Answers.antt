@@ -5,5 +5,5 @@ use Rattle.decisions.proofs.is_shape_refused.Goals as goal
 pub returns-then-score_bound-s : goal.returns-then-score_bound-s
 returns-then-score_bound-s c = let a = c.args in λ h. shape_low a.s a.radius c.score_bound.ensures c.if-score_bound-s.true
 
-pub returns : goal.returns
-returns c = let a = c.args in λ h. shape_long a.s a.radius c.sqrt.ensures h
+pub returns-else-score_bound-s : goal.returns-else-score_bound-s
+returns-else-score_bound-s c = let a = c.args in λ h. shape_long a.s a.radius c.sqrt.ensures h

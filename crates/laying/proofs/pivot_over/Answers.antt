@@ -18,7 +18,7 @@ remove-requires c =
       (searched s.args.p.radius s.requires t.try_ball_pivot-found.ensures.0 t.try_ball_pivot-found.ensures.1
           t.try_ball_pivot-found.auto.w).hashed.linked,
       (free_point s.args.p.radius s.requires t.try_ball_pivot-found.ensures.0
-          t.try_ball_pivot-found.ensures.1 t.try_ball_pivot-found.auto.w c.in-To.is).below,
+          t.try_ball_pivot-found.ensures.1 t.try_ball_pivot-found.auto.w c.in-Some.is).below,
     )
 
 pub overflow_cast-k : goal.overflow_cast-k
@@ -27,7 +27,7 @@ overflow_cast-k c =
     let t = f in
     let s = t in
     let h = free_point s.args.p.radius s.requires t.try_ball_pivot-found.ensures.0 t.try_ball_pivot-found.ensures.1 t.try_ball_pivot-found.auto.w
-    c.in-To.is in
+    c.in-Some.is in
     omega (arith, h.below, s.requires.searchable.held.few)
 
 pub lay_pivot-requires : goal.lay_pivot-requires
@@ -37,7 +37,7 @@ lay_pivot-requires c =
     let t = f in
     let s = t in
     pivot_room s.args.p.radius s.requires t.try_ball_pivot-found.ensures.0 t.try_ball_pivot-found.ensures.1 t.try_ball_pivot-found.auto.w
-    c.in-To.is r.remove.ensures r.remove.auto.w
+    c.in-Some.is r.remove.ensures r.remove.auto.w
 
 pub miss-requires : goal.miss-requires
 miss-requires c =
@@ -45,19 +45,19 @@ miss-requires c =
     let s = t in
     few_pivots s.args.p.radius s.requires
 
-pub returns-in-To : goal.returns-in-To
-returns-in-To c =
+pub returns-in-Some : goal.returns-in-Some
+returns-in-Some c =
     let p = c in
     let r = p in
     let f = r in
     let t = f in
     let s = t in
     pivot_laid s.args.p.radius s.requires t.try_ball_pivot-found.ensures.0 t.try_ball_pivot-found.ensures.1 t.try_ball_pivot-found.auto.w
-    c.in-To.is r.remove.ensures r.remove.auto.w p.lay_pivot.ensures.takes p.lay_pivot.ensures.only_in
+    c.in-Some.is r.remove.ensures r.remove.auto.w p.lay_pivot.ensures.takes p.lay_pivot.ensures.only_in
 
-pub returns-in-Nowhere : goal.returns-in-Nowhere
-returns-in-Nowhere c =
+pub returns-in-None : goal.returns-in-None
+returns-in-None c =
     let t = c in
     let s = t in
     pivot_missed s.args.p.radius s.requires t.try_ball_pivot-found.ensures.0 t.try_ball_pivot-found.ensures.1 t.try_ball_pivot-found.auto.w
-    c.in-Nowhere.is c.miss.ensures
+    c.in-None.is c.miss.ensures

@@ -6,7 +6,7 @@ use Rattle.scores.specs.declared.Side.{Side}
 use Rattle.scores.specs.Inner.Over.{edge_side}
 use Rattle.pivot.proofs.Steps.{best_start, best_skip, best_taken, best_all}
 use Rattle.pivot.proofs.candidates.best_of.Goals as goal
-use Rattle.pivot.proofs.candidates.best_of.Goals.{in-Of, in_default}
+use Rattle.pivot.proofs.candidates.best_of.Goals.{in-Some, in_default}
 
 between : {side : Side} {p q x y : Point3f} → side ≡ edge_side p q → p ≡ x → q ≡ y → side ≡ edge_side x y
 between e f g = rw (← f, ← g) e
@@ -38,7 +38,7 @@ loop-m-preserved c =
     let p = c.listed_point-k.ensures in
     let e = c.score_ahead.ensures in
     elim c.match-score_ahead.branch [
-      | in-Of w ↦ rw (w.top-is, w.thin-is, w.best-is) (best_taken k.0 p.1 t p.0 e w.in-Of.is, w.thin_at-thin-in-Of.ensures)
+      | in-Some w ↦ rw (w.top-is, w.thin-is, w.best-is) (best_taken k.0 p.1 t p.0 e w.in-Some.is, w.thin_at-thin-in-Some.ensures)
       | in_default w ↦ rw (w.top-is, w.thin-is, w.best-is) (best_skip k.0 t p.0 e w.in_default.is, k.1)
     ]
 

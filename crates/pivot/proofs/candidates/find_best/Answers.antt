@@ -4,7 +4,7 @@ use mathlib.Core.Path.{sym, ap, ◌∙◌, subst}
 use Rattle.vector.specs.Inner.Numbers.{Finite}
 use Rattle.nearby.proofs.Keeping.{held_kept, cells_kept}
 use Rattle.nearby.proofs.Narrowing.{collected_listed}
-use Rattle.pivot.specs.Inner.Found.{pivot_found}
+use Rattle.lists.specs.Inner.Found.{option_found}
 use Rattle.pivot.proofs.State.{best_around}
 use Rattle.pivot.proofs.candidates.find_best.Goals as goal
 
@@ -45,7 +45,7 @@ returns c =
     let m = middle_of in
     let q = point-at2 in
     let p = point_at_lem in (
-      c.best_of.ensures ∙ ap pivot_found
+      c.best_of.ensures ∙ ap option_found
           (best_around a.s a.points.now a.radius f.result a.w.now g.new.w g.result a.a a.b p.ensures q.ensures
           m.ensures f.ensures g.ensures),
       g.ensures.kept,

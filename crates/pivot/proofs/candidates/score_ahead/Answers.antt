@@ -7,7 +7,7 @@ use Rattle.patch.specs.Search.{score_of}
 use Rattle.decisions.specs.Decisions.{floats_of}
 use Rattle.nearby.specs.Inner.Ready.{used_in_scene}
 use Rattle.nearby.specs.Inner.Narrow.{cell_at, in_cells}
-use Rattle.pivot.specs.Inner.Found.{point_of}
+use Rattle.lists.specs.Inner.Found.{option_sought}
 use Rattle.pivot.specs.Inner.Best.{score_in}
 use Rattle.pivot.proofs.Leading.{found_low, found_behind, found_ahead}
 use Rattle.pivot.proofs.State.{test_kept}
@@ -27,10 +27,10 @@ returns-then-is_ahead c =
     let start = c in
     let n = start in
     let a = n.args in
-    found_ahead (earlier a.s.indexed (cell_at a.s.grid a.points.now)) a.top (point_of a.best) a.k
+    found_ahead (earlier a.s.indexed (cell_at a.s.grid a.points.now)) a.top (option_sought a.best) a.k
     (in_cells a.s.indexed a.s.grid a.points.now a.o.filter.range a.o.filter.cell a.k)
     (score_of (floats_of a.s a.points.now) a.o.radius (used_in_scene a.s a.w.now) (edge a.o.a a.o.b) a.k)
-    score-of.ensures c.in-Of.is
+    score-of.ensures c.in_ok-x.was
     (c.is_ahead.ensures ∙ test_kept a.s a.points.now a.w.now a.o.filter a.k _ a.top a.best n.requires.1 n.requires.2
     n.requires.5) c.if-is_ahead.true
 
@@ -41,18 +41,18 @@ returns-else-is_ahead c =
     let start = c in
     let n = start in
     let a = n.args in
-    found_behind (earlier a.s.indexed (cell_at a.s.grid a.points.now)) a.top (point_of a.best) a.k
+    found_behind (earlier a.s.indexed (cell_at a.s.grid a.points.now)) a.top (option_sought a.best) a.k
     (in_cells a.s.indexed a.s.grid a.points.now a.o.filter.range a.o.filter.cell a.k)
     (score_of (floats_of a.s a.points.now) a.o.radius (used_in_scene a.s a.w.now) (edge a.o.a a.o.b) a.k)
-    score-of.ensures c.in-Of.is
+    score-of.ensures c.in_ok-x.was
     (c.is_ahead.ensures ∙ test_kept a.s a.points.now a.w.now a.o.filter a.k _ a.top a.best n.requires.1 n.requires.2
     n.requires.5) c.if-is_ahead.false
 
-pub returns-in_default : goal.returns-in_default
+pub returns-in_err-x : goal.returns-in_err-x
 unfolding score_in
-returns-in_default c =
+returns-in_err-x c =
     let a = c.args in
-    found_low (earlier a.s.indexed (cell_at a.s.grid a.points.now)) a.top (point_of a.best) a.k
+    c.from_residual.ensures ∙ found_low (earlier a.s.indexed (cell_at a.s.grid a.points.now)) a.top (option_sought a.best) a.k
     (in_cells a.s.indexed a.s.grid a.points.now a.o.filter.range a.o.filter.cell a.k)
     (score_of (floats_of a.s a.points.now) a.o.radius (used_in_scene a.s a.w.now) (edge a.o.a a.o.b) a.k)
-    c.score_of.ensures c.in_default.is
+    c.score_of.ensures c.in_err-x.was

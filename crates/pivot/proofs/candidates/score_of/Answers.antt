@@ -6,7 +6,8 @@ use borrow.Author.Tests.{eq-eqb, ne_eqb}
 use Rattle.points.specs.Points.{point_at}
 use Rattle.patch.specs.Lay.{edge}
 use Rattle.decisions.specs.Decisions.{floats_of}
-use Rattle.decisions.specs.Found.{score_found, at_least}
+use Rattle.lists.specs.Inner.Found.{option_found}
+use Rattle.decisions.specs.Found.{at_least}
 use Rattle.scores.proofs.Over.{over_at, side_own}
 use Rattle.nearby.specs.Inner.Ready.{used_in_scene}
 use Rattle.pivot.proofs.Laws.{met, not_met, unscored}
@@ -52,7 +53,7 @@ returns c =
     let a = n.args in
     let u = c.is_unused in
     c.score_over.ensures
-    ∙ ap (λ (o : Option Float). score_found (at_least a.top o))
+    ∙ ap (λ (o : Option Float). option_found (at_least a.top o))
     (over_at a.s a.points.now a.o.radius a.o.a a.o.b a.k n.requires.2 c.point_at-t.ensures
     ∙ met (floats_of a.s a.points.now) a.o.radius (used_in_scene a.s a.w.now) (edge a.o.a a.o.b) a.k
     (rw (ne_eqb a.k a.o.a if1.false, ne_eqb a.k a.o.b if2.false) (sym u.ensures ∙ c.if-not-is_unused.false)))
