@@ -3,7 +3,7 @@
 use mathlib.Core.Path.{◌≡◌}
 use mathlib.Core.Bool.{Bool, true, false, not, cond}
 use lib.Dec.{T}
-use lib.Ieee.{Float, nan, mul, lt, le, is_nan, of_bits}
+use lib.Ieee.{Float, mul, lt, le, is_nan, of_bits}
 use lib.Ieee.Scale.{finite}
 use lib.Ieee.Positive.{positive, positive-finite}
 use Rattle.numbers.specs.Rounded.{f32, ◌⊕◌, ◌⊗◌, ◌⊘◌}
@@ -28,9 +28,6 @@ three_least f comm {a} {b} {c} i j k bca = least_third _ _ _ k
 three_least f comm {a} {b} {c} i j k bac = rw (comm b a) (least_first _ _ _ i)
 three_least f comm {a} {b} {c} i j k cab = rw (comm c a) (least_second _ _ _ j)
 three_least f comm {a} {b} {c} i j k cba = rw (comm c b) (least_third _ _ _ k)
-
-pub no_aspect_bound : (a b c X : Float) → AspectFrom a b c X nan
-no_aspect_bound a b c X = record { longer = λ x y z A B C. record { most = λ u v w r o h k n. absurd (unfold is_nan in n) } }
 
 -- ---- edges that are not shorter
 

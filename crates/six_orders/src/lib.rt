@@ -2,11 +2,11 @@
 // sums and products are rounded, which two angles are measured and which one is left over.
 #![tactic(auto)]
 
-ghost use Rattle.std.specs.Prelude.{◌≡◌, true, not, T};
+ghost use Rattle.std.specs.Prelude.{◌≡◌, true, not, T, IfSome};
 ghost use Rattle.std.specs.Float.{binary32};
 ghost use Rattle.std.specs.Float.Ieee.{fits, is_nan};
 ghost use Rattle.std.specs.Float.Ieee.Positive.{positive};
-ghost use Rattle.six_orders.specs.Inner.SixOrders.{AngleBound, AspectFrom, EdgeBound, AllBelow};
+ghost use Rattle.six_orders.specs.Inner.SixOrders.{AngleBound, AspectFrom, LowAspect, EdgeBound, AllBelow};
 ghost use Rattle.six_orders.specs.Inner.SixOrders.{EdgeFrom, AllBelowFrom};
 
 // Whether x is above zero, and not infinite.
@@ -20,13 +20,7 @@ fn is_positive(x: f32) -> bool
 fn are_positive(x: f32, y: f32, z: f32) -> bool
     ensures { result ≡ true → T (positive x) × T (positive y) × T (positive z) }
 {
-    if !is_positive(x) {
-        return false;
-    }
-    if !is_positive(y) {
-        return false;
-    }
-    is_positive(z)
+    is_positive(x) && is_positive(y) && is_positive(z)
 }
 
 // Whether none of three is a not-a-number; no angle is above 4.
@@ -69,11 +63,11 @@ fn angle_bound(a: f32, b: f32, c: f32) -> f32
     numbers::max(numbers::max(x, forward), backward)
 }
 
-// What the aspect ratio is at most in each order, with areas up to a largest one and edges that are not shorter: with
-// the least of the sums and of the products.
-fn aspect_bound(a: f32, b: f32, c: f32, area: f32) -> f32
+// What the aspect ratio is at most in each order, with areas up to a largest one and edges that are not shorter, if that
+// can be told: with the least of the sums and of the products.
+fn aspect_bound(a: f32, b: f32, c: f32, area: f32) -> Option<f32>
     requires { T (positive a) × T (positive b) × T (positive c) }
-    ensures { AspectFrom a b c area result }
+    ensures { IfSome result (AspectFrom a b c area) }
 {
     let half = quality::measure::least(a + b + c, a + c + b, b + c + a) * 0.5;
     let product = quality::measure::least(a * b * c, a * c * b, b * c * a);
@@ -81,12 +75,12 @@ fn aspect_bound(a: f32, b: f32, c: f32, area: f32) -> f32
     let inradius = area / half;
     let radius = product / fourfold;
     if !are_positive(half, product, fourfold) {
-        return 0.0 / 0.0;
+        return None;
     }
     if !are_positive(area, inradius, radius) {
-        return 0.0 / 0.0;
+        return None;
     }
-    inradius / radius
+    Some(inradius / radius)
 }
 
 // What the edge ratio is at least in each order.
@@ -114,21 +108,29 @@ fn edge_from(a: f32, b: f32, c: f32, s: f32) -> f32
     0.0 / 0.0
 }
 
+// A bound of the aspect ratio in each order of edges that are not shorter, with areas up to a largest one, where scores
+// can be told to be below a threshold by it.
+fn low_aspect(threshold: f32, a: f32, b: f32, c: f32, area: f32) -> Option<f32>
+    ensures { IfSome result (LowAspect threshold a b c area) }
+{
+    if !(0.0 < threshold) {
+        return None;
+    }
+    if !are_positive(a, b, c) {
+        return None;
+    }
+    let aspect = aspect_bound(a, b, c, area)?;
+    if aspect <= 4.0 { Some(aspect) } else { None }
+}
+
 // Whether the score is below a threshold in each order, with each area up to a largest one. The bound is closest where
 // a is the shortest edge.
 fn is_low_by(threshold: f32, a: f32, b: f32, c: f32, area: f32) -> bool
     ensures { result ≡ true → AllBelow threshold area a b c }
 {
-    if !(0.0 < threshold) {
+    let Some(aspect) = low_aspect(threshold, a, b, c, area) else {
         return false;
-    }
-    if !are_positive(a, b, c) {
-        return false;
-    }
-    let aspect = aspect_bound(a, b, c, area);
-    if !(aspect <= 4.0) {
-        return false;
-    }
+    };
     quality::score(angle_bound(a, b, c), aspect, edge_bound(a, b, c)) < threshold
 }
 
@@ -153,15 +155,8 @@ pub fn is_low(threshold: f32, a: f32, b: f32, c: f32, area: f32) -> bool
 pub fn is_low_from(threshold: f32, a: f32, b: f32, c: f32, s: f32, angle: f32, area: f32) -> bool
     ensures { result ≡ true → AllBelowFrom threshold area angle a b c s }
 {
-    if !(0.0 < threshold) {
+    let Some(aspect) = low_aspect(threshold, a, b, c, area) else {
         return false;
-    }
-    if !are_positive(a, b, c) {
-        return false;
-    }
-    let aspect = aspect_bound(a, b, c, area);
-    if !(aspect <= 4.0) {
-        return false;
-    }
+    };
     quality::score(angle, aspect, edge_from(a, b, c, s)) < threshold
 }

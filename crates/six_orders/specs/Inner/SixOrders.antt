@@ -39,6 +39,13 @@ pub record NotShorter (a x : Float) : Type 0 where
 pub record AspectFrom (a b c largest t : Float) : Type 0 where
   pub longer : (x y z : Float) → NotShorter a x → NotShorter b y → NotShorter c z → AspectBound x y z largest t
 
+-- t, at most 4, bounds the aspect ratio so, of edges above zero, and a threshold is above zero
+pub record LowAspect (threshold a b c largest t : Float) : Type 0 where
+  pub above : T (lt (f32 0) threshold)
+  pub edges : T (positive a) × T (positive b) × T (positive c)
+  pub from : AspectFrom a b c largest t
+  pub small : T (le t (f32 0x40800000))
+
 -- unless e is a NaN, it is above zero, and no order has a lesser edge ratio
 pub record EdgeBound (a b c e : Float) : Type 0 where
   pub above : T (not (is_nan e)) → T (positive e)
