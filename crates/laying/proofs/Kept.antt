@@ -1,10 +1,10 @@
--- What survives a change of the work slice, and what is read off the answers of the searches. Assumes nothing.
+-- What survives a change of the work slice. Assumes nothing.
 use Prim.Native.Nat.{ℕ, ◌+◌, ◌*◌, ◌≤◌, ◌<◌}
 use mathlib.Core.Path.{◌≡◌, refl, sym, ap, ◌∙◌, subst}
 use mathlib.Core.Logic.{⊎_elim}
 use mathlib.Core.Bool.{true, false}
 use mathlib.Core.List.{List, [], ◌∷◌}
-use mathlib.Core.Option.{Option, none, some}
+use mathlib.Core.Option.{some}
 use native.Mathlib.Nat.{le_of_eq}
 use native.Mathlib.Omega.{arith}
 use borrow.Author.Tests.{eqb-true, eqb-false, eq-eqb}
@@ -23,9 +23,6 @@ use Rattle.spatial_hash.specs.declared.Hash.{Hash}
 use Rattle.decisions.specs.declared.Scene.{Scene}
 use Rattle.nearby.specs.Inner.Ready.{SceneKept}
 use Rattle.nearby.proofs.Keeping.{held_kept, hashed_search}
-use Rattle.seed.specs.declared.Seed.{Seed}
-use Rattle.seed.specs.declared.Seed.TheVariants.{Triangle, Nothing}
-use Rattle.seed.specs.Inner.Found.{seed_found}
 use Rattle.laying_steps.specs.declared.Counts.{Counts}
 use Rattle.regions.specs.Inner.Regions.{used_in}
 use Rattle.laying_words.specs.Inner.Words.{WordsSized, OnlyIn}
@@ -164,12 +161,3 @@ waiting (x ∷ xs) h = record { first = x; others = xs; is = refl }
 pub none_waits : (l : List Edge) → length l ≡ 0 → l ≡ []
 none_waits [] h = refl
 none_waits (x ∷ xs) h = absurd (omega arith)
-
--- ---- the answers of the searches
-abbrev pub seed_in : Seed → Option (ℕ × ℕ × ℕ)
-seed_in Nothing = none
-seed_in (Triangle i j k) = some (i, j, k)
-
-pub seed_in_found : (o : Option (ℕ × ℕ × ℕ)) → seed_in (seed_found o) ≡ o
-seed_in_found none = refl
-seed_in_found (some t) = refl

@@ -10,6 +10,9 @@ use lib.Dec.{eqb}
 use lib.ListN.{length, take, get_or}
 use lib.Seq.{take-suc}
 use lib.Ieee.{Float}
+use Rattle.std.specs.Prelude.{Option as Outcome, Some, None}
+use Rattle.lists.specs.Inner.Found.{option_found, option_sought}
+use Rattle.lists.proofs.Found.{sought_found}
 use Rattle.lists.specs.Lists.{bit, count}
 use Rattle.patch.specs.Lay.{State, Rules, Pop, marked, with_face, cleared, seeded, run, begun, lay_one, lay_all, patch, blank}
 use Rattle.patch.specs.Fair.{FreeSeed}
@@ -21,30 +24,26 @@ use Rattle.patch.proofs.Pops.{pop_of_keeps}
 use Rattle.spatial_hash.specs.declared.Hash.{Hash}
 use Rattle.decisions.specs.declared.Scene.{Scene}
 use Rattle.nearby.specs.Inner.Ready.{SceneKept, used_in_scene}
-use Rattle.seed.specs.declared.Seed.{Seed}
-use Rattle.seed.specs.declared.Seed.TheVariants.{Triangle, Nothing}
-use Rattle.seed.specs.Inner.Found.{seed_found}
 use Rattle.laying_steps.specs.declared.Counts.{Counts}
 use Rattle.laying_words.specs.Inner.Words.{OnlyIn}
 use Rattle.laying_steps.specs.Inner.Work.{HoldsState, Takes, Begins, Clears, NoneProcessed, FaceRoom}
 use Rattle.laying_steps.proofs.Work.{ready}
 use Rattle.laying.specs.Inner.Laying.{AllSearchable, LayingSearchable, Without, rules_of, LaysState, BetweenLooks, BetweenRadii}
 use Rattle.laying.proofs.Kept.{Beside, beside_both, beside_search, beside_without, holds_beside, searchable_searched, searchable_laid, searchable_begun}
-use Rattle.laying.proofs.Kept.{seed_in, seed_in_found}
 use Rattle.laying.proofs.Pivots.{fair}
 
 -- ---- one radius
 module _ {s : Scene} {hash : Hash} {pts : List Float} (rule : ℕ) (r : Float) {c : Counts} {w slice : List ℕ}
     (st : BetweenRadii s hash pts c w slice) {blank-counts : Counts} (clears : Clears c blank-counts)
-    {found : Seed} {u : List ℕ} (is : found ≡ seed_found ((rules_of s pts).seed_of r (used_in_scene s w))) (kept : SceneKept s w u) (long : length u ≡ length w) where
+    {found : Outcome (ℕ × ℕ × ℕ)} {u : List ℕ} (is : found ≡ option_found ((rules_of s pts).seed_of r (used_in_scene s w))) (kept : SceneKept s w u) (long : length u ≡ length w) where
   abbrev state : State
   state = st.state
 
-  seed_is : (lent : List ℕ) (t : State) (o : Option (ℕ × ℕ × ℕ)) → HoldsState s.n lent t c w slice → found ≡ seed_found o → (rules_of s pts).seed_of r t.used
+  seed_is : (lent : List ℕ) (t : State) (o : Option (ℕ × ℕ × ℕ)) → HoldsState s.n lent t c w slice → found ≡ option_found o → (rules_of s pts).seed_of r t.used
       ≡ o
   seed_is lent t o h f =
       ap (λ (used : List ℕ). (rules_of s pts).seed_of r used) (sym h.used)
-      ∙ sym (seed_in_found ((rules_of s pts).seed_of r (used_in_scene s w))) ∙ ap seed_in (sym is ∙ f) ∙ seed_in_found o
+      ∙ sym (sought_found ((rules_of s pts).seed_of r (used_in_scene s w))) ∙ ap option_sought (sym is ∙ f) ∙ sought_found o
 
   -- no entry waits once the counts are cleared
   no_entries : blank-counts.first + blank-counts.frontier ≤ 3 * s.n
@@ -59,7 +58,7 @@ module _ {s : Scene} {hash : Hash} {pts : List Float} (rule : ℕ) (r : Float) {
   pub searched : LayingSearchable s hash pts u
   searched = searchable_searched u st.searchable kept long
 
-  pub no_seed : found ≡ Nothing → LaysState s hash pts (Rest s.n) (lay_one (rules_of s pts) (pop_of rule) s.n r) c w slice blank-counts u slice
+  pub no_seed : found ≡ None → LaysState s hash pts (Rest s.n) (lay_one (rules_of s pts) (pop_of rule) s.n r) c w slice blank-counts u slice
   unfolding lay_one begun
   no_seed f = record {
     takes = λ lent t rest h. subst
@@ -69,7 +68,7 @@ module _ {s : Scene} {hash : Hash} {pts : List Float} (rule : ℕ) (r : Float) {
     length_same = long;
   }
 
-  module _ {i j k : ℕ} (f : found ≡ Triangle i j k) where
+  module _ {i j k : ℕ} (f : found ≡ Some (i, j, k)) where
     free_found : (lent : List ℕ) (t : State) → HoldsState s.n lent t c w slice → FreeSeed s.n t.used (i, j, k)
     free_found lent t h = (fair s pts).seeds r t.used (i, j, k) (seed_is lent t (some (i, j, k)) h f)
 

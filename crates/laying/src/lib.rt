@@ -17,7 +17,7 @@ ghost use Rattle.spatial_hash.specs.Inner.Near.{HashLinked};
 
 use decisions::Scene;
 use laying_steps::Counts;
-use seed::{Seed, Told};
+use seed::Told;
 use spatial_hash::Hash;
 
 // What one radius is laid by: the scene, the hash of its unused points, the radius, and the rule of popping.
@@ -127,7 +127,7 @@ fn lay_one(
     let search = seed::find_seed_triangle(s, points, w, p.radius, hash, t);
     let seed = search.seed;
     match seed {
-        Seed::Triangle(i, j, k) => {
+        Some((i, j, k)) => {
             remove_three(points, w, s.n, hash, i, j, k);
             let first = laying_steps::lay_seed(faces, w, s.n, c, i as u32, j as u32, k as u32);
             let last = run(p, points, faces, w, first);
@@ -136,7 +136,7 @@ fn lay_one(
                 upto: 0.0 / 0.0,
             }
         }
-        Seed::Nothing => Laid {
+        None => Laid {
             counts: c,
             upto: search.upto,
         },

@@ -12,6 +12,9 @@ use lib.Seq.{take-take, take_all}
 use lib.Dec.{ltb}
 use lib.Ieee.{Float, lt}
 use borrow.Author.Tests.{ltb-true, ltb-false}
+use Rattle.std.specs.Prelude.{Option as Outcome, Some, None}
+use Rattle.lists.specs.Inner.Found.{option_found}
+use Rattle.lists.proofs.Found.{found_none}
 use Rattle.vector.specs.declared.Point3f.{Point3f}
 use Rattle.points.specs.Points.{point_at}
 use Rattle.lists.specs.Lists.{unused}
@@ -34,9 +37,6 @@ use Rattle.nearby.proofs.Earlier.{earlier_strict, order_of_sorted, order_of_coun
 use Rattle.nearby.proofs.Narrowing.{in_reach_lem, in_unused, out_of_reach}
 use Rattle.seedless.specs.Inner.Parts.{with_second, with_first}
 use Rattle.seedless.proofs.Laws.{or_else, second_step, second_end}
-use Rattle.seed.specs.declared.Seed.{Seed}
-use Rattle.seed.specs.declared.Seed.TheVariants.{Triangle, Nothing}
-use Rattle.seed.specs.Inner.Found.{seed_found}
 use Rattle.seed.specs.Inner.Seconds.{passing, with_seconds, SecondsTried}
 use Rattle.seed.proofs.Laws.{else_hit}
 use Rattle.seed.proofs.LeftOut.{second_only, second_thirds, second_out, third_out}
@@ -108,32 +108,28 @@ module _ (s : Scene) (pts : List Float) (r : Float) (used : List ℕ) (f : Filte
   passing_first = nearby_first s pts r used i ks (passing_nearby s pts used f i refl fs)
 
   -- all second points
-  pub seconds_all : {found : Seed} → SecondsTried s pts r used f i 0 s.n found → found ≡ seed_found (with_first (floats_of s pts) r used i)
-  seconds_all t = t.same ∙ ap seed_found (ap among (take_all s.n ks t.few) ∙ passing_first)
+  pub seconds_all : {found : Outcome (ℕ × ℕ × ℕ)} → SecondsTried s pts r used f i 0 s.n found → found ≡ option_found (with_first (floats_of s pts) r used i)
+  seconds_all t = t.same ∙ ap option_found (ap among (take_all s.n ks t.few) ∙ passing_first)
 
   -- some at the beginning that give a seed
-  pub seconds_hit : {found : Seed} {to a b c : ℕ} → SecondsTried s pts r used f i 0 to found → found ≡ Triangle a b c → Triangle a b c
-      ≡ seed_found (with_first (floats_of s pts) r used i)
-  seconds_hit {to = to} {a = a} {b = b} {c = c} t e =
-      sym (ap seed_found (sym passing_first ∙ second_parts (floats_of s pts) r used i ks to ks) ∙ else_hit (among (take to ks)) (among (drop to ks)) a b c
+  pub seconds_hit : {found : Outcome (ℕ × ℕ × ℕ)} {to : ℕ} {x : ℕ × ℕ × ℕ} → SecondsTried s pts r used f i 0 to found → found ≡ Some x → Some x
+      ≡ option_found (with_first (floats_of s pts) r used i)
+  seconds_hit {to = to} {x = x} t e =
+      sym (ap option_found (sym passing_first ∙ second_parts (floats_of s pts) r used i ks to ks) ∙ else_hit (among (take to ks)) (among (drop to ks)) x
       (sym t.same ∙ e))
 
   -- the others, where those give none
-  pub seconds_rest : {found : Seed} {from : ℕ} → SecondsTried s pts r used f i from s.n found → with_seconds s pts r used f i 0 from ≡ none → found
-      ≡ seed_found (with_first (floats_of s pts) r used i)
+  pub seconds_rest : {found : Outcome (ℕ × ℕ × ℕ)} {from : ℕ} → SecondsTried s pts r used f i from s.n found
+      → with_seconds s pts r used f i 0 from ≡ none → found ≡ option_found (with_first (floats_of s pts) r used i)
   seconds_rest {from = from} t e =
       t.same
-      ∙ ap (λ (l : List ℕ). seed_found (among (drop from l))) (take_all s.n ks t.few)
-      ∙ ap seed_found (sym (ap (λ (o : Option (ℕ × ℕ × ℕ)). or_else o (among (drop from ks))) e) ∙ sym
+      ∙ ap (λ (l : List ℕ). option_found (among (drop from l))) (take_all s.n ks t.few)
+      ∙ ap option_found (sym (ap (λ (o : Option (ℕ × ℕ × ℕ)). or_else o (among (drop from ks))) e) ∙ sym
       (second_parts (floats_of s pts) r used i ks from ks) ∙ passing_first)
 
-found_none : (x : Option (ℕ × ℕ × ℕ)) → Nothing ≡ seed_found x → x ≡ none
-found_none none e = refl
-found_none (some t) e = absurd (let z : ◌≡◌ {A = ℕ} 0 1 = cc in omega arith)
-
-pub seconds_none : {s : Scene} {pts : List Float} {r : Float} {used : List ℕ} {f : Filter} {i from to : ℕ} {found : Seed}
-    → SecondsTried s pts r used f i from to found → found ≡ Nothing → with_seconds s pts r used f i from to ≡ none
-seconds_none {s} {pts} {r} {used} {f} {i} {from} {to} t e = found_none (with_seconds s pts r used f i from to) (sym e ∙ t.same)
+pub seconds_none : {s : Scene} {pts : List Float} {r : Float} {used : List ℕ} {f : Filter} {i from to : ℕ} {found : Outcome (ℕ × ℕ × ℕ)}
+    → SecondsTried s pts r used f i from to found → found ≡ None → with_seconds s pts r used f i from to ≡ none
+seconds_none {s} {pts} {r} {used} {f} {i} {from} {to} t e = found_none (with_seconds s pts r used f i from to) (sym t.same ∙ e)
 
 -- ---- what `try_seconds` finds
 
@@ -167,16 +163,16 @@ module _ {s : Scene} {pts : List Float} {f : Filter} {w u v : List ℕ} {found c
       (take_all to (neighbors_listed s v count) (omega (arith, not_more))))
       (either (ltb end count))
 
-  pub seconds_tried : {r : Float} {i from to end : ℕ} {x : Seed} → end ≤ to → end ≤ count → (end < count → end ≡ to) → x
-      ≡ seed_found (second_of (floats_of s pts) r (used_in_scene s v) i (neighbors_listed s v count) (drop from (neighbors_listed s v end)))
+  pub seconds_tried : {r : Float} {i from to end : ℕ} {x : Outcome (ℕ × ℕ × ℕ)} → end ≤ to → end ≤ count → (end < count → end ≡ to) → x
+      ≡ option_found (second_of (floats_of s pts) r (used_in_scene s v) i (neighbors_listed s v count) (drop from (neighbors_listed s v end)))
       → SecondsTried s pts r (used_in_scene s w) f i from to x
   seconds_tried {r} {i} {from} {to} {end} ht hc he e = record {
     same = e
-        ∙ ap (λ (l : List ℕ). seed_found (second_of (floats_of s pts) r (used_in_scene s v) i (neighbors_listed s v count) (drop from l)))
+        ∙ ap (λ (l : List ℕ). option_found (second_of (floats_of s pts) r (used_in_scene s v) i (neighbors_listed s v count) (drop from l)))
         (before_lesser to end ht hc he)
-        ∙ ap (λ (l : List ℕ). seed_found
+        ∙ ap (λ (l : List ℕ). option_found
         (second_of (floats_of s pts) r (take s.n l) i (neighbors_listed s v count) (drop from (take to (neighbors_listed s v count)))))
         (n.kept.after ∙ c.kept.after)
-        ∙ ap (λ (l : List ℕ). seed_found (second_of (floats_of s pts) r (used_in_scene s w) i l (drop from (take to l)))) narrowed_passing;
+        ∙ ap (λ (l : List ℕ). option_found (second_of (floats_of s pts) r (used_in_scene s w) i l (drop from (take to l)))) narrowed_passing;
     few = let z = ap length narrowed_passing in omega (arith, not_more, n.most, c.most);
   }

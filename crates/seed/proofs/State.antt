@@ -7,6 +7,8 @@ use mathlib.Core.Option.{Option, none}
 use native.Mathlib.Omega.{arith}
 use lib.ListN.{length, take}
 use lib.Ieee.{Float}
+use Rattle.std.specs.Prelude.{Option as Outcome, Some, None}
+use Rattle.lists.specs.Inner.Found.{option_found}
 use Rattle.vector.specs.declared.Point3f.{Point3f}
 use Rattle.points.specs.Points.{point_at}
 use Rattle.grid.specs.Grid.{neighbors}
@@ -23,9 +25,6 @@ use Rattle.decisions.specs.Decisions.{floats_of}
 use Rattle.nearby.specs.Inner.Ready.{SceneHeld, NeighborsListed, SceneKept, used_in_scene}
 use Rattle.nearby.specs.Inner.Narrow.{in_reach, Sought}
 use Rattle.nearby.proofs.Keeping.{kept_self, kept_on, held_kept, hashed_search}
-use Rattle.seed.specs.declared.Seed.{Seed}
-use Rattle.seed.specs.declared.Seed.TheVariants.{Triangle, Nothing}
-use Rattle.seed.specs.Inner.Found.{seed_found}
 use Rattle.seedless.specs.Inner.Parts.{with_first}
 use Rattle.seedless.proofs.Laws.{or_else, up_step, up_end, first_tried, first_used, first_spent, first_end}
 use Rattle.seed.proofs.Laws.{else_hit, else_miss}
@@ -116,15 +115,15 @@ module _ {s : Scene} {pts : List Float} {r : Float} {hash : Hash} {w₀ : List �
     tried h ne t = at_point h ∙ ap (firsts s pts r w₀ (i ∷ on)) (one_more ne) ∙ first_tried (floats_of s pts) r (used_in_scene s w₀) i on (left - 1)
         (ap (λ (l : List ℕ). unused l i) (sym used_is) ∙ t)
 
-    found_is : {found x : Seed} → found ≡ seed_found (with_first (floats_of s pts) r (used_in_scene s w) i) → found ≡ x
-        → seed_found (with_first (floats_of s pts) r (used_in_scene s w₀) i) ≡ x
-    found_is e f = ap (λ (l : List ℕ). seed_found (with_first (floats_of s pts) r l i)) (sym used_is) ∙ sym e ∙ f
+    found_is : {found x : Outcome (ℕ × ℕ × ℕ)} → found ≡ option_found (with_first (floats_of s pts) r (used_in_scene s w) i) → found ≡ x
+        → option_found (with_first (floats_of s pts) r (used_in_scene s w₀) i) ≡ x
+    found_is e f = ap (λ (l : List ℕ). option_found (with_first (floats_of s pts) r l i)) (sym used_is) ∙ sym e ∙ f
 
-    pub seek_hit : {a b c : ℕ} {found : Seed} → i < s.n → (left ≡ 0 → ⊥) → unused (used_in_scene s w) i ≡ true
-        → found ≡ seed_found (with_first (floats_of s pts) r (used_in_scene s w) i) → found ≡ Triangle a b c → Triangle a b c
-        ≡ seed_found (firsts s pts r w₀ (up_from 0 s.n) 1000)
-    seek_hit {a} {b} {c} h ne t e f = sym
-        (ap seed_found (tried h ne t) ∙ else_hit (with_first (floats_of s pts) r (used_in_scene s w₀) i) (firsts s pts r w₀ on (left - 1)) a b c (found_is e f))
+    pub seek_hit : {x : ℕ × ℕ × ℕ} {found : Outcome (ℕ × ℕ × ℕ)} → i < s.n → (left ≡ 0 → ⊥) → unused (used_in_scene s w) i ≡ true
+        → found ≡ option_found (with_first (floats_of s pts) r (used_in_scene s w) i) → found ≡ Some x → Some x
+        ≡ option_found (firsts s pts r w₀ (up_from 0 s.n) 1000)
+    seek_hit {x} h ne t e f = sym
+        (ap option_found (tried h ne t) ∙ else_hit (with_first (floats_of s pts) r (used_in_scene s w₀) i) (firsts s pts r w₀ on (left - 1)) x (found_is e f))
 
     -- after what changes nothing but the list of neighbours
     pub seek_kept : (v : List ℕ) → SceneKept s w v → length v ≡ length w → Seeking s pts r hash w₀ v left i
@@ -139,8 +138,8 @@ module _ {s : Scene} {pts : List Float} {r : Float} {hash : Hash} {w₀ : List �
       rest = k.rest;
     }
 
-    pub seek_miss : {found : Seed} (v : List ℕ) → i < s.n → (left ≡ 0 → ⊥) → unused (used_in_scene s w) i ≡ true
-        → found ≡ seed_found (with_first (floats_of s pts) r (used_in_scene s w) i) → found ≡ Nothing → SceneKept s w v → length v ≡ length w
+    pub seek_miss : {found : Outcome (ℕ × ℕ × ℕ)} (v : List ℕ) → i < s.n → (left ≡ 0 → ⊥) → unused (used_in_scene s w) i ≡ true
+        → found ≡ option_found (with_first (floats_of s pts) r (used_in_scene s w) i) → found ≡ None → SceneKept s w v → length v ≡ length w
         → Seeking s pts r hash w₀ v (left - 1) (i + 1)
     seek_miss v h ne t e f kv l =
         let z = seek_kept v kv l in record {

@@ -8,14 +8,13 @@ use native.Mathlib.Nat.{min-le_left}
 use native.Mathlib.Omega.{arith}
 use lib.ListN.{length, drop, length-take, drop_of_length-le}
 use lib.Ieee.{Float}
+use Rattle.std.specs.Prelude.{Option as Outcome, Some, None}
+use Rattle.lists.specs.Inner.Found.{option_found}
 use Rattle.patch.specs.Search.{is_third, third_of, second_of}
 use Rattle.decisions.specs.Decisions.{floats_of}
 use Rattle.decisions.specs.declared.Scene.{Scene}
 use Rattle.nearby.specs.Inner.Ready.{SceneHeld, NeighborsListed, used_in_scene, neighbors_listed, nth}
 use Rattle.nearby.proofs.Rest.{Rest, rest_start, rest_is, rest_step, rest_hit, rest_end}
-use Rattle.seed.specs.declared.Seed.{Seed}
-use Rattle.seed.specs.declared.Seed.TheVariants.{Triangle, Nothing}
-use Rattle.seed.specs.Inner.Found.{seed_found}
 use Rattle.seedless.specs.Inner.Parts.{with_second}
 use Rattle.seedless.proofs.Laws.{third_hit, third_miss, third_end, second_step, second_end}
 use Rattle.seed.proofs.Laws.{else_hit, else_miss}
@@ -36,9 +35,9 @@ module _ {s : Scene} {pts : List Float} {r : Float} {w : List ℕ} {count i j : 
 
   pub third_found : {m k : ℕ} {t : Bool} → Third s pts r w count i j m → m < count → k ≡ nth s w m → t ≡ is_third (floats_of s pts) r (used_in_scene s w) i j k → t
       ≡ true
-      → Triangle i j k ≡ seed_found (thirds s pts r w i j (neighbors_listed s w count))
+      → Some (i, j, k) ≡ option_found (thirds s pts r w i j (neighbors_listed s w count))
   third_found {k = k} l h q e t = sym
-      (ap seed_found (rest_hit l.rest h q (λ (ks : List ℕ). third_hit (floats_of s pts) r (used_in_scene s w) i j k ks (sym e ∙ t))))
+      (ap option_found (rest_hit l.rest h q (λ (ks : List ℕ). third_hit (floats_of s pts) r (used_in_scene s w) i j k ks (sym e ∙ t))))
 
   pub third_on : {m k : ℕ} {t : Bool} → Third s pts r w count i j m → m < count → k ≡ nth s w m → t ≡ is_third (floats_of s pts) r (used_in_scene s w) i j k → t
       ≡ false → Third s pts r w count i j (m + 1)
@@ -47,8 +46,8 @@ module _ {s : Scene} {pts : List Float} {r : Float} {w : List ℕ} {count i j : 
         (λ (ks : List ℕ). third_miss (floats_of s pts) r (used_in_scene s w) i j k ks (sym e ∙ t));
   }
 
-  pub third_none : {m : ℕ} → Third s pts r w count i j m → count ≤ m → Nothing ≡ seed_found (thirds s pts r w i j (neighbors_listed s w count))
-  third_none k h = sym (ap seed_found (rest_end k.rest h ∙ third_end (floats_of s pts) r (used_in_scene s w) i j))
+  pub third_none : {m : ℕ} → Third s pts r w count i j m → count ≤ m → None ≡ option_found (thirds s pts r w i j (neighbors_listed s w count))
+  third_none k h = sym (ap option_found (rest_end k.rest h ∙ third_end (floats_of s pts) r (used_in_scene s w) i j))
 
 -- ---- the second point
 
@@ -70,17 +69,17 @@ module _ {s : Scene} {pts : List Float} {r : Float} {w : List ℕ} {count i from
       → Rest s w to (seconds s pts r w i (neighbors_listed s w count) (drop from (neighbors_listed s w to))) (seconds s pts r w i (neighbors_listed s w count)) m
   second_rest k h = record { long = k.long; inside = omega arith; same = k.same }
 
-  pub second_found : {m j a b c : ℕ} {found : Seed} → Second s pts r w count i from to m → m < to → j ≡ nth s w m → found
-      ≡ seed_found (with_second (floats_of s pts) r (used_in_scene s w) i (neighbors_listed s w count) j) → found ≡ Triangle a b c
-      → Triangle a b c ≡ seed_found (seconds s pts r w i (neighbors_listed s w count) (drop from (neighbors_listed s w to)))
-  second_found {m = m} {j = j} {a = a} {b = b} {c = c} k h q e t =
+  pub second_found : {m j : ℕ} {t : ℕ × ℕ × ℕ} {found : Outcome (ℕ × ℕ × ℕ)} → Second s pts r w count i from to m → m < to → j ≡ nth s w m → found
+      ≡ option_found (with_second (floats_of s pts) r (used_in_scene s w) i (neighbors_listed s w count) j) → found ≡ Some t
+      → Some t ≡ option_found (seconds s pts r w i (neighbors_listed s w count) (drop from (neighbors_listed s w to)))
+  second_found {m = m} {j = j} {t = t} k h q e f =
       let ks = drop (m + 1) (neighbors_listed s w to) in
-      sym (ap seed_found (rest_is (second_rest k h) h q ∙ second_step (floats_of s pts) r (used_in_scene s w) i (neighbors_listed s w count) j ks) ∙ else_hit
-      (with_second (floats_of s pts) r (used_in_scene s w) i (neighbors_listed s w count) j) (seconds s pts r w i (neighbors_listed s w count) ks) a b c
-      (sym e ∙ t))
+      sym (ap option_found (rest_is (second_rest k h) h q ∙ second_step (floats_of s pts) r (used_in_scene s w) i (neighbors_listed s w count) j ks) ∙ else_hit
+      (with_second (floats_of s pts) r (used_in_scene s w) i (neighbors_listed s w count) j) (seconds s pts r w i (neighbors_listed s w count) ks) t
+      (sym e ∙ f))
 
-  pub second_on : {m j : ℕ} {found : Seed} → Second s pts r w count i from to m → m < to → j ≡ nth s w m → found
-      ≡ seed_found (with_second (floats_of s pts) r (used_in_scene s w) i (neighbors_listed s w count) j) → found ≡ Nothing → Second s pts r w count i from to (m + 1)
+  pub second_on : {m j : ℕ} {found : Outcome (ℕ × ℕ × ℕ)} → Second s pts r w count i from to m → m < to → j ≡ nth s w m → found
+      ≡ option_found (with_second (floats_of s pts) r (used_in_scene s w) i (neighbors_listed s w count) j) → found ≡ None → Second s pts r w count i from to (m + 1)
   second_on {j = j} k h q e t = record {
     long = k.long;
     same = (rest_step (second_rest k h) h q (seconds s pts r w i (neighbors_listed s w count))
@@ -89,10 +88,10 @@ module _ {s : Scene} {pts : List Float} {r : Float} {w : List ℕ} {count i from
         (sym e ∙ t))).same;
   }
 
-  pub second_none : {m : ℕ} → Second s pts r w count i from to m → to ≤ m → Nothing
-      ≡ seed_found (seconds s pts r w i (neighbors_listed s w count) (drop from (neighbors_listed s w to)))
+  pub second_none : {m : ℕ} → Second s pts r w count i from to m → to ≤ m → None
+      ≡ option_found (seconds s pts r w i (neighbors_listed s w count) (drop from (neighbors_listed s w to)))
   second_none {m = m} k h =
       let e = length-take to (drop (4 * s.n) w) in
       let l = min-le_left to (length (drop (4 * s.n) w)) in
-      sym (ap seed_found (k.same ∙ ap (seconds s pts r w i (neighbors_listed s w count))
+      sym (ap option_found (k.same ∙ ap (seconds s pts r w i (neighbors_listed s w count))
       (drop_of_length-le (neighbors_listed s w to) {i = m} (omega arith)) ∙ second_end (floats_of s pts) r (used_in_scene s w) i (neighbors_listed s w count)))

@@ -5,6 +5,8 @@ use mathlib.Core.Bool.{true, false}
 use mathlib.Core.List.{List}
 use mathlib.Core.Option.{Option, none, some}
 use lib.Ieee.{Float}
+use Rattle.std.specs.Prelude.{Option as Outcome}
+use Rattle.lists.specs.Inner.Found.{option_found}
 use Rattle.triangle.specs.Quality.{is_zero}
 use Rattle.triangle.proofs.Acceptance.{zero_refused}
 use Rattle.lists.proofs.Bools.{not-true, true_not_false}
@@ -14,8 +16,7 @@ use Rattle.decisions.specs.declared.Scene.{Scene}
 use Rattle.decisions.specs.Decisions.{quality_at, accepts, floats_of}
 use Rattle.decisions.specs.Found.{area_at}
 use Rattle.decisions.proofs.Completed.{area_at_lem}
-use Rattle.seed.specs.Inner.Found.{seed_found, WithArea}
-use Rattle.seed.specs.declared.Seed.{Seed}
+use Rattle.seed.specs.Inner.Found.{WithArea}
 
 accepted_area : (s : Scene) (pts : List Float) (r : Float) (i j k : ℕ) → accepts s r (quality_at pts i j k) ≡ true → is_zero (area_at pts i j k) ≡ false
 unfolding accepts
@@ -24,11 +25,11 @@ accepted_area s pts r i j k h = not-true (λ (z : is_zero (area_at pts i j k) �
     (ap is_zero (area_at_lem pts i j k) ∙ z)))
 
 module _ (s : Scene) (pts : List Float) (r : Float) (used : List ℕ) where
-  found_area : (o : Option (ℕ × ℕ × ℕ)) → (searching (floats_of s pts) s.n).seed_of r used ≡ o → WithArea pts (seed_found o)
+  found_area : (o : Option (ℕ × ℕ × ℕ)) → (searching (floats_of s pts) s.n).seed_of r used ≡ o → WithArea pts (option_found o)
   unfolding floats_of
   found_area none q = tt
   found_area (some t) q = accepted_area s pts r t.0 t.1 t.2 (seed_fits (floats_of s pts) r used s.n t q)
 
-  pub seed_area : {x : Seed} → x ≡ seed_found ((searching (floats_of s pts) s.n).seed_of r used) → WithArea pts x
+  pub seed_area : {x : Outcome (ℕ × ℕ × ℕ)} → x ≡ option_found ((searching (floats_of s pts) s.n).seed_of r used) → WithArea pts x
   seed_area e = subst (WithArea pts) (sym e)
       (found_area ((searching (floats_of s pts) s.n).seed_of r used) (λ i. (searching (floats_of s pts) s.n).seed_of r used))

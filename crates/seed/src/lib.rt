@@ -11,22 +11,17 @@ ghost use Rattle.decisions.specs.Decisions.{floats_of};
 ghost use Rattle.nearby.specs.Inner.Ready.{SceneHeld, used_in_scene, SceneKept};
 ghost use Rattle.std.proofs.Math.Option.{none};
 ghost use Rattle.known_radii.specs.Inner.Known.{NothingTo};
-ghost use Rattle.seed.specs.Inner.Found.{seed_found, WithArea};
+ghost use Rattle.lists.specs.Inner.Found.{option_found};
+ghost use Rattle.seed.specs.Inner.Found.{WithArea};
 
 use decisions::Scene;
 use seedless::Site;
 use spatial_hash::Hash;
 
-#[derive(Clone, Copy)]
-pub enum Seed {
-    Triangle(usize, usize, usize),
-    Nothing,
-}
-
 // What is found, and a radius up to which none has a seed; not a number, or a note below 0, where none is known.
 #[derive(Clone, Copy)]
 pub struct SeedSearch {
-    pub seed: Seed,
+    pub seed: Option<(usize, usize, usize)>,
     pub upto: f32,
 }
 
@@ -54,7 +49,7 @@ pub fn find_seed_triangle(
         × (t.known ≡ true → (searching (floats_of s points.now) s.n).seed_of radius (used_in_scene s w.old) ≡ none)
         × NothingTo s points.now (used_in_scene s w.old) t.upto }
     ensures { (result.seed
-        ≡ seed_found ((searching (floats_of s points.now) s.n).seed_of radius
+        ≡ option_found ((searching (floats_of s points.now) s.n).seed_of radius
         (used_in_scene s w.old)))
         × SceneKept s w.old w.new
         × WithArea points.now result.seed
@@ -62,13 +57,13 @@ pub fn find_seed_triangle(
 {
     if t.known {
         return SeedSearch {
-            seed: Seed::Nothing,
+            seed: None,
             upto: t.upto,
         };
     }
     if filters::refuses_all(s, radius) {
         return SeedSearch {
-            seed: Seed::Nothing,
+            seed: None,
             upto: 0.0 / 0.0,
         };
     }

@@ -1,5 +1,5 @@
 // The search for a seed: three loops, over i, j and k.
-ghost use Rattle.std.specs.Prelude.{◌≡◌, true, drop, ◌*◌, ◌≤◌, ◌<◌, ◌+◌};
+ghost use Rattle.std.specs.Prelude.{◌≡◌, true, drop, ◌*◌, ◌≤◌, ◌<◌, ◌+◌, None};
 ghost use Rattle.std.proofs.Math.Option.{none};
 ghost use Rattle.grid.specs.Inner.Index.{CellsIndexed};
 ghost use Rattle.spatial_hash.specs.Inner.Near.{Hashed};
@@ -11,13 +11,12 @@ ghost use Rattle.filters.specs.Inner.Refused.{Limiting};
 ghost use Rattle.nearby.specs.Inner.Ready.{SceneHeld, NeighborsListed, used_in_scene, neighbors_listed, SceneKept};
 ghost use Rattle.nearby.specs.Inner.Narrow.{Filters};
 ghost use Rattle.known_radii.specs.Inner.Known.{NothingTo};
-ghost use Rattle.seed.specs.declared.Seed.TheVariants.{Nothing};
 ghost use Rattle.seedless.specs.Inner.Parts.{with_second};
-ghost use Rattle.seed.specs.Inner.Found.{seed_found, KnownFrom};
+ghost use Rattle.lists.specs.Inner.Found.{option_found};
+ghost use Rattle.seed.specs.Inner.Found.{KnownFrom};
 ghost use Rattle.seed.specs.Inner.Seconds.{with_seconds, SecondsTried, SiteSearchable, SeedlessBefore, FirstTried};
 ghost use Rattle.three_points.specs.Inner.Judged.{LimitsAtRadius};
 
-use crate::Seed;
 use decisions::Scene;
 use filters::Limits;
 use nearby::Filter;
@@ -74,13 +73,20 @@ fn is_third(
 }
 
 // The seed of i, j and the first third point among the listed neighbours.
-fn find_third(p: Site, points: &[f32], w: &[u32], count: usize, i: usize, j: usize) -> Seed
+fn find_third(
+    p: Site,
+    points: &[f32],
+    w: &[u32],
+    count: usize,
+    i: usize,
+    j: usize,
+) -> Option<(usize, usize, usize)>
     requires { SceneHeld p.scene points.now w.now × NeighborsListed p.scene w.now count
         × (i < p.scene.n)
         × (j < p.scene.n) × LimitsAtRadius p.scene points.now p.radius p.limits
         × (is_close points.now p.radius i j ≡ true) }
     ensures { result
-        ≡ seed_found (third_of (floats_of p.scene points.now) p.radius
+        ≡ option_found (third_of (floats_of p.scene points.now) p.radius
         (used_in_scene p.scene w.now) i j (neighbors_listed p.scene w.now count)) }
 {
     let s = p.scene;
@@ -88,23 +94,30 @@ fn find_third(p: Site, points: &[f32], w: &[u32], count: usize, i: usize, j: usi
     for m in 0..count {
         let k = nearby::listed_point(s, w, count, m);
         if is_third(s, points, w, p.radius, limits, i, j, k) {
-            return Seed::Triangle(i, j, k);
+            return Some((i, j, k));
         }
     }
-    Seed::Nothing
+    None
 }
 
 // What the point j gives as the second one: the seed with the first third point, or nothing.
-fn try_second(p: Site, points: &[f32], w: &[u32], count: usize, i: usize, j: usize) -> Seed
+fn try_second(
+    p: Site,
+    points: &[f32],
+    w: &[u32],
+    count: usize,
+    i: usize,
+    j: usize,
+) -> Option<(usize, usize, usize)>
     requires { SceneHeld p.scene points.now w.now × NeighborsListed p.scene w.now count
         × (i < p.scene.n)
         × (j < p.scene.n) × LimitsAtRadius p.scene points.now p.radius p.limits }
     ensures { result
-        ≡ seed_found (with_second (floats_of p.scene points.now) p.radius
+        ≡ option_found (with_second (floats_of p.scene points.now) p.radius
         (used_in_scene p.scene w.now) i (neighbors_listed p.scene w.now count) j) }
 {
     if !is_second(p.scene, points, w, p.radius, i, j) {
-        return Seed::Nothing;
+        return None;
     }
     find_third(p, points, w, count, i, j)
 }
@@ -119,23 +132,23 @@ fn find_second(
     i: usize,
     from: usize,
     to: usize,
-) -> Seed
+) -> Option<(usize, usize, usize)>
     requires { SceneHeld p.scene points.now w.now × NeighborsListed p.scene w.now count
         × (i < p.scene.n)
         × LimitsAtRadius p.scene points.now p.radius p.limits × (to ≤ count) }
     ensures { result
-        ≡ seed_found (second_of (floats_of p.scene points.now) p.radius
+        ≡ option_found (second_of (floats_of p.scene points.now) p.radius
         (used_in_scene p.scene w.now) i (neighbors_listed p.scene w.now count)
         (drop from (neighbors_listed p.scene w.now to))) }
 {
     for m in from..to {
         let j = nearby::listed_point(p.scene, w, count, m);
         let found = try_second(p, points, w, count, i, j);
-        if let Seed::Triangle(a, b, c) = found {
-            return Seed::Triangle(a, b, c);
+        if let Some(t) = found {
+            return Some(t);
         }
     }
-    Seed::Nothing
+    None
 }
 
 // The lesser of two numbers.
@@ -157,7 +170,7 @@ fn try_seconds(
     i: usize,
     from: usize,
     to: usize,
-) -> Seed
+) -> Option<(usize, usize, usize)>
     requires { SiteSearchable p points.now w.old i
         × Filters p.scene (point_at points.now i) (point_at points.now i) (reach p.radius) f }
     ensures { SecondsTried p.scene points.now p.radius
@@ -175,7 +188,7 @@ fn try_seconds(
 // it, and what is left of the budget.
 #[derive(Clone, Copy)]
 pub struct First {
-    pub seed: Seed,
+    pub seed: Option<(usize, usize, usize)>,
     pub seedless: bool,
     pub budget: usize,
 }
@@ -204,7 +217,7 @@ fn try_rest(
     let check = seedless::check_first(p, points, w, lo, i, budget, true);
     if check.seedless {
         return First {
-            seed: Seed::Nothing,
+            seed: None,
             seedless: true,
             budget: check.budget,
         };
@@ -230,7 +243,7 @@ fn try_first(p: Site, points: &[f32], w: &mut [u32], lo: usize, i: usize, budget
     let check = seedless::check_first(p, points, w, lo, i, budget, false);
     if check.seedless {
         return First {
-            seed: Seed::Nothing,
+            seed: None,
             seedless: true,
             budget: check.budget,
         };
@@ -247,9 +260,9 @@ fn try_first(p: Site, points: &[f32], w: &mut [u32], lo: usize, i: usize, budget
         };
     }
     let found = try_seconds(p, points, w, f, i, 0, check.seconds);
-    if let Seed::Triangle(a, b, c) = found {
+    if let Some(t) = found {
         return First {
-            seed: Seed::Triangle(a, b, c),
+            seed: Some(t),
             seedless: false,
             budget: 0,
         };
@@ -271,17 +284,17 @@ fn known_from(lo: usize, i: usize, seedless: bool) -> usize
 // What is found, what is left of the budget, and whether it is known that no radius up to the largest has a seed.
 #[derive(Clone, Copy)]
 pub struct Tried {
-    pub seed: Seed,
+    pub seed: Option<(usize, usize, usize)>,
     pub budget: usize,
     pub told: bool,
 }
 
 // Nothing is found.
 fn nothing_more(budget: usize, told: bool) -> Tried
-    ensures { (result.seed ≡ Nothing) × (result.told ≡ told) }
+    ensures { (result.seed ≡ None) × (result.told ≡ told) }
 {
     Tried {
-        seed: Seed::Nothing,
+        seed: None,
         budget: budget,
         told: told,
     }
@@ -294,7 +307,7 @@ pub fn find_from(p: Site, points: &[f32], w: &mut [u32], largest: f32, asks: boo
         × CellsIndexed p.scene.grid points.now p.scene.n w.old
         × Hashed p.hash points.now p.scene.n w.old × Limiting p.scene p.radius p.limits }
     ensures { (result.seed
-        ≡ seed_found (first_of (floats_of p.scene points.now) p.radius
+        ≡ option_found (first_of (floats_of p.scene points.now) p.radius
         (used_in_scene p.scene w.old) (up_from 0 p.scene.n) 1000))
         × (result.told ≡ true
         → NothingTo p.scene points.now (used_in_scene p.scene w.old) largest)
@@ -320,9 +333,9 @@ pub fn find_from(p: Site, points: &[f32], w: &mut [u32], largest: f32, asks: boo
         asking = asked.asks;
         let first = try_first(p, points, w, lo, i, budget);
         let found = first.seed;
-        if let Seed::Triangle(a, b, c) = found {
+        if let Some(t) = found {
             return Tried {
-                seed: Seed::Triangle(a, b, c),
+                seed: Some(t),
                 budget: 0,
                 told: false,
             };

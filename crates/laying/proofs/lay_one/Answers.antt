@@ -20,7 +20,7 @@ remove_three-requires c =
     let t = f in
     let s = t in
     let g = free_seed s.args.p.rule s.args.p.radius s.requires.0 t.clear-c.ensures t.find_seed_triangle-search.ensures.0
-    t.find_seed_triangle-search.ensures.1 t.find_seed_triangle-search.auto.w c.in-Triangle.is in (
+    t.find_seed_triangle-search.ensures.1 t.find_seed_triangle-search.auto.w c.in-Some.is in (
       (searched s.args.p.rule s.args.p.radius s.requires.0 t.clear-c.ensures t.find_seed_triangle-search.ensures.0
           t.find_seed_triangle-search.ensures.1 t.find_seed_triangle-search.auto.w).hashed.linked,
       g.first.below,
@@ -37,7 +37,7 @@ overflow_cast-i c =
     omega (
       arith,
       (free_seed s.args.p.rule s.args.p.radius s.requires.0 t.clear-c.ensures t.find_seed_triangle-search.ensures.0
-          t.find_seed_triangle-search.ensures.1 t.find_seed_triangle-search.auto.w c.in-Triangle.is).first.below,
+          t.find_seed_triangle-search.ensures.1 t.find_seed_triangle-search.auto.w c.in-Some.is).first.below,
       s.requires.0.searchable.held.few,
     )
 
@@ -50,7 +50,7 @@ overflow_cast-j c =
     omega (
       arith,
       (free_seed s.args.p.rule s.args.p.radius s.requires.0 t.clear-c.ensures t.find_seed_triangle-search.ensures.0
-          t.find_seed_triangle-search.ensures.1 t.find_seed_triangle-search.auto.w c.in-Triangle.is).second.below,
+          t.find_seed_triangle-search.ensures.1 t.find_seed_triangle-search.auto.w c.in-Some.is).second.below,
       s.requires.0.searchable.held.few,
     )
 
@@ -63,7 +63,7 @@ overflow_cast-k c =
     omega (
       arith,
       (free_seed s.args.p.rule s.args.p.radius s.requires.0 t.clear-c.ensures t.find_seed_triangle-search.ensures.0
-          t.find_seed_triangle-search.ensures.1 t.find_seed_triangle-search.auto.w c.in-Triangle.is).third.below,
+          t.find_seed_triangle-search.ensures.1 t.find_seed_triangle-search.auto.w c.in-Some.is).third.below,
       s.requires.0.searchable.held.few,
     )
 
@@ -74,7 +74,7 @@ lay_seed-first-requires c =
     let t = f in
     let s = t in
     seed_room s.args.p.rule s.args.p.radius s.requires.0 t.clear-c.ensures t.find_seed_triangle-search.ensures.0
-    t.find_seed_triangle-search.ensures.1 t.find_seed_triangle-search.auto.w c.in-Triangle.is r.remove_three.ensures r.remove_three.auto.w
+    t.find_seed_triangle-search.ensures.1 t.find_seed_triangle-search.auto.w c.in-Some.is r.remove_three.ensures r.remove_three.auto.w
 
 pub run-last-requires : goal.run-last-requires
 run-last-requires c =
@@ -84,11 +84,11 @@ run-last-requires c =
     let t = f in
     let s = t in
     seed_between_looks s.args.p.rule s.args.p.radius s.requires.0 t.clear-c.ensures t.find_seed_triangle-search.ensures.0
-    t.find_seed_triangle-search.ensures.1 t.find_seed_triangle-search.auto.w c.in-Triangle.is r.remove_three.ensures r.remove_three.auto.w
+    t.find_seed_triangle-search.ensures.1 t.find_seed_triangle-search.auto.w c.in-Some.is r.remove_three.ensures r.remove_three.auto.w
     l.lay_seed-first.ensures.takes l.lay_seed-first.ensures.only_in
 
-pub shape_of-w-in-Triangle : goal.shape_of-w-in-Triangle
-shape_of-w-in-Triangle c =
+pub shape_of-w-in-Some : goal.shape_of-w-in-Some
+shape_of-w-in-Some c =
     let u = c in
     let l = u in
     let r = l in
@@ -96,11 +96,11 @@ shape_of-w-in-Triangle c =
     let t = f in
     let s = t in
     (seed_laid s.args.p.rule s.args.p.radius s.requires.0 t.clear-c.ensures t.find_seed_triangle-search.ensures.0
-    t.find_seed_triangle-search.ensures.1 t.find_seed_triangle-search.auto.w c.in-Triangle.is r.remove_three.ensures r.remove_three.auto.w
+    t.find_seed_triangle-search.ensures.1 t.find_seed_triangle-search.auto.w c.in-Some.is r.remove_three.ensures r.remove_three.auto.w
     l.lay_seed-first.ensures.takes l.lay_seed-first.ensures.only_in u.run-last.ensures).length_same
 
-pub returns-in-Triangle : goal.returns-in-Triangle
-returns-in-Triangle c =
+pub returns-in-Some : goal.returns-in-Some
+returns-in-Some c =
     let u = c in
     let l = u in
     let r = l in
@@ -108,19 +108,19 @@ returns-in-Triangle c =
     let t = f in
     let s = t in (
       seed_laid s.args.p.rule s.args.p.radius s.requires.0 t.clear-c.ensures t.find_seed_triangle-search.ensures.0
-          t.find_seed_triangle-search.ensures.1 t.find_seed_triangle-search.auto.w c.in-Triangle.is r.remove_three.ensures
+          t.find_seed_triangle-search.ensures.1 t.find_seed_triangle-search.auto.w c.in-Some.is r.remove_three.ensures
           r.remove_three.auto.w
           l.lay_seed-first.ensures.takes l.lay_seed-first.ensures.only_in u.run-last.ensures,
       nothing_yet s.args.p.scene s.args.points.now
           (used_in_scene s.args.p.scene u.run-last.new.w),
     )
 
-pub returns-in-Nothing : goal.returns-in-Nothing
-returns-in-Nothing c =
+pub returns-in-None : goal.returns-in-None
+returns-in-None c =
     let t = c in
     let s = t in (
       no_seed s.args.p.rule s.args.p.radius s.requires.0 t.clear-c.ensures t.find_seed_triangle-search.ensures.0
-          t.find_seed_triangle-search.ensures.1 t.find_seed_triangle-search.auto.w c.in-Nothing.is,
+          t.find_seed_triangle-search.ensures.1 t.find_seed_triangle-search.auto.w c.in-None.is,
       nothing_kept {s = s.args.p.scene}
           s.args.points.now t.find_seed_triangle-search.result.upto t.find_seed_triangle-search.ensures.1 t.find_seed_triangle-search.ensures.3,
     )

@@ -4,7 +4,7 @@ use mathlib.Core.Path.{sym, ap, ◌∙◌}
 use Rattle.patch.specs.Search.{searching}
 use Rattle.nearby.specs.Inner.Ready.{used_in_scene}
 use Rattle.nearby.proofs.Keeping.{kept_self, kept_on, held_kept, hashed_search}
-use Rattle.seed.specs.Inner.Found.{seed_found}
+use Rattle.lists.specs.Inner.Found.{option_found}
 use Rattle.seedless.proofs.Nothing.{refuses_all_nothing}
 use Rattle.known_radii.proofs.Larger.{nothing_yet}
 use Rattle.seed.proofs.Known.{nothing_kept, nothing_back}
@@ -14,7 +14,7 @@ use Rattle.seed.proofs.find_seed_triangle.Goals as goal
 pub returns-then-t : goal.returns-then-t
 returns-then-t c =
     let x = c.args in
-    let e = sym (ap seed_found (c.requires.3 c.if-t.true)) in
+    let e = sym (ap option_found (c.requires.3 c.if-t.true)) in
     (e, kept_self x.s x.w.now, seed_area x.s x.points.now x.radius (used_in_scene x.s x.w.now) e, c.requires.4)
 
 pub returns-then-refuses_all : goal.returns-then-refuses_all
@@ -25,7 +25,7 @@ returns-then-refuses_all c =
     let used = used_in_scene x.s x.w.now in
     let h = refuses_all_nothing x.s x.points.now x.radius used 1000 start.requires.2.linked.ready.numbers
     (c.refuses_all.ensures c.if-refuses_all.true) in
-    let e = sym (ap seed_found h) in
+    let e = sym (ap option_found h) in
     (e, kept_self x.s x.w.now, seed_area x.s x.points.now x.radius used e, nothing_yet x.s x.points.now used)
 
 pub find_from-tried-requires : goal.find_from-tried-requires

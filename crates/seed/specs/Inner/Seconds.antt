@@ -1,6 +1,8 @@
 -- What a first point gives with some of the second points, in their order. Definitions only.
 use Rattle.std.specs.Prelude.{ℕ, ◌≤◌, ◌<◌, ◌≡◌, Bool, true, List, length, take, drop, Float}
+use Rattle.std.specs.Prelude.{Option as Outcome}
 use Rattle.std.proofs.Math.Option.{Option}
+use Rattle.lists.specs.Inner.Found.{option_found}
 use Rattle.lists.specs.Lists.{unused}
 use Rattle.lists.specs.Members.{only}
 use Rattle.grid.specs.Inner.Looking.{order_of}
@@ -16,8 +18,6 @@ use Rattle.nearby.specs.Inner.Narrow.{passes_filter}
 use Rattle.seedless.specs.declared.Site.{Site}
 use Rattle.seedless.specs.Inner.Parts.{with_first}
 use Rattle.seedless.specs.Inner.Seedless.{SeedlessFrom, SeedlessBetween}
-use Rattle.seed.specs.declared.Seed.{Seed}
-use Rattle.seed.specs.Inner.Found.{seed_found}
 
 -- the points that pass a filter, in the order of neighbours
 abbrev pub passing : Scene → List Float → List ℕ → Filter → List ℕ
@@ -30,8 +30,8 @@ with_seconds s pts r used f i from to =
 
 -- that is found, and those are not more than the cloud's points
 pub record SecondsTried (s : Scene) (pts : List Float) (r : Float) (used : List ℕ) (f : Filter) (i from to : ℕ)
-    (found : Seed) : Type 0 where
-  pub same : found ≡ seed_found (with_seconds s pts r used f i from to)
+    (found : Outcome (ℕ × ℕ × ℕ)) : Type 0 where
+  pub same : found ≡ option_found (with_seconds s pts r used f i from to)
   pub few : length (passing s pts used f) ≤ s.n
 
 -- the slices hold what a search from point i asks for
@@ -49,7 +49,7 @@ pub record SeedlessBefore (p : Site) (pts : List Float) (used : List ℕ) (lo i 
   pub free : unused used i ≡ true
 
 -- the seed with i as the first point is found, and what is told of it holds
-pub record FirstTried (s : Scene) (pts : List Float) (r : Float) (used : List ℕ) (lo i : ℕ) (found : Seed)
-    (seedless : Bool) : Type 0 where
-  pub same : found ≡ seed_found (with_first (floats_of s pts) r used i)
+pub record FirstTried (s : Scene) (pts : List Float) (r : Float) (used : List ℕ) (lo i : ℕ)
+    (found : Outcome (ℕ × ℕ × ℕ)) (seedless : Bool) : Type 0 where
+  pub same : found ≡ option_found (with_first (floats_of s pts) r used i)
   pub told : seedless ≡ true → SeedlessFrom s pts r used lo i

@@ -5,8 +5,7 @@ use native.Mathlib.Omega.{arith}
 use Rattle.lists.proofs.Bools.{true_not_false}
 use Rattle.nearby.specs.Inner.Ready.{used_in_scene}
 use Rattle.nearby.proofs.Keeping.{kept_on}
-use Rattle.seed.proofs.Laws.{no_triangle}
-use Rattle.seed.specs.Inner.Found.{seed_found}
+use Rattle.lists.specs.Inner.Found.{option_found}
 use Rattle.seed.proofs.State.{seek_start, seek_end, seek_spent, seek_used, seek_kept, seek_hit, seek_miss}
 use Rattle.seedless.proofs.Threes.{seedless_used, unused_kept}
 use Rattle.seed.proofs.Known.{seedless_on, unused_back, nothing_back, told_nothing}
@@ -28,7 +27,7 @@ pub returns-then-left-eq0 : goal.returns-then-left-eq0
 returns-then-left-eq0 c =
     let l = c.loop-i in
     let m = c.nothing_more.ensures in (
-      m.0 ∙ sym (ap seed_found (seek_spent l.invariant.0 c.loop-i-test.true c.if-left-eq0.true)),
+      m.0 ∙ sym (ap option_found (seek_spent l.invariant.0 c.loop-i-test.true c.if-left-eq0.true)),
       λ h. absurd
           (true_not_false h m.1),
       l.invariant.0.kept,
@@ -74,7 +73,7 @@ returns-then-is_known_by c =
     let e = ask-early in
     let k = c.is_known_by.ensures c.if-is_known_by.true in
     let upto = nothing_back {s = a.p.scene} a.points.now a.largest l.invariant.0.kept (e.ensures.0 k.0) in (
-      c.nothing_more-then-is_known_by.ensures.0 ∙ sym (ap seed_found (told_nothing a.p.scene a.points.now (used_in_scene a.p.scene a.w.now) k.1 upto)),
+      c.nothing_more-then-is_known_by.ensures.0 ∙ sym (ap option_found (told_nothing a.p.scene a.points.now (used_in_scene a.p.scene a.w.now) k.1 upto)),
       λ _. upto,
       kept_on l.invariant.0.kept e.ensures.1,
     )
@@ -97,15 +96,15 @@ try_first-first-requires c =
       before_kept {p = a.p} {w = a.w.now} (record { between = l.invariant.2; order = l.invariant.1; free = free }) q.kept,
     )
 
-pub shape_of-w-in-Triangle : goal.shape_of-w-in-Triangle
-shape_of-w-in-Triangle c =
+pub shape_of-w-in-Some : goal.shape_of-w-in-Some
+shape_of-w-in-Some c =
     let try-first = c.try_first-first in
     let ask-early = c.ask_early-asked in
     let loop = c.loop-i in
     try-first.auto.w ∙ ask-early.auto.w ∙ loop.invariant.0.same
 
-pub returns-in-Triangle : goal.returns-in-Triangle
-returns-in-Triangle c =
+pub returns-in-Some : goal.returns-in-Some
+returns-in-Some c =
     let try-first = c.try_first-first in
     let ask-early = c.ask_early-asked in
     let if2 = c.if-not-is_unused in
@@ -121,7 +120,7 @@ returns-in-Triangle c =
     let q = seek_kept l.invariant.0 e.new.w e.ensures.1 e.auto.w in
     let f = try-first in
     let free = unused_kept {s = a.p.scene} l.i e.ensures.1 (sym u.ensures ∙ if2.false) in (
-      seek_hit q loop-test.true if1.false free f.ensures.0.same c.in-Triangle.is,
+      seek_hit q loop-test.true if1.false free f.ensures.0.same c.in-Some.is,
       λ h. absurd (true_not_false h refl),
       kept_on q.kept f.ensures.1,
     )
@@ -151,7 +150,7 @@ loop-i-preserved c =
     let f = try-first in
     let m = c.known_from-lo in
     let free = unused_kept {s = a.p.scene} l.i e.ensures.1 (sym u.ensures ∙ if2.false) in (
-      seek_miss q f.new.w loop-test.true if1.false free f.ensures.0.same (no_triangle _ c.in_default.not-Triangle) f.ensures.1
+      seek_miss q f.new.w loop-test.true if1.false free f.ensures.0.same c.in_default.is f.ensures.1
           f.auto.w,
       m.ensures.inside,
       seedless_on {w₀ = a.w.now} l.invariant.2 q.kept f.ensures.0.told m.ensures,
@@ -164,4 +163,4 @@ pub returns : goal.returns
 returns c =
     let l = c.loop-i in
     let m = c.nothing_more-2.ensures in
-    (m.0 ∙ sym (ap seed_found (seek_end l.invariant.0 c.loop-i-test.false)), λ h. absurd (true_not_false h m.1), l.invariant.0.kept)
+    (m.0 ∙ sym (ap option_found (seek_end l.invariant.0 c.loop-i-test.false)), λ h. absurd (true_not_false h m.1), l.invariant.0.kept)

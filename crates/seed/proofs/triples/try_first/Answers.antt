@@ -6,7 +6,6 @@ use Rattle.decisions.specs.Decisions.{reach}
 use Rattle.nearby.specs.Inner.Ready.{used_in_scene}
 use Rattle.nearby.specs.Inner.Narrow.{Filters}
 use Rattle.nearby.proofs.Keeping.{kept_on}
-use Rattle.seed.proofs.Laws.{no_triangle}
 use Rattle.seed.proofs.Seconds.{seconds_all, seconds_hit, seconds_none}
 use Rattle.seed.proofs.First.{searchable_kept, before_kept, seconds_kept, seconds_back, first_back, first_seedless}
 use Rattle.seed.proofs.triples.try_first.Goals as goal
@@ -72,14 +71,14 @@ try_seconds-found-requires c =
           c.filter_of-f.ensures,
     )
 
-pub shape_of-w-in-Triangle : goal.shape_of-w-in-Triangle
-shape_of-w-in-Triangle c =
+pub shape_of-w-in-Some : goal.shape_of-w-in-Some
+shape_of-w-in-Some c =
     let try-seconds2 = c.try_seconds-found in
     let check-first = c.check_first-check in
     try-seconds2.auto.w ∙ check-first.auto.w
 
-pub returns-in-Triangle : goal.returns-in-Triangle
-returns-in-Triangle c =
+pub returns-in-Some : goal.returns-in-Some
+returns-in-Some c =
     let try-seconds2 = c.try_seconds-found in
     let filter-of = c.filter_of-f in
     let point_at_lem = c.point_at-place in
@@ -92,7 +91,7 @@ returns-in-Triangle c =
     let fs = subst (λ (q : Point3f). Filters a.p.scene q q (reach a.p.radius) f.result) point_at_lem.ensures f.ensures in (
       record {
         same = seconds_hit a.p.scene a.points.now a.p.radius (used_in_scene a.p.scene a.w.now) f.result a.i fs (seconds_back k t.0)
-            c.in-Triangle.is;
+            c.in-Some.is;
         told = λ h. absurd (true_not_false h refl);
       },
       kept_on k t.1,
@@ -113,7 +112,7 @@ try_rest-requires c =
       searchable_kept v start.requires.0 kept (t.auto.w ∙ k.auto.w),
       subst (λ (q : Point3f). Filters a.p.scene q q (reach a.p.radius) filter-of.result) point_at_lem.ensures filter-of.ensures,
       before_kept start.requires.1 kept,
-      seconds_none (seconds_kept t.ensures.1 t.ensures.0) (no_triangle _ c.in_default.not-Triangle),
+      seconds_none (seconds_kept t.ensures.1 t.ensures.0) c.in_default.is,
     )
 
 pub shape_of-w : goal.shape_of-w
