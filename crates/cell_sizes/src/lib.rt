@@ -59,12 +59,10 @@ pub fn is_sparse(
         return false;
     }
     let step = n / ASKED;
-    let mut i = step / 2;
-    while i < n {
+    for i in (step / 2..n).step_by(step) {
         if !is_lonely(scene, points, settings.radius, hash, words, i) {
             return false;
         }
-        i += step;
     }
     true
 }
@@ -77,29 +75,25 @@ pub fn size_for_samples(settings: BallPivotingConfig) -> f32 {
 // The size for laying over a sparse cloud: by the middle one of the radii, if it is much larger than the settings'.
 pub fn size_for_laying(radii: Radii, radius: f32) -> f32 {
     let middle = (radii.count / 2) as usize;
-    if middle < 17 {
-        let list = radii.list;
-        if list[middle] > radius * 4.0 {
-            return list[middle] * 1.2;
-        }
+    if middle < 17 && radii.list[middle] > radius * 4.0 {
+        return radii.list[middle] * 1.2;
     }
     radius * 4.8
 }
 
-// The hash, built anew if it is to be.
+// The hash, built anew if there is a size for its cells.
 pub fn rehash(
     scene: Scene,
     points: &[f32],
     hash: Hash,
     words: &mut [u32],
-    anew: bool,
-    size: f32,
+    size: Option<f32>,
 ) -> Hash
     requires { AllSearchable scene hash points.now words.old }
     ensures { AllSearchable scene result points.now words.new }
 {
-    if !anew {
-        return hash;
+    match size {
+        Some(size) => spatial_hash::build(points, scene.n, size, words),
+        None => hash,
     }
-    spatial_hash::build(points, scene.n, size, words)
 }

@@ -46,10 +46,7 @@ fn index_points(points: &[f32], settings: BallPivotingConfig, words: &mut [u32])
         quality_threshold: settings.quality_threshold,
         max_edge_factor: settings.max_edge_factor,
     };
-    HashedCloud {
-        scene: scene,
-        hash: hash,
-    }
+    HashedCloud { scene, hash }
 }
 
 // What is known of the cloud before a face is laid. A sparse cloud is hashed again for the samples, and once more for
@@ -70,15 +67,11 @@ pub fn survey(
     let narrow = site.hash;
     let sparse = cell_sizes::is_sparse(scene, points, settings, narrow, words);
     let wide_size = cell_sizes::size_for_samples(settings);
-    let wide = cell_sizes::rehash(scene, points, narrow, words, sparse, wide_size);
+    let wide = cell_sizes::rehash(scene, points, narrow, words, sparse.then_some(wide_size));
     let radii = radii::compute_adaptive_radii(
         points, scene.n, settings, scene.grid, wide, words, floats,
     );
     let size = cell_sizes::size_for_laying(radii, settings.radius);
-    let hash = cell_sizes::rehash(scene, points, wide, words, sparse, size);
-    Surveyed {
-        scene: scene,
-        hash: hash,
-        radii: radii,
-    }
+    let hash = cell_sizes::rehash(scene, points, wide, words, sparse.then_some(size));
+    Surveyed { scene, hash, radii }
 }

@@ -6,9 +6,8 @@ use Rattle.cell_sizes.proofs.is_lonely.Goals as goal
 
 pub gather_within-found-requires : goal.gather_within-found-requires
 gather_within-found-requires c =
-    let s = c in
-    let l = s.requires.0.hashed.linked in
-    (l, subst Finite (sym c.point_at-place.ensures) (l.ready.numbers s.args.i s.requires.1))
+    let l = c.requires.0.hashed.linked in
+    (l, subst Finite (sym c.point_at-place.ensures) (l.ready.numbers c.args.i c.requires.1))
 
 pub returns : goal.returns
 returns c =

@@ -1,6 +1,5 @@
 -- `is_sparse` meets its contract. Assumes nothing.
 use mathlib.Core.Path.{refl, ◌∙◌}
-use native.Mathlib.Omega.{arith}
 use Rattle.cell_sizes.proofs.is_sparse.Goals as goal
 
 pub returns-then-n-lt-FEW : goal.returns-then-n-lt-FEW
@@ -18,25 +17,8 @@ shape_of-words-then-not-is_lonely c = c.is_lonely.auto.words ∙ c.loop-i.invari
 pub returns-then-not-is_lonely : goal.returns-then-not-is_lonely
 returns-then-not-is_lonely c = c.is_lonely.ensures
 
-pub overflow_add-i : goal.overflow_add-i
-overflow_add-i c = omega (arith, c.loop-i-test.true, c.loop-i.invariant.0.held.few)
-
-pub loop-i-smaller : goal.loop-i-smaller
-loop-i-smaller c =
-    omega (
-      arith,
-      c.loop-i-test.true,
-      c.if-n-lt-FEW.false,
-    )
-
 pub loop-i-preserved : goal.loop-i-preserved
 loop-i-preserved c = (
   c.is_lonely.ensures,
   c.is_lonely.auto.words ∙ c.loop-i.invariant.1,
 )
-
-pub shape_of-words : goal.shape_of-words
-shape_of-words c = c.loop-i.invariant.1
-
-pub returns : goal.returns
-returns c = c.loop-i.invariant.0

@@ -1,5 +1,4 @@
 -- `is_sparse` meets its contract. Assumes nothing.
-use Prim.Native.Nat.{◌-◌}
 use mathlib.Core.Path.{◌≡◌}
 use lib.ListN.{length}
 use Rattle.laying.specs.Inner.Laying.{AllSearchable}
@@ -7,6 +6,3 @@ use Rattle.cell_sizes.proofs.is_sparse.Given as goal
 
 abbrev pub invariant-loop-i : goal.invariant-loop-i
 invariant-loop-i l = AllSearchable l.scene l.hash l.points l.words × (length l.words ≡ length l.initial.words)
-
-abbrev pub decreases-loop-i : goal.decreases-loop-i
-decreases-loop-i l = l.scene.n - l.i
