@@ -52,7 +52,7 @@ pub fn interval(size: f32, least: f32, v: f32, reach: f32, range: u32, cell: u32
 {
     let lo = lower_end(size, least, v - reach, range, cell);
     let hi = upper_end(size, least, v + reach, range, cell);
-    Interval { lo: lo, hi: hi }
+    Interval { lo, hi }
 }
 
 // Whether two ordinary ends have v between them.

@@ -105,5 +105,9 @@ pub fn guess_spacing(points: &[f32], n: usize) -> f32
 
 // A guess for the next sample: a little more than the distance of the last one, if it has one.
 pub fn guess_after(guess: f32, d: f32) -> f32 {
-    if d < infinity() && d > 0.0 { d * 1.5 } else { guess }
+    if d < infinity() && d > 0.0 {
+        d * 1.5
+    } else {
+        guess
+    }
 }

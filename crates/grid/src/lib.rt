@@ -34,7 +34,7 @@ pub fn bounds_min(points: &[f32], n: usize) -> Point3f
     let x = cells::least_from(points, 0, n);
     let y = cells::least_from(points, 1, n);
     let z = cells::least_from(points, 2, n);
-    Point3f { x: x, y: y, z: z }
+    Point3f { x, y, z }
 }
 
 // The cell of a place.
@@ -44,7 +44,7 @@ pub fn cell_of(grid: SpatialGrid, p: Point3f) -> Cell
     let x = cells::cell_on(grid.cell_size, grid.bounds_min.x, p.x);
     let y = cells::cell_on(grid.cell_size, grid.bounds_min.y, p.y);
     let z = cells::cell_on(grid.cell_size, grid.bounds_min.z, p.z);
-    Cell { x: x, y: y, z: z }
+    Cell { x, y, z }
 }
 
 // Indexes n points: keeps the cell of each.
@@ -55,7 +55,7 @@ pub fn build_spatial_grid(points: &[f32], n: usize, cell_size: f32, w: &mut [u32
         × (drop (neighbors_at n) w.new ≡ drop (neighbors_at n) w.old) }
 {
     let grid = SpatialGrid {
-        cell_size: cell_size,
+        cell_size,
         bounds_min: bounds_min(points, n),
     };
     cells::fill_cells(points, n, grid, w);

@@ -46,7 +46,7 @@ pub fn nearest_in(points: &[f32], index: &[u32], width: usize, spot: Point3f) ->
     );
     Best {
         square: best[0],
-        number: number,
+        number,
         limit: best[1],
     }
 }

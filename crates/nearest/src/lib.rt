@@ -34,19 +34,13 @@ struct Least {
 pub fn greater(a: f32, b: f32) -> f32
     ensures { result ≡ greater a b }
 {
-    if a < b {
-        return b;
-    }
-    a
+    if a < b { b } else { a }
 }
 
 pub fn lesser(a: f32, b: f32) -> f32
     ensures { result ≡ lesser a b }
 {
-    if a < b {
-        return a;
-    }
-    b
+    if a < b { a } else { b }
 }
 
 // A number such that each square above it has a root above the given square's. No rounding comes near to a part in a
@@ -55,10 +49,8 @@ pub fn limit_of(square: f32) -> f32
     requires { T (fits binary32 square) }
     ensures { Limit (root square) result }
 {
-    if 0.0 <= square {
-        if square <= 1.2676506e30 {
-            return greater(square, 7.888609e-31) * 1.000001;
-        }
+    if 0.0 <= square && square <= 1.2676506e30 {
+        return greater(square, 7.888609e-31) * 1.000001;
     }
     bounds::square_limit(numbers::sqrt(square))
 }
@@ -93,9 +85,9 @@ fn closer(best: Best, p: Point3f, spot: Point3f, number: u32) -> Best
     }
     let limit = limit_of(square);
     let other = Best {
-        square: square,
-        number: number,
-        limit: limit,
+        square,
+        number,
+        limit,
     };
     if limit < best.square {
         return other;
@@ -111,12 +103,9 @@ fn scan(points: &[f32], spot: Point3f, order: &[u32], best: Best) -> Best
         (scanned (length_to points.now spot) order.now (near_of_best best)) }
 {
     let mut found = best;
-    let mut i: usize = 0;
-    while i < order.len() {
-        let number = order[i];
-        let p = points::point_at(points, number as usize);
-        found = closer(found, p, spot, number);
-        i += 1;
+    for number in order {
+        let p = points::point_at(points, *number as usize);
+        found = closer(found, p, spot, *number);
     }
     found
 }
@@ -126,9 +115,10 @@ fn nearer_number(least: Least, square: f32, number: u32) -> u32
     ensures { result ≡ nearer_number least square number }
 {
     if square < least.first {
-        return number;
+        number
+    } else {
+        least.number
     }
-    least.number
 }
 
 // The two least squares after one more. No branch has to be foretold.
@@ -153,13 +143,10 @@ fn two_least(points: &[f32], spot: Point3f, order: &[u32]) -> Least
         second: 3.4028235e38,
         number: 0,
     };
-    let mut i: usize = 0;
-    while i < order.len() {
-        let number = order[i];
-        let p = points::point_at(points, number as usize);
+    for number in order {
+        let p = points::point_at(points, *number as usize);
         let square = vector::distance_squared(p, spot);
-        least = next_least(least, square, number);
-        i += 1;
+        least = next_least(least, square, *number);
     }
     least
 }
@@ -184,11 +171,9 @@ pub fn scan_leaf(
         return near;
     }
     let limit = limit_of(first);
-    if limit < least.second {
-        if limit < best[0] {
-            *best = [first, limit];
-            return least.number;
-        }
+    if limit < least.second && limit < best[0] {
+        *best = [first, limit];
+        return least.number;
     }
     let old = Best {
         square: best[0],

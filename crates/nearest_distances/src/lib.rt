@@ -28,13 +28,10 @@ fn measure(points: &[f32], spots: &[f32], found: &[u32], distances: &mut [f32])
     ensures { distances.new
         ≡ distances_in points.now spots.now distances.old }
 {
-    let m = spots.len() / 3;
-    let mut i: usize = 0;
-    while i < m {
+    for i in 0..spots.len() / 3 {
         let p = points::point_at(points, found[i] as usize);
         let spot = points::point_at(spots, i);
         distances[i] = vector::distance(p, spot);
-        i += 1;
     }
 }
 

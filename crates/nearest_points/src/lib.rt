@@ -106,13 +106,10 @@ fn fill(points: &[f32], spots: &[f32], index: &[u32], width: usize, found: &mut 
     requires values_within { ValuesWithin farthest spots.now × (length spots.now / 3 ≤ length found.old) }
     ensures { found.new ≡ numbers_in points.now spots.now found.old }
 {
-    let m = spots.len() / 3;
-    let mut i: usize = 0;
-    while i < m {
+    for i in 0..spots.len() / 3 {
         let spot = points::point_at(spots, i);
         let best = index_search::nearest_in(points, index, width, spot);
         found[i] = best.number;
-        i += 1;
     }
 }
 

@@ -21,7 +21,7 @@ fn around_of(config: BallPivotingConfig, grid: SpatialGrid, place: Point3f) -> A
     Around {
         indexed: config.use_spatial_index,
         range: cutting::ceil_cut(config.radius * 3.0 / grid.cell_size),
-        cell: cell,
+        cell,
     }
 }
 

@@ -102,22 +102,16 @@ fn span_of(side: usize, a: u32, b: u32) -> Span
 {
     let first = (a as usize) % side;
     if b < a {
-        return Span {
-            first: first,
-            count: 0,
-        };
+        return Span { first, count: 0 };
     }
     let gap = (b - a) as usize;
     if gap < side {
         return Span {
-            first: first,
+            first,
             count: gap + 1,
         };
     }
-    Span {
-        first: first,
-        count: side,
-    }
+    Span { first, count: side }
 }
 
 // The remainders of the cells between two coordinates.

@@ -40,11 +40,7 @@ pub fn build(points: &[f32], n: usize, size: f32, w: &mut [u32]) -> Hash
     let least = links::least_corner(points, n);
     let scale = cells::scale_for(size);
     let side = cells::side_for(n);
-    let hash = Hash {
-        least: least,
-        scale: scale,
-        side: side,
-    };
+    let hash = Hash { least, scale, side };
     links::clear_heads(w, n, side);
     links::link_points(points, w, n, hash);
     order::order_points(points, w, n, hash);

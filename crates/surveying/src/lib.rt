@@ -39,9 +39,9 @@ fn index_points(points: &[f32], settings: BallPivotingConfig, words: &mut [u32])
     let grid = grid::build_spatial_grid(points, n, size, words);
     let hash = spatial_hash::build(points, n, settings.radius * 1.2, words);
     let scene = Scene {
-        n: n,
-        indexed: indexed,
-        grid: grid,
+        n,
+        indexed,
+        grid,
         min_triangle_area: settings.min_triangle_area,
         quality_threshold: settings.quality_threshold,
         max_edge_factor: settings.max_edge_factor,

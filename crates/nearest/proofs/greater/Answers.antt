@@ -5,6 +5,6 @@ pub returns-then-a-b : goal.returns-then-a-b
 unfolding greater
 returns-then-a-b c = rw c.if-a-b.true
 
-pub returns : goal.returns
+pub returns-else-a-b : goal.returns-else-a-b
 unfolding greater
-returns c = rw c.if-a-b.false
+returns-else-a-b c = rw c.if-a-b.false

@@ -5,6 +5,6 @@ pub returns-then-square-least : goal.returns-then-square-least
 unfolding nearer_number
 returns-then-square-least c = rw c.if-square-least.true
 
-pub returns : goal.returns
+pub returns-else-square-least : goal.returns-else-square-least
 unfolding nearer_number
-returns c = rw c.if-square-least.false
+returns-else-square-least c = rw c.if-square-least.false

@@ -7,25 +7,25 @@ use Rattle.vector.specs.declared.Point3f.{Point3f}
 use Rattle.nearest.proofs.Scanning.{left_start, left_step, left_end}
 use Rattle.nearest.proofs.scan.Goals as goal
 
-pub loop-i-init : goal.loop-i-init
-loop-i-init c = left_start _ _ _ c.requires.best_limited
+pub loop-number-init : goal.loop-number-init
+loop-number-init c = left_start _ _ _ c.requires.best_limited
 
 pub overflow_cast-number : goal.overflow_cast-number
-overflow_cast-number c = omega (arith, c.type_inv.order c.loop-i.i)
+overflow_cast-number c = omega (arith, c.type_inv.order c.loop-number.number-index)
 
 pub point_at-p-requires : goal.point_at-p-requires
 point_at-p-requires c =
     let o = c.args.order.now in c.requires.numbers_of_points
-    (get_or o c.loop-i.i 0) (in_at o c.loop-i.i c.loop-i-test.true)
+    (get_or o c.loop-number.number-index 0) (in_at o c.loop-number.number-index c.loop-number-test.true)
 
 pub closer-found-requires : goal.closer-found-requires
-closer-found-requires c = c.loop-i.invariant.limited
+closer-found-requires c = c.loop-number.invariant.limited
 
-pub loop-i-preserved : goal.loop-i-preserved
-loop-i-preserved c =
-    left_step _ c.loop-i.invariant c.loop-i-test.true
+pub loop-number-preserved : goal.loop-number-preserved
+loop-number-preserved c =
+    left_step _ c.loop-number.invariant c.loop-number-test.true
     (ap (λ (p : Point3f). distance p c.args.spot) c.point_at-p.ensures)
     c.closer-found.ensures
 
 pub returns : goal.returns
-returns c = left_end _ c.loop-i.invariant c.loop-i-test.false
+returns c = left_end _ c.loop-number.invariant c.loop-number-test.false

@@ -13,13 +13,12 @@ use Rattle.radii.proofs.Spaced.{listed_none}
 use Rattle.radii.proofs.compute_adaptive_radii.Goals as goal
 
 pub returns-then-not-config : goal.returns-then-not-config
-returns-then-not-config c =
-    (
-      subst (λ (xs : List Float). RadiiListed xs (record { list = replicate 17 (f32 0); count = 0 }))
-          (radii_off c.args.config c.args.grid c.args.points.now c.args.n c.if-not-config.true) listed_none,
-      refl,
-      refl,
-    )
+returns-then-not-config c = (
+  subst (λ (xs : List Float). RadiiListed xs (record { list = replicate 17 (f32 0); count = 0 }))
+      (radii_off c.args.config c.args.grid c.args.points.now c.args.n c.if-not-config.true) listed_none,
+  refl,
+  refl,
+)
 
 pub returns-then-count-eq0 : goal.returns-then-count-eq0
 returns-then-count-eq0 c =
