@@ -4,33 +4,16 @@ use mathlib.Core.Bool.{Bool, true, false, cond}
 use mathlib.Core.List.{List, [], ◌∷◌, ◌++◌, map, append_assoc}
 use Prim.Native.Nat.{ℕ, zero, suc, ◌+◌, ◌/◌, ◌≤◌, ◌<◌}
 use native.Mathlib.Omega.{arith}
-use lib.Dec.{leb, ltb}
+use lib.Dec.{leb}
 use lib.Ieee.{Float}
 use lib.ListN.{length, get_or, take, drop, take-append-drop}
-use borrow.Author.Tests.{eq-eqb, leb-true, eqb-true, ltb-true, ltb-false}
+use borrow.Author.Tests.{eq-eqb, leb-true, eqb-true}
 use Rattle.lists.specs.Lists.{up_from}
 use Rattle.lists.proofs.Bools.{true_not_false}
 use Rattle.domain.specs.Refusals.{check, first_refusal}
 use Rattle.domain.proofs.Refusals.{check_accepted}
 use Rattle.kd_tree.specs.Tree.{belongs}
 use Rattle.nearest_points.specs.Found.{search_refusal, checked, nearest_refusal, number_at, numbers_in}
-use Rattle.nearest_distances.specs.Measured.{shorter}
-
-pub shorter_first : (a b : ℕ) → shorter a b ≤ a
-unfolding shorter
-shorter_first a b = go (ltb a b) refl
-  where
-    go : (t : Bool) → ltb a b ≡ t → cond t a b ≤ a
-    go true e = omega arith
-    go false e = omega (arith, ltb-false a b e)
-
-pub shorter_second : (a b : ℕ) → shorter a b ≤ b
-unfolding shorter
-shorter_second a b = go (ltb a b) refl
-  where
-    go : (t : Bool) → ltb a b ≡ t → cond t a b ≤ b
-    go true e = omega (arith, ltb-true a b e)
-    go false e = omega arith
 
 drop_front : {A : Type 0} (m room : ℕ) (xs : List A) → m ≤ room → drop m (take room xs) ++ drop room xs ≡ drop m xs
 drop_front zero room xs h = take-append-drop room xs

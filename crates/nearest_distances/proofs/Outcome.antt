@@ -2,7 +2,7 @@
 use mathlib.Core.Path.{◌≡◌, sym, ap, ◌∙◌, subst, subst⁻¹}
 use mathlib.Core.Bool.{Bool, cond}
 use mathlib.Core.List.{List, ◌++◌, map}
-use Prim.Native.Nat.{ℕ, zero, suc, ◌+◌, ◌/◌, ◌≤◌, ◌<◌}
+use Prim.Native.Nat.{ℕ, zero, suc, ◌+◌, ◌/◌, ◌≤◌, ◌<◌, min}
 use native.Mathlib.Omega.{arith}
 use lib.Ieee.{Float}
 use lib.ListN.{length, get_or, take, drop, take-append-drop}
@@ -12,8 +12,8 @@ use Rattle.lists.specs.Lists.{up_from}
 use Rattle.nearest_points.specs.declared.Searched.{Searched}
 use Rattle.nearest_points.specs.Found.{Answers, search_refusal, nearest_refusal, number_at, numbers_in, Searches}
 use Rattle.nearest_points.proofs.Refused.{accepted}
-use Rattle.nearest_distances.specs.Measured.{shorter, distances_in, Measures}
-use Rattle.nearest_distances.proofs.Numbers.{shorter_first, shorter_second, numbers_whole, number_at_lem, found_room}
+use Rattle.nearest_distances.specs.Measured.{distances_in, Measures}
+use Rattle.nearest_distances.proofs.Numbers.{numbers_whole, number_at_lem, found_room}
 
 front_fits : (f : ℕ → ℕ) (j m : ℕ) (rest : List ℕ) → m ≤ length (map f (up_from j m) ++ rest)
 unfolding up_from
@@ -21,18 +21,18 @@ front_fits f j zero rest = omega arith
 front_fits f j (suc m) rest = omega (arith, front_fits f (j + 1) m rest)
 
 module _ (points spots : List Float) (index found : List ℕ) (distances : List Float) (words : List ℕ) (floats : List Float) (room : ℕ)
-    (is : room ≡ shorter (length found) (length distances)) where
+    (is : room ≡ min (length found) (length distances)) where
   pub in_found : room ≤ length found
-  in_found = subst⁻¹ (λ (k : ℕ). k ≤ length found) is (shorter_first (length found) (length distances))
+  in_found = omega arith
 
   in_distances : room ≤ length distances
-  in_distances = subst⁻¹ (λ (k : ℕ). k ≤ length distances) is (shorter_second (length found) (length distances))
+  in_distances = omega arith
 
   pub part_length : length (take room found) ≡ room
   part_length = length-take-le room found in_found
 
   module _ {r : Searched} {a words' : List ℕ} {floats' : List Float} (s : Searches points spots index (take room found) words floats r a words' floats') where
-    answers_whole : Answers r (nearest_refusal points spots index (length words) (length floats) (shorter (length found) (length distances)))
+    answers_whole : Answers r (nearest_refusal points spots index (length words) (length floats) (min (length found) (length distances)))
     answers_whole = subst (λ (k : ℕ). Answers r (nearest_refusal points spots index (length words) (length floats) k)) (part_length ∙ is) s.answers
 
     pub unmeasured : (r.answer ≡ 0 → ⊥) → Measures points spots index found distances words floats r (a ++ drop room found) distances words' floats'

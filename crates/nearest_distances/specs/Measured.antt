@@ -1,5 +1,5 @@
 -- The nearest points to many spots and how far they are: what the call answers and leaves. Definitions only.
-use Rattle.std.specs.Prelude.{ℕ, ◌/◌, cond, ◌≡◌, List, ◌++◌, map, ltb, eqb, length, drop, Float}
+use Rattle.std.specs.Prelude.{ℕ, ◌/◌, cond, ◌≡◌, List, ◌++◌, map, min, eqb, length, drop, Float}
 use Rattle.numbers.specs.Rounded.{f32}
 use Rattle.lists.specs.Lists.{up_from}
 use Rattle.points.specs.Points.{point_at}
@@ -7,10 +7,6 @@ use Rattle.clearing.specs.Swept.{swept}
 use Rattle.nearest.specs.Scan.{nearest}
 use Rattle.nearest_points.specs.declared.Searched.{Searched}
 use Rattle.nearest_points.specs.Found.{Answers, checked, nearest_refusal, numbers_in}
-
--- the lesser of two lengths
-unfoldable pub shorter : ℕ → ℕ → ℕ
-shorter a b = cond (ltb a b) a b
 
 -- how far the point nearest to spot i is from it
 abbrev pub distance_at : List Float → List Float → ℕ → Float
@@ -28,7 +24,7 @@ pub record Measures
     : Type 0 where
   pub answers
       : Answers r
-      (nearest_refusal points spots index (length words) (length floats) (shorter (length found) (length distances)))
+      (nearest_refusal points spots index (length words) (length floats) (min (length found) (length distances)))
   pub found_left : found' ≡ cond (eqb r.answer 0) (numbers_in points spots found) found
   pub distances_left : distances' ≡ cond (eqb r.answer 0) (distances_in points spots distances) distances
   pub words_left : words' ≡ swept 0 (checked points spots (length index) (length words) (length floats)) words

@@ -5,19 +5,9 @@
 
 ghost use Rattle.std.specs.Prelude.{◌≡◌, ℕ, ◌/◌, ◌≤◌, ◌<◌, length, get_or};
 ghost use Rattle.nearest_points.specs.Found.{number_at};
-ghost use Rattle.nearest_distances.specs.Measured.{shorter, distances_in, Measures};
+ghost use Rattle.nearest_distances.specs.Measured.{distances_in, Measures};
 
 use nearest_points::Searched;
-
-// The lesser of two lengths.
-fn shorter_of(a: usize, b: usize) -> usize
-    ensures { result ≡ shorter a b }
-{
-    if a < b {
-        return a;
-    }
-    b
-}
 
 // The distance of each spot from the point that was found for it.
 fn measure(points: &[f32], spots: &[f32], found: &[u32], distances: &mut [f32])
@@ -50,7 +40,7 @@ pub fn nearest_distances(
         distances.new words.new floats.new }
 {
     // Where the distances have no room the numbers get none either, and the search says so in its place.
-    let room = shorter_of(found.len(), distances.len());
+    let room = found.len().min(distances.len());
     let searched = nearest_points::nearest_points(
         points,
         spots,
