@@ -3,10 +3,10 @@
 // ones are gone through point by point. What that may take comes from a work budget.
 #![tactic(auto)]
 
-ghost use Rattle.std.specs.Prelude.{◌≡◌, true, ◌+◌, ◌≤◌, ◌<◌};
+ghost use Rattle.std.specs.Prelude.{◌≡◌, true, ◌+◌, ◌≤◌, ◌<◌, IfSome};
 ghost use Rattle.nearby.specs.Inner.Ready.{SceneHeld, NeighborsListed};
 ghost use Rattle.three_points.specs.Inner.Judged.{LimitsAtRadius};
-ghost use Rattle.seedless_pairs.specs.Inner.Pairs.{SeedlessAfter, Later, PairsSeedless, Spans, Ranged};
+ghost use Rattle.seedless_pairs.specs.Inner.Pairs.{SeedlessAfter, PairsSeedless, Spans, Ranged};
 
 use bounds::Bounds;
 use decisions::Scene;
@@ -44,7 +44,7 @@ pub fn range_of(s: Scene, points: &[f32], w: &[u32], from: usize, to: usize) -> 
 }
 
 // What is left of a budget once it is told that points i and j make no seed with any of the listed points from a place
-// on; 0 if that was not told.
+// on, if that was told.
 fn search_beside(
     s: Scene,
     points: &[f32],
@@ -56,35 +56,25 @@ fn search_beside(
     j: usize,
     from: usize,
     budget: usize,
-) -> usize
+) -> Option<usize>
     requires { SceneHeld s points.now w.now × NeighborsListed s w.now count × (i < s.n) × (j < s.n)
         × LimitsAtRadius s points.now radius limits }
-    ensures { 0 < result
-        → SeedlessAfter s points.now radius w.now count i j from }
+    ensures { IfSome result (λ left. SeedlessAfter s points.now radius w.now count i j from) }
 {
     let mut left = budget;
     for m in from..count {
         let k = nearby::listed_point(s, w, count, m);
-        let price = three_points::price_of(s, points, radius, limits, i, j, k);
-        if price == 0 {
-            return 0;
-        }
+        let price = three_points::price_of(s, points, radius, limits, i, j, k)?;
         if left <= price {
-            return 0;
+            return None;
         }
         left -= price;
     }
-    left
+    Some(left)
 }
 
-// The later of two places.
-fn later(a: usize, b: usize) -> usize
-    ensures { Later a b result }
-{
-    if a < b { b } else { a }
-}
-
-// What is left of a budget once it is told that no point of a range makes a seed with the later points of another.
+// What is left of a budget once it is told that no point of a range makes a seed with the later points of another, if
+// that was told.
 fn search_each(
     s: Scene,
     points: &[f32],
@@ -95,44 +85,24 @@ fn search_each(
     first: Range,
     second: Range,
     budget: usize,
-) -> usize
+) -> Option<usize>
     requires { Ranged s points.now w.now radius limits i first second }
-    ensures { 0 < result
-        → PairsSeedless s points.now radius w.now i first second }
+    ensures { IfSome result (λ left. PairsSeedless s points.now radius w.now i first second) }
 {
-    let end = first.to;
-    let from = second.from;
-    let to = second.to;
     let mut left = budget;
-    for m in first.from..end {
-        let j = nearby::listed_point(s, w, end, m);
-        left = search_beside(
-            s,
-            points,
-            w,
-            to,
-            radius,
-            limits,
-            i,
-            j,
-            later(from, m + 1),
-            left,
-        );
-        if left == 0 {
-            return 0;
-        }
+    for m in first.from..first.to {
+        let j = nearby::listed_point(s, w, first.to, m);
+        let from = second.from.max(m + 1);
+        left = search_beside(s, points, w, second.to, radius, limits, i, j, from, left)?;
     }
-    left
+    Some(left)
 }
 
 // Whether ranges with so many points are halved.
 fn are_halved(points: usize, asks: bool) -> bool
     ensures { result ≡ true → 16 < points }
 {
-    if !asks {
-        return false;
-    }
-    FEW < points
+    asks && FEW < points
 }
 
 // What is left of a budget once that is told of two ranges. Ranges whose boxes are refused are passed over; parts of
@@ -148,24 +118,23 @@ pub fn search_ranges(
     second: Range,
     asks: bool,
     budget: usize,
-) -> usize
+) -> Option<usize>
     requires { Ranged s points.now w.now radius limits i first second }
-    ensures { 0 < result
-        → PairsSeedless s points.now radius w.now i first second }
+    ensures { IfSome result (λ left. PairsSeedless s points.now radius w.now i first second) }
 {
     if second.to <= first.from {
-        return budget;
+        return Some(budget);
     }
     let x = first.to - first.from;
     let y = second.to - second.from;
     let price = BOXED + (x + y) / 4;
     if budget <= price {
-        return 0;
+        return None;
     }
     let rest = budget - price;
     let p = points::point_at(points, i);
     if box_filters::is_refused_within(s.quality_threshold, limits, p, first.bounds, second.bounds) {
-        return rest;
+        return Some(rest);
     }
     if !are_halved(x + y, asks) {
         return search_each(s, points, w, radius, limits, i, first, second, rest);
@@ -176,18 +145,9 @@ pub fn search_ranges(
     let b = range_of(s, points, w, j, first.to);
     let c = range_of(s, points, w, second.from, k);
     let d = range_of(s, points, w, k, second.to);
-    let ac = search_ranges(s, points, w, radius, limits, i, a, c, asks, rest);
-    if ac == 0 {
-        return 0;
-    }
-    let ad = search_ranges(s, points, w, radius, limits, i, a, d, asks, ac);
-    if ad == 0 {
-        return 0;
-    }
-    let bc = search_ranges(s, points, w, radius, limits, i, b, c, asks, ad);
-    if bc == 0 {
-        return 0;
-    }
+    let ac = search_ranges(s, points, w, radius, limits, i, a, c, asks, rest)?;
+    let ad = search_ranges(s, points, w, radius, limits, i, a, d, asks, ac)?;
+    let bc = search_ranges(s, points, w, radius, limits, i, b, c, asks, ad)?;
     search_ranges(s, points, w, radius, limits, i, b, d, asks, bc)
 }
 
@@ -228,13 +188,9 @@ fn is_worth_asking(
     let quarter = count / 4;
     let half = quarter + quarter;
     let last = half + quarter;
-    if are_refused_at(s, points, w, count, limits, i, 0, half) {
-        return true;
-    }
-    if are_refused_at(s, points, w, count, limits, i, quarter, last) {
-        return true;
-    }
-    are_refused_at(s, points, w, count, limits, i, 0, last)
+    are_refused_at(s, points, w, count, limits, i, 0, half)
+        || are_refused_at(s, points, w, count, limits, i, quarter, last)
+        || are_refused_at(s, points, w, count, limits, i, 0, last)
 }
 
 // What is left of a budget once that is told of all pairs of a range, by parts of it where that is worth it.
@@ -247,10 +203,9 @@ pub fn search_pairs(
     i: usize,
     all: Range,
     budget: usize,
-) -> usize
+) -> Option<usize>
     requires { Ranged s points.now w.now radius limits i all all }
-    ensures { 0 < result
-        → PairsSeedless s points.now radius w.now i all all }
+    ensures { IfSome result (λ left. PairsSeedless s points.now radius w.now i all all) }
 {
     let asks = is_worth_asking(s, points, w, all.to, limits, i);
     search_ranges(s, points, w, radius, limits, i, all, all, asks, budget)

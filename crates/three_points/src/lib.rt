@@ -2,7 +2,7 @@
 // orders.
 #![tactic(auto)]
 
-ghost use Rattle.std.specs.Prelude.{◌≡◌, true, ◌*◌, ◌<◌, length};
+ghost use Rattle.std.specs.Prelude.{◌≡◌, true, ◌*◌, ◌<◌, length, IfSome};
 ghost use Rattle.quality.specs.Inner.Shape.{quality_of};
 ghost use Rattle.decisions.specs.Decisions.{accepts};
 ghost use Rattle.triangle.specs.Quality.{area};
@@ -65,8 +65,8 @@ fn are_low(s: Scene, a: f32, b: f32, c: f32, p: Point3f, q: Point3f, t: Point3f)
     six_orders::is_low(s.quality_threshold, a, b, c, numbers::sqrt(most) * 0.5)
 }
 
-// Whether points i, j and k make no seed, whichever of them comes first: 0 if they may, else what it took to tell.
-// Limits are asked first, since they need no root.
+// What it took to tell that points i, j and k make no seed, whichever of them comes first; none if they may. Limits are
+// asked first, since they need no root.
 pub fn price_of(
     s: Scene,
     points: &[f32],
@@ -75,40 +75,40 @@ pub fn price_of(
     i: usize,
     j: usize,
     k: usize,
-) -> usize
+) -> Option<usize>
     requires { (length points.now ≡ 3 * s.n) × (i < s.n) × (j < s.n) × (k < s.n)
         × LimitsAtRadius s points.now radius limits }
-    ensures { 0 < result → Seedless s points.now radius i j k }
+    ensures { IfSome result (λ price. Seedless s points.now radius i j k) }
 {
     let first = points::point_at(points, i);
     let second = points::point_at(points, j);
     let third = points::point_at(points, k);
     if filters::is_out_of_reach(s.quality_threshold, first, second, third) {
-        return 1;
+        return Some(1);
     }
     if filters::is_refused_throughout(limits, first, second, third) {
-        return 1;
+        return Some(1);
     }
     if filters::is_long_throughout(s, radius, first, second, third) {
-        return 1;
+        return Some(1);
     }
     if filters::is_sliver_throughout(limits, first, second, third) {
-        return SLIVER;
+        return Some(SLIVER);
     }
     let a = vector::distance(second, first);
     let b = vector::distance(third, second);
     let c = vector::distance(first, third);
     if are_low(s, a, b, c, first, second, third) {
-        return BOUNDED;
+        return Some(BOUNDED);
     }
     if !are_refused(s, radius, a, b, c, triangle::area_of(first, second, third)) {
-        return 0;
+        return None;
     }
     if !are_refused(s, radius, a, c, b, triangle::area_of(second, first, third)) {
-        return 0;
+        return None;
     }
     if !are_refused(s, radius, c, a, b, triangle::area_of(third, first, second)) {
-        return 0;
+        return None;
     }
-    MEASURED
+    Some(MEASURED)
 }

@@ -2,11 +2,12 @@
 use native.Mathlib.Omega.{arith}
 use Rattle.seedless_pairs.proofs.Halves.{listed_fewer, none_later, refused_pairs, ranged, all_parts}
 use Prim.Native.Nat.{◌+◌, ◌-◌, ◌/◌}
+use Rattle.std.proofs.lemmas.Option.{IfSome_then}
 use Rattle.seedless_pairs.proofs.+search_ranges.Goals as goal
 
 pub returns-then-second-first : goal.returns-then-second-first
 returns-then-second-first t c = let g = c.requires in
-    λ _. none_later g c.if-second-first.true
+    none_later g c.if-second-first.true
 
 pub overflow_sub-x : goal.overflow_sub-x
 overflow_sub-x t c = let g = c.requires in
@@ -24,9 +25,6 @@ pub overflow_add-price-2 : goal.overflow_add-price-2
 overflow_add-price-2 t c = let g = c.requires in
     omega (arith, g.first_in.rises, g.second_in.rises, g.first_in.listed.most, g.second_in.listed.most, g.held.few)
 
-pub returns-then-budget-price : goal.returns-then-budget-price
-returns-then-budget-price t c = λ h. absurd (omega arith)
-
 pub point_at-p-requires : goal.point_at-p-requires
 point_at-p-requires t c = let g = c.requires in
     omega (arith, g.inside, g.held.points_long)
@@ -36,7 +34,7 @@ returns-then-is_refused_within t c =
     let shared-slice-known = c.type_inv.points in
     let start = c in
     let g = start.requires in
-    λ _. refused_pairs g shared-slice-known c.point_at-p.ensures (c.is_refused_within.ensures c.if-is_refused_within.true)
+    refused_pairs g shared-slice-known c.point_at-p.ensures (c.is_refused_within.ensures c.if-is_refused_within.true)
 
 pub overflow_add-x : goal.overflow_add-x
 overflow_add-x t c = let g = c.requires in
@@ -96,8 +94,8 @@ range_of-d-requires t c =
     let k = h.from + (h.to - h.from) / 2 in
     (g.held, omega (arith, g.second_in.rises), g.second_in.listed)
 
-pub search_ranges-ac-requires : goal.search_ranges-ac-requires
-search_ranges-ac-requires t c =
+pub search_ranges-requires : goal.search_ranges-requires
+search_ranges-requires t c =
     let if4 = c.if-not-are_halved in
     let are-halved = c.are_halved in
     let start = c in
@@ -111,11 +109,8 @@ search_ranges-ac-requires t c =
     let long = are-halved.ensures if4.false in
     (omega (arith, start.decreases, a.from_is, a.to_is, b.from_is, b.to_is, g.first_in.rises, g.second_in.rises), ranged g a.in_range_lem b.in_range_lem)
 
-pub returns-then-ac-eq0 : goal.returns-then-ac-eq0
-returns-then-ac-eq0 t c = λ h. absurd (omega arith)
-
-pub search_ranges-ad-requires : goal.search_ranges-ad-requires
-search_ranges-ad-requires t c =
+pub search_ranges-requires-2 : goal.search_ranges-requires-2
+search_ranges-requires-2 t c =
     let range-of = c.range_of-a in
     let if4 = c.if-not-are_halved in
     let are-halved = c.are_halved in
@@ -130,11 +125,8 @@ search_ranges-ad-requires t c =
     let long = are-halved.ensures if4.false in
     (omega (arith, start.decreases, a.from_is, a.to_is, b.from_is, b.to_is, g.first_in.rises, g.second_in.rises), ranged g a.in_range_lem b.in_range_lem)
 
-pub returns-then-ad-eq0 : goal.returns-then-ad-eq0
-returns-then-ad-eq0 t c = λ h. absurd (omega arith)
-
-pub search_ranges-bc-requires : goal.search_ranges-bc-requires
-search_ranges-bc-requires t c =
+pub search_ranges-requires-3 : goal.search_ranges-requires-3
+search_ranges-requires-3 t c =
     let range-of3 = c.range_of-c in
     let range-of2 = c.range_of-b in
     let if4 = c.if-not-are_halved in
@@ -150,11 +142,8 @@ search_ranges-bc-requires t c =
     let long = are-halved.ensures if4.false in
     (omega (arith, start.decreases, a.from_is, a.to_is, b.from_is, b.to_is, g.first_in.rises, g.second_in.rises), ranged g a.in_range_lem b.in_range_lem)
 
-pub returns-then-bc-eq0 : goal.returns-then-bc-eq0
-returns-then-bc-eq0 t c = λ h. absurd (omega arith)
-
-pub search_ranges-requires : goal.search_ranges-requires
-search_ranges-requires t c =
+pub search_ranges-requires-4 : goal.search_ranges-requires-4
+search_ranges-requires-4 t c =
     let range-of4 = c.range_of-d in
     let range-of2 = c.range_of-b in
     let if4 = c.if-not-are_halved in
@@ -172,21 +161,10 @@ search_ranges-requires t c =
 
 pub returns : goal.returns
 returns t c =
-    let search-ranges2 = c.search_ranges-ad in
-    let if5 = c.if-ac-eq0 in
-    let search-ranges = c.search_ranges-ac in
-    let range-of4 = c.range_of-d in
-    let range-of3 = c.range_of-c in
-    let range-of2 = c.range_of-b in
-    let range-of = c.range_of-a in
-    let start = c in
-    let g = start.requires in
-    let f = start.args.first in
-    let h = start.args.second in
+    let g = c.requires in
+    let f = c.args.first in
+    let h = c.args.second in
     let j = f.from + (f.to - f.from) / 2 in
     let k = h.from + (h.to - h.from) / 2 in
-    let p = if5.false in
-    let q = c.if-ad-eq0.false in
-    let s = c.if-bc-eq0.false in
-    λ e. all_parts g j k range-of.ensures range-of2.ensures range-of3.ensures range-of4.ensures (search-ranges.ensures (omega arith))
-    (search-ranges2.ensures (omega arith)) (c.search_ranges-bc.ensures (omega arith)) (c.search_ranges.ensures e)
+    IfSome_then c.search_ranges-4.result c.search_ranges-4.ensures (λ _. all_parts g j k c.range_of-a.ensures c.range_of-b.ensures
+    c.range_of-c.ensures c.range_of-d.ensures c.in_ok-ac.ensures c.in_ok-ad.ensures c.in_ok-bc.ensures)

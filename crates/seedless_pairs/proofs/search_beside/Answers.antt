@@ -14,25 +14,16 @@ listed_point-k-requires c =
     let a = c in
     (a.requires.0.few, a.requires.0.work_long, a.requires.1, c.loop-m-test.true)
 
-pub price_of-price-requires : goal.price_of-price-requires
-price_of-price-requires c =
+pub price_of-requires : goal.price_of-requires
+price_of-requires c =
     let a = c in
     (a.requires.0.points_long, a.requires.2, a.requires.3, c.listed_point-k.ensures.1, a.requires.4)
 
-pub returns-then-price-eq0 : goal.returns-then-price-eq0
-returns-then-price-eq0 c = λ h. absurd (omega arith)
-
-pub returns-then-left-price : goal.returns-then-left-price
-returns-then-left-price c = λ h. absurd (omega arith)
-
 pub loop-m-preserved : goal.loop-m-preserved
 loop-m-preserved c =
-    let t = c.price_of-price in
-    let p = c in
-    let a = p.args in
-    let ne = c.if-price-eq0.false in
-    below_next p.loop-m.invariant
-    (λ h. subst (Seedless a.s a.points.now a.radius a.i a.j) p.listed_point-k.ensures.0 (t.ensures (omega arith)))
+    let a = c.args in
+    below_next c.loop-m.invariant
+    (λ h. subst (Seedless a.s a.points.now a.radius a.i a.j) c.listed_point-k.ensures.0 c.in_ok-price.ensures)
 
 pub returns : goal.returns
-returns c = λ h m a b. c.loop-m.invariant m (omega (arith, c.loop-m-test.false)) a
+returns c = λ m a b. c.loop-m.invariant m (omega (arith, c.loop-m-test.false)) a

@@ -16,22 +16,16 @@ listed_point-j-requires c =
     let g = c.requires in
     (g.held.few, g.held.work_long, g.first_in.listed, c.loop-m-test.true)
 
-pub search_beside-left-requires : goal.search_beside-left-requires
-search_beside-left-requires c =
+pub search_beside-requires : goal.search_beside-requires
+search_beside-requires c =
     let g = c.requires in
     (g.held, g.second_in.listed, g.inside, c.listed_point-j.ensures.1, g.judged)
 
-pub returns-then-left-eq0 : goal.returns-then-left-eq0
-returns-then-left-eq0 c = λ h. absurd (omega arith)
-
 pub loop-m-preserved : goal.loop-m-preserved
 loop-m-preserved c =
-    let p = c in
-    let l = p.loop-m in
-    let a = p.args in
-    let ne = c.if-left-eq0.false in
-    below_next l.invariant (λ _ k b e h. subst (λ (j : ℕ). Seedless a.s a.points.now a.radius a.i j (nth a.s a.w.now k))
-    p.listed_point-j.ensures.0 (c.search_beside-left.ensures (omega arith) k (c.later.ensures k b (omega arith)) e))
+    let a = c.args in
+    below_next c.loop-m.invariant (λ _ k b e h. subst (λ (j : ℕ). Seedless a.s a.points.now a.radius a.i j (nth a.s a.w.now k))
+    c.listed_point-j.ensures.0 (c.in_ok-left.ensures k (omega (arith, c.max-from.ensures)) e))
 
 pub returns : goal.returns
-returns c = λ h j k a b d e l. c.loop-m.invariant j (omega (arith, c.loop-m-test.false)) a k d e l
+returns c = λ j k a b d e l. c.loop-m.invariant j (omega (arith, c.loop-m-test.false)) a k d e l

@@ -12,10 +12,6 @@ use Rattle.seedless_pairs.specs.declared.Range.{Range}
 abbrev pub SeedlessAfter : Scene → List Float → Float → List ℕ → ℕ → ℕ → ℕ → ℕ → Type 0
 SeedlessAfter s pts r w count i j from = (m : ℕ) → from ≤ m → m < count → Seedless s pts r i j (nth s w m)
 
--- what is not before two places is not before r
-abbrev pub Later : ℕ → ℕ → ℕ → Type 0
-Later a b r = (m : ℕ) → a ≤ m → b ≤ m → r ≤ m
-
 -- no listed point of a range and a later one of another make one with point i
 abbrev pub PairsSeedless : Scene → List Float → Float → List ℕ → ℕ → Range → Range → Type 0
 PairsSeedless s pts r w i first second = (j k : ℕ) → first.from ≤ j → j < first.to → second.from ≤ k → k < second.to

@@ -14,7 +14,7 @@ returns-then-is_out_of_reach c =
     let point_at_lem = c.point_at-first in
     let start = c in
     let a = start.args in
-    λ _. each_seedless (each_points a.s a.radius point_at_lem.ensures c.point_at-second.ensures
+    each_seedless (each_points a.s a.radius point_at_lem.ensures c.point_at-second.ensures
     c.point_at-third.ensures (low_each a.s a.radius (c.is_out_of_reach.ensures c.if-is_out_of_reach.true)))
 
 pub returns-then-is_refused_throughout : goal.returns-then-is_refused_throughout
@@ -23,7 +23,7 @@ returns-then-is_refused_throughout c =
     let point-at2 = c.point_at-second in
     let point_at_lem = c.point_at-first in
     let start = c in
-    λ _. refused_seedless start.requires.4 start.requires.1 start.requires.2 start.requires.3
+    refused_seedless start.requires.4 start.requires.1 start.requires.2 start.requires.3
     (throughout_points point_at_lem.ensures point-at2.ensures point-at3.ensures (c.is_refused_throughout.ensures c.if-is_refused_throughout.true))
 
 pub returns-then-is_long_throughout : goal.returns-then-is_long_throughout
@@ -33,7 +33,7 @@ returns-then-is_long_throughout c =
     let point_at_lem = c.point_at-first in
     let start = c in
     let a = start.args in
-    λ _. each_seedless (each_points a.s a.radius point_at_lem.ensures point-at2.ensures point-at3.ensures
+    each_seedless (each_points a.s a.radius point_at_lem.ensures point-at2.ensures point-at3.ensures
     (c.is_long_throughout.ensures c.if-is_long_throughout.true))
 
 pub returns-then-is_sliver_throughout : goal.returns-then-is_sliver_throughout
@@ -46,7 +46,7 @@ returns-then-is_sliver_throughout c =
     let q = point-at2 in
     let p = point_at_lem in
     let x = start in
-    λ _. refused_seedless x.requires.4 x.requires.1 x.requires.2 x.requires.3
+    refused_seedless x.requires.4 x.requires.1 x.requires.2 x.requires.3
     (throughout_points p.ensures q.ensures t.ensures (sliver (c.is_sliver_throughout.ensures c.if-is_sliver_throughout.true)))
 
 pub returns-then-are_low : goal.returns-then-are_low
@@ -61,20 +61,10 @@ returns-then-are_low c =
     let q = point-at2 in
     let t = point-at3 in
     let x = c.are_low.ensures c.if-are_low.true in
-    λ _.
     measured_seedless p.result q.result t.result distance.ensures c.distance-b.ensures
     c.distance-c.ensures refl refl refl
     a.s a.points.now a.radius a.i a.j a.k p.ensures q.ensures t.ensures (x.first a.radius) (x.second a.radius)
     (x.third a.radius)
-
-pub returns-then-not-are_refused : goal.returns-then-not-are_refused
-returns-then-not-are_refused c = λ h. absurd (omega arith)
-
-pub returns-then-not-are_refused-2 : goal.returns-then-not-are_refused-2
-returns-then-not-are_refused-2 c = λ h. absurd (omega arith)
-
-pub returns-then-not-are_refused-3 : goal.returns-then-not-are_refused-3
-returns-then-not-are_refused-3 c = λ h. absurd (omega arith)
 
 pub returns : goal.returns
 returns c =
@@ -97,7 +87,6 @@ returns c =
     let x = are-refused in
     let y = are-refused2 in
     let z = c.are_refused-3 in
-    λ _.
     measured_seedless p.result q.result t.result distance.ensures distance2.ensures distance3.ensures
     area_of.ensures area-of2.ensures c.area_of-3.ensures
     a.s a.points.now a.radius a.i a.j a.k p.ensures q.ensures t.ensures
