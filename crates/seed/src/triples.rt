@@ -1,5 +1,5 @@
 // The search for a seed: three loops, over i, j and k.
-ghost use Rattle.std.specs.Prelude.{◌≡◌, true, drop, ◌*◌, ◌≤◌, ◌<◌, ◌+◌, None};
+ghost use Rattle.std.specs.Prelude.{◌≡◌, true, drop, ◌*◌, ◌≤◌, ◌<◌, ◌+◌, None, length};
 ghost use Rattle.std.proofs.Math.Option.{none};
 ghost use Rattle.grid.specs.Inner.Index.{CellsIndexed};
 ghost use Rattle.spatial_hash.specs.Inner.Near.{Hashed};
@@ -20,7 +20,7 @@ ghost use Rattle.three_points.specs.Inner.Judged.{LimitsAtRadius};
 use decisions::Scene;
 use filters::Limits;
 use nearby::Filter;
-use seedless::Site;
+use seedless::{Checked, Site};
 
 // Whether j may be the second point after i.
 fn is_second(s: Scene, points: &[f32], w: &[u32], radius: f32, i: usize, j: usize) -> bool
@@ -151,16 +151,6 @@ fn find_second(
     None
 }
 
-// The lesser of two numbers.
-fn lesser(a: usize, b: usize) -> usize
-    ensures { (result ≤ a) × (result ≤ b) × (result < b → result ≡ a) }
-{
-    if a < b {
-        return a;
-    }
-    b
-}
-
 // What the unused point i gives as the first one with the second points from one place on and before another.
 fn try_seconds(
     p: Site,
@@ -181,7 +171,7 @@ fn try_seconds(
     let s = p.scene;
     let found = nearby::gather_near(s, points, w, f, p.radius * 2.002, p.hash);
     let count = nearby::narrow(s, points, w, f, found);
-    find_second(p, points, w, count, i, from, lesser(to, count))
+    find_second(p, points, w, count, i, from, to.min(count))
 }
 
 // What a first point gives, whether it is told that no two unused points after it or before point lo make a seed with
@@ -214,20 +204,30 @@ fn try_rest(
         result.seed result.seedless
         × SceneKept p.scene w.old w.new }
 {
-    let check = seedless::check_first(p, points, w, lo, i, budget, true);
-    if check.seedless {
-        return First {
+    match seedless::check_at_once(p, points, w, lo, i, budget) {
+        Ok(left) => First {
             seed: None,
             seedless: true,
-            budget: check.budget,
-        };
+            budget: left,
+        },
+        Err(left) => {
+            let found = try_seconds(p, points, w, f, i, from, p.scene.n);
+            First {
+                seed: found,
+                seedless: false,
+                budget: left,
+            }
+        }
     }
-    let found = try_seconds(p, points, w, f, i, from, p.scene.n);
-    First {
-        seed: found,
-        seedless: false,
-        budget: check.budget,
-    }
+}
+
+// The filter for the points that may be a second one after point i.
+fn filter_around(p: Site, points: &[f32], i: usize) -> Filter
+    requires { (length points.now ≡ 3 * p.scene.n) × (i < p.scene.n) }
+    ensures { Filters p.scene (point_at points.now i) (point_at points.now i) (reach p.radius) result }
+{
+    let place = points::point_at(points, i);
+    nearby::filter_of(p.scene, place, place, p.radius * 2.0)
 }
 
 // What the unused point i gives as the first one. Where it has many neighbours, some of the second points are searched
@@ -240,34 +240,34 @@ fn try_first(p: Site, points: &[f32], w: &mut [u32], lo: usize, i: usize, budget
         result.seed result.seedless
         × SceneKept p.scene w.old w.new }
 {
-    let check = seedless::check_first(p, points, w, lo, i, budget, false);
-    if check.seedless {
-        return First {
+    match seedless::check_first(p, points, w, lo, i, budget) {
+        Checked::Told(left) => First {
             seed: None,
             seedless: true,
-            budget: check.budget,
-        };
+            budget: left,
+        },
+        Checked::Untold(left) => {
+            let f = filter_around(p, points, i);
+            let all = try_seconds(p, points, w, f, i, 0, p.scene.n);
+            First {
+                seed: all,
+                seedless: false,
+                budget: left,
+            }
+        }
+        Checked::Later(seconds) => {
+            let f = filter_around(p, points, i);
+            let found = try_seconds(p, points, w, f, i, 0, seconds);
+            if let Some(t) = found {
+                return First {
+                    seed: Some(t),
+                    seedless: false,
+                    budget: 0,
+                };
+            }
+            try_rest(p, points, w, f, lo, i, seconds, budget)
+        }
     }
-    let s = p.scene;
-    let place = points::point_at(points, i);
-    let f = nearby::filter_of(s, place, place, p.radius * 2.0);
-    if check.seconds == 0 {
-        let all = try_seconds(p, points, w, f, i, 0, s.n);
-        return First {
-            seed: all,
-            seedless: false,
-            budget: check.budget,
-        };
-    }
-    let found = try_seconds(p, points, w, f, i, 0, check.seconds);
-    if let Some(t) = found {
-        return First {
-            seed: Some(t),
-            seedless: false,
-            budget: 0,
-        };
-    }
-    try_rest(p, points, w, f, lo, i, check.seconds, budget)
 }
 
 // Where the points begin that are known with point i, which is the last of them if it is known.

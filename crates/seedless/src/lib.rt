@@ -4,15 +4,16 @@
 // same answer is made.
 #![tactic(auto)]
 
-ghost use Rattle.std.specs.Prelude.{◌≡◌, true, ◌*◌, ◌≤◌, ◌<◌, length};
+ghost use Rattle.std.specs.Prelude.{◌≡◌, true, ◌*◌, ◌≤◌, ◌<◌, length, IfSome, IfOk};
 ghost use Rattle.lists.specs.Lists.{unused};
 ghost use Rattle.regions.specs.Inner.Regions.{words_length};
-ghost use Rattle.spatial_hash.specs.Inner.Near.{Hashed};
+ghost use Rattle.points.specs.Points.{point_at};
+ghost use Rattle.spatial_hash.specs.Inner.Near.{Hashed, NearPlace};
 ghost use Rattle.filters.specs.Inner.Refused.{Limiting};
 ghost use Rattle.nearby.specs.Inner.Ready.{SceneHeld, NeighborsListed, SceneKept, used_in_scene};
 ghost use Rattle.three_points.specs.Inner.Judged.{LimitsAtRadius};
 ghost use Rattle.seedless.specs.Inner.Seedless.{SeedlessFrom, SeedlessBetween, is_other, is_left};
-ghost use Rattle.seedless.specs.Inner.Seedless.{PointsLeft, ListReordered, AllLeftSeedless};
+ghost use Rattle.seedless.specs.Inner.Seedless.{PointsLeft, ListReordered, AllLeftSeedless, IfTold};
 
 use decisions::Scene;
 use filters::Limits;
@@ -41,10 +42,7 @@ const SHARE: usize = 128;
 fn is_other(lo: usize, i: usize, k: usize) -> bool
     ensures { result ≡ is_other lo i k }
 {
-    if i < k {
-        return true;
-    }
-    k < lo
+    i < k || k < lo
 }
 
 // Whether it is unused besides.
@@ -52,10 +50,7 @@ fn is_left(s: Scene, w: &[u32], lo: usize, i: usize, k: usize) -> bool
     requires { (s.n ≤ 4096) × (words_length s.n ≤ length w.now) × (k < s.n) }
     ensures { result ≡ is_left s lo i w.now k }
 {
-    if !is_other(lo, i, k) {
-        return false;
-    }
-    nearby::is_unused(s, w, k)
+    is_other(lo, i, k) && nearby::is_unused(s, w, k)
 }
 
 // Leaves those of the listed points that are unused and come after point i or before point lo, in no order, and returns
@@ -148,52 +143,26 @@ pub fn is_within_budget(n: usize, searched: usize, budget: usize) -> bool
     n * (n * (4 * searched + 9 + n / 64)) <= budget
 }
 
-// How many second points of a first one with so many neighbours are searched before it is checked at once; 0 if it is
-// not.
-fn seconds_before(count: usize) -> usize {
+// How many second points of a first one with so many neighbours are searched before it is checked at once, if it is.
+fn seconds_before(count: usize) -> Option<usize> {
     if count < MANY {
-        return 0;
+        None
+    } else {
+        Some(count / SHARE)
     }
-    count / SHARE
 }
 
-// Whether a budget will not do for a point with so many neighbours; at once it is not asked.
-fn is_over_budget(count: usize, begun: bool, budget: usize, at_once: bool) -> bool
-    requires { count ≤ 4096 }
-{
-    if at_once {
-        return false;
-    }
-    budget < least_budget(count, begun)
-}
-
-// What a check may use: the budget, and at once what the searched second points have taken besides.
-fn to_use(budget: usize, work: usize, at_once: bool) -> usize {
-    if at_once {
-        return added(budget, work / SHARE);
-    }
-    budget
-}
-
-// What a budget holds after a check that told nothing: it is used up, but not at once.
-fn budget_after(budget: usize, work: usize, at_once: bool) -> usize {
-    if at_once {
-        return added(budget, work);
-    }
-    work
-}
-
-// What is told of a first point, what is left of the budget, and how many second points are to be searched before it is
-// checked at once.
+// What a check of a first point comes to: it makes no seed, or that is not told, each with what is left of the budget;
+// or so many second points are to be searched before it is checked at once.
 #[derive(Clone, Copy)]
-pub struct Checked {
-    pub seedless: bool,
-    pub budget: usize,
-    pub seconds: usize,
+pub enum Checked {
+    Told(usize),
+    Untold(usize),
+    Later(usize),
 }
 
 // What is left of a budget once it is told that no two of the `found` points that are unused and come after point i or
-// before point lo make a seed with it; 0 if that was not told.
+// before point lo make a seed with it, if that was told.
 fn search_found(
     p: Site,
     points: &[f32],
@@ -202,12 +171,11 @@ fn search_found(
     lo: usize,
     i: usize,
     budget: usize,
-) -> usize
+) -> Option<usize>
     requires { SceneHeld p.scene points.now w.old × NeighborsListed p.scene w.old found
         × (i < p.scene.n)
         × LimitsAtRadius p.scene points.now p.radius p.limits }
-    ensures { (0 < result
-        → AllLeftSeedless p.scene points.now p.radius lo i w.old found)
+    ensures { IfSome result (λ left. AllLeftSeedless p.scene points.now p.radius lo i w.old found)
         × SceneKept p.scene w.old w.new }
 {
     let s = p.scene;
@@ -218,8 +186,31 @@ fn search_found(
     seedless_pairs::search_pairs(s, points, w, p.radius, limits, i, all, budget)
 }
 
-// Whether no two unused points after point i or before point lo make a seed with it, if the budget does for it: the
-// given one, and at once what its searched second points have taken besides.
+// How many points are listed, and what a search in the definition's order takes at a first point among them.
+#[derive(Clone, Copy)]
+struct Around {
+    found: usize,
+    work: usize,
+}
+
+// Lists the unused points that are near point i at a radius.
+fn list_around(p: Site, points: &[f32], w: &mut [u32], i: usize, radius: f32, far: f32) -> Around
+    requires { SceneHeld p.scene points.now w.old × Hashed p.hash points.now p.scene.n w.old
+        × (i < p.scene.n) }
+    ensures { NearPlace points.now p.scene.n (point_at points.now i) far w.old w.new result.found }
+{
+    let s = p.scene;
+    let place = points::point_at(points, i);
+    let found = spatial_hash::gather_within(points, w, s.n, p.hash, place, radius * 2.002, far);
+    let near = count_near(s, points, w, found, far);
+    let work = work_of(found, near);
+    Around {
+        found: found,
+        work: work,
+    }
+}
+
+// Whether no two unused points after point i or before point lo make a seed with it, if the budget does for it.
 pub fn check_first(
     p: Site,
     points: &[f32],
@@ -227,63 +218,73 @@ pub fn check_first(
     lo: usize,
     i: usize,
     budget: usize,
-    at_once: bool,
 ) -> Checked
     requires { SceneHeld p.scene points.now w.old × Hashed p.hash points.now p.scene.n w.old
         × (i < p.scene.n) × Limiting p.scene p.radius p.limits }
-    ensures { (result.seedless ≡ true
-        → SeedlessFrom p.scene points.now p.radius (used_in_scene p.scene w.old) lo i)
+    ensures { IfTold result
+        (SeedlessFrom p.scene points.now p.radius (used_in_scene p.scene w.old) lo i)
         × SceneKept p.scene w.old w.new }
 {
-    let s = p.scene;
     let limits = p.limits;
-    let place = points::point_at(points, i);
-    let found = spatial_hash::gather_within(
-        points,
-        w,
-        s.n,
-        p.hash,
-        place,
-        p.radius * 2.002,
-        limits.far,
-    );
-    let near = count_near(s, points, w, found, limits.far);
-    let work = work_of(found, near);
-    if is_over_budget(found, lo < i, budget, at_once) {
-        return Checked {
-            seedless: false,
-            budget: added(budget, work),
-            seconds: seconds_before(found),
+    let around = list_around(p, points, w, i, p.radius, limits.far);
+    if budget < least_budget(around.found, lo < i) {
+        return match seconds_before(around.found) {
+            Some(seconds) => Checked::Later(seconds),
+            None => Checked::Untold(added(budget, around.work)),
         };
     }
-    let rest = search_found(p, points, w, found, lo, i, to_use(budget, work, at_once));
-    if rest == 0 {
-        return Checked {
-            seedless: false,
-            budget: budget_after(budget, work, at_once),
-            seconds: 0,
-        };
-    }
-    Checked {
-        seedless: true,
-        budget: added(rest, work),
-        seconds: 0,
+    match search_found(p, points, w, around.found, lo, i, budget) {
+        Some(rest) => Checked::Told(added(rest, around.work)),
+        None => Checked::Untold(around.work),
     }
 }
 
-// What is left of a budget once it is told that no two unused points after point i make a seed with it, if it is
-// unused; 0 if that was not told.
-fn search_unused(p: Site, points: &[f32], w: &mut [u32], i: usize, budget: usize) -> usize
+// What is left of the budget once it is told that no two unused points after point i or before point lo make a seed
+// with it; else what the budget holds then. What its searched second points have taken may be used besides.
+pub fn check_at_once(
+    p: Site,
+    points: &[f32],
+    w: &mut [u32],
+    lo: usize,
+    i: usize,
+    budget: usize,
+) -> Result<usize, usize>
     requires { SceneHeld p.scene points.now w.old × Hashed p.hash points.now p.scene.n w.old
         × (i < p.scene.n) × Limiting p.scene p.radius p.limits }
-    ensures { (0 < result → unused (used_in_scene p.scene w.old) i ≡ true
+    ensures { IfOk result
+        (λ left. SeedlessFrom p.scene points.now p.radius (used_in_scene p.scene w.old) lo i)
+        × SceneKept p.scene w.old w.new }
+{
+    let limits = p.limits;
+    let around = list_around(p, points, w, i, p.radius, limits.far);
+    let work = around.work;
+    match search_found(
+        p,
+        points,
+        w,
+        around.found,
+        lo,
+        i,
+        added(budget, work / SHARE),
+    ) {
+        Some(rest) => Ok(added(rest, work)),
+        None => Err(added(budget, work)),
+    }
+}
+
+// What is left of a budget once it is told that no two unused points after point i make a seed with it, if it is unused
+// and that was told.
+fn search_unused(p: Site, points: &[f32], w: &mut [u32], i: usize, budget: usize) -> Option<usize>
+    requires { SceneHeld p.scene points.now w.old × Hashed p.hash points.now p.scene.n w.old
+        × (i < p.scene.n) × Limiting p.scene p.radius p.limits }
+    ensures { IfSome result (λ left. unused (used_in_scene p.scene w.old) i ≡ true
         → SeedlessFrom p.scene points.now p.radius (used_in_scene p.scene w.old) 0 i)
         × SceneKept p.scene w.old w.new }
 {
     let s = p.scene;
     let limits = p.limits;
     if !nearby::is_unused(s, w, i) {
-        return budget;
+        return Some(budget);
     }
     let place = points::point_at(points, i);
     let found = spatial_hash::gather_within(
@@ -298,19 +299,11 @@ fn search_unused(p: Site, points: &[f32], w: &mut [u32], i: usize, budget: usize
     search_found(p, points, w, found, 0, i, budget)
 }
 
-// Whether what is left after a point will do for so many more, each of which costs less than the one before; if nothing
-// is left it won't.
+// Whether what is left after a point will do for so many more, each of which costs less than the one before.
 fn is_enough(before: usize, left: usize, more: usize) -> bool
     requires { more ≤ 4096 }
-    ensures { result ≡ true → 0 < left }
 {
-    if left == 0 {
-        return false;
-    }
-    if before <= left {
-        return true;
-    }
-    before - left <= left / (more / 4 + 1)
+    before <= left || before - left <= left / (more / 4 + 1)
 }
 
 // Where points begin that have not been searched yet, and the radius of that search, with its limit of squares.
@@ -321,7 +314,7 @@ pub struct Search {
     pub far: f32,
 }
 
-// What a budget holds after point i: what a search takes there is added, unless that was done before; 0 stays 0.
+// What a budget holds after point i: what a search takes there is added, unless that was done before.
 fn raise_budget(
     p: Site,
     points: &[f32],
@@ -332,20 +325,13 @@ fn raise_budget(
 ) -> usize
     requires { SceneHeld p.scene points.now w.old × Hashed p.hash points.now p.scene.n w.old
         × (i < p.scene.n) }
-    ensures { (0 < result → 0 < budget) × SceneKept p.scene w.old w.new }
+    ensures { SceneKept p.scene w.old w.new }
 {
     if i < search.from {
         return budget;
     }
-    if budget == 0 {
-        return 0;
-    }
-    let s = p.scene;
-    let place = points::point_at(points, i);
-    let reach = search.radius * 2.002;
-    let found = spatial_hash::gather_within(points, w, s.n, p.hash, place, reach, search.far);
-    let near = count_near(s, points, w, found, search.far);
-    added(budget, work_of(found, near))
+    let around = list_around(p, points, w, i, search.radius, search.far);
+    added(budget, around.work)
 }
 
 // How many points are to be searched without adding to the budget, or up to the last.
@@ -361,6 +347,31 @@ fn points_left(from: usize, i: usize, n: usize) -> usize
     n - i
 }
 
+// What is left of a budget once it is told that no two unused points after point i make a seed with it, if it is
+// unused, that was told, and what is left will do for the points after it.
+fn search_next(
+    p: Site,
+    points: &[f32],
+    w: &mut [u32],
+    search: Search,
+    i: usize,
+    budget: usize,
+) -> Option<usize>
+    requires { SceneHeld p.scene points.now w.old × Hashed p.hash points.now p.scene.n w.old
+        × (i < p.scene.n) × Limiting p.scene p.radius p.limits }
+    ensures { IfSome result (λ left. unused (used_in_scene p.scene w.old) i ≡ true
+        → SeedlessFrom p.scene points.now p.radius (used_in_scene p.scene w.old) 0 i)
+        × SceneKept p.scene w.old w.new }
+{
+    let remaining = search_unused(p, points, w, i, budget)?;
+    let rest = raise_budget(p, points, w, search, i, remaining);
+    if is_enough(budget, rest, points_left(search.from, i, p.scene.n)) {
+        Some(rest)
+    } else {
+        None
+    }
+}
+
 // Whether no three unused points make a seed at a radius, whichever of them comes first, if the budget does for it: the
 // given one, and what a search at another radius takes.
 pub fn is_exhausted(p: Site, points: &[f32], w: &mut [u32], search: Search, budget: usize) -> bool
@@ -370,15 +381,12 @@ pub fn is_exhausted(p: Site, points: &[f32], w: &mut [u32], search: Search, budg
         (used_in_scene p.scene w.old) 0 p.scene.n)
         × SceneKept p.scene w.old w.new }
 {
-    let n = p.scene.n;
     let mut left = budget;
-    for i in 0..n {
-        let remaining = search_unused(p, points, w, i, left);
-        let rest = raise_budget(p, points, w, search, i, remaining);
-        if !is_enough(left, rest, points_left(search.from, i, n)) {
-            return false;
+    for i in 0..p.scene.n {
+        match search_next(p, points, w, search, i, left) {
+            Some(rest) => left = rest,
+            None => return false,
         }
-        left = rest;
     }
     true
 }

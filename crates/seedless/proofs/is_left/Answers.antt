@@ -2,8 +2,8 @@
 use mathlib.Core.Path.{sym, ◌∙◌}
 use Rattle.seedless.proofs.is_left.Goals as goal
 
-pub returns-then-not-is_other : goal.returns-then-not-is_other
-returns-then-not-is_other c = let o = c.is_other in rw (sym o.ensures ∙ c.if-not-is_other.true)
+pub returns-then-is_other : goal.returns-then-is_other
+returns-then-is_other c = rw (sym c.is_other.ensures ∙ c.if-is_other.true) c.is_unused.ensures
 
-pub returns : goal.returns
-returns c = let o = c.is_other in rw (sym o.ensures ∙ c.if-not-is_other.false) c.is_unused.ensures
+pub returns-else-is_other : goal.returns-else-is_other
+returns-else-is_other c = rw (sym c.is_other.ensures ∙ c.if-is_other.false) c.if-is_other.false

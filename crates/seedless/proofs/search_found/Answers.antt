@@ -1,6 +1,7 @@
 -- `search_found` meets its contract. Assumes nothing.
 use Rattle.nearby.proofs.Keeping.{held_kept, kept_on}
 use Rattle.seedless.proofs.Threes.{left_seedless}
+use Rattle.std.proofs.lemmas.Option.{IfSome_then}
 use Rattle.seedless.proofs.search_found.Goals as goal
 
 pub search_pairs-requires : goal.search_pairs-requires
@@ -26,4 +27,4 @@ returns c =
     let keep_left = c.keep_left-count in
     let l = keep_left.ensures in
     let o = order-listed.ensures in
-    (λ h. left_seedless l o c.range_of-all.ensures (c.search_pairs.ensures h), kept_on l.kept o.kept)
+    (IfSome_then c.search_pairs.result c.search_pairs.ensures (λ _. left_seedless l o c.range_of-all.ensures), kept_on l.kept o.kept)

@@ -3,6 +3,8 @@ use Rattle.std.specs.Prelude.{ℕ, ◌≤◌, ◌<◌, ◌≡◌, ◌≢◌, Boo
 use Rattle.lists.specs.Lists.{unused}
 use Rattle.decisions.specs.declared.Scene.{Scene}
 use Rattle.nearby.specs.Inner.Ready.{NeighborsListed, SceneKept, used_in_scene, nth}
+use Rattle.seedless.specs.declared.Checked.{Checked}
+use Rattle.seedless.specs.declared.Checked.TheVariants.{Told, Untold, Later}
 use Rattle.three_points.specs.Inner.Judged.{Seedless}
 
 -- k comes after point i or before point lo
@@ -42,3 +44,9 @@ pub record PointsLeft (s : Scene) (lo i : ℕ) (w u : List ℕ) (found r : ℕ) 
   pub listed : NeighborsListed s u r
   pub complete : (k : ℕ) → Stands s w found k → is_left s lo i w k ≡ true → Stands s u r k
   pub kept : SceneKept s w u
+
+-- what holds if a check tells that
+abbrev pub IfTold : Checked → Type 0 → Type 0
+IfTold (Told left) P = P
+IfTold (Untold left) P = Unit {0}
+IfTold (Later seconds) P = Unit {0}

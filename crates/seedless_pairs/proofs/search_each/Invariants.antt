@@ -7,4 +7,5 @@ use Rattle.seedless_pairs.proofs.search_each.Given as goal
 
 abbrev pub invariant-loop-m : goal.invariant-loop-m
 invariant-loop-m l =
-    (x : ℕ) → x < l.m → l.fn.first.from ≤ x → (k : ℕ) → l.fn.second.from ≤ k → k < l.fn.second.to → x < k → Seedless l.s l.points l.radius l.i (nth l.s l.w x) (nth l.s l.w k)
+    (x : ℕ) → x < l.m → l.fn.first.from ≤ x
+    → (k : ℕ) → l.fn.second.from ≤ k → k < l.fn.second.to → x < k → Seedless l.s l.points l.radius l.i (nth l.s l.w x) (nth l.s l.w k)

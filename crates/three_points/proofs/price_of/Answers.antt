@@ -1,7 +1,6 @@
 -- `price_of` meets its contract: limits refuse every order, it is a sliver in each, the score is too low in each, or
 -- each of the three points is tried as the first one. Assumes nothing.
 use mathlib.Core.Path.{refl}
-use native.Mathlib.Omega.{arith}
 use Rattle.three_points.proofs.Points.{throughout_points, each_points}
 use Rattle.filters.specs.Inner.Refused.{sliver}
 use Rattle.filters.proofs.Slivers.{low_each}

@@ -1,6 +1,7 @@
 -- `try_seconds` meets its contract: what is left of the points near point i are those that pass its filter. Assumes
 -- nothing.
 use mathlib.Core.Path.{refl, sym, ◌∙◌, subst}
+use native.Mathlib.Omega.{arith}
 use Rattle.vector.specs.Inner.Numbers.{Finite}
 use Rattle.nearby.proofs.Keeping.{kept_on, held_kept, cells_kept}
 use Rattle.nearby.proofs.Narrowing.{collected_listed, sought}
@@ -40,7 +41,7 @@ find_second-requires c =
       listed_points h.work_long (sought refl start.requires.1 g.ensures n.ensures),
       start.requires.0.inside,
       record { numbers = start.requires.0.hashed.linked.ready.numbers; limits = start.requires.0.limiting },
-      c.lesser.ensures.1,
+      omega (arith, c.min.ensures),
     )
 
 pub returns : goal.returns
@@ -49,5 +50,5 @@ returns c =
     let gather-near = c.gather_near-found in
     let g = gather-near.ensures in
     let n = narrow.ensures in
-    let l = c.lesser.ensures in
-    (seconds_tried g n l.0 l.1 l.2 c.find_second.ensures, kept_on g.kept n.kept)
+    let e = c.min.ensures in
+    (seconds_tried g n (omega (arith, e)) (omega (arith, e)) (λ h. omega (arith, e)) c.find_second.ensures, kept_on g.kept n.kept)
