@@ -65,11 +65,10 @@ fn look(p: Pass, points: &[f32], faces: &mut [u32], w: &mut [u32], c: Counts) ->
 {
     let top = laying_steps::pop(w, p.scene.n, c, p.rule);
     let left = top.counts;
-    let entry = laying_steps::read_entry(top.entry);
-    if entry.processed {
-        return left;
+    match laying_steps::read_entry(top.entry) {
+        Some(edge) => pivot_over(p, points, faces, w, left, edge.a, edge.b),
+        None => left,
     }
-    pivot_over(p, points, faces, w, left, entry.a, entry.b)
 }
 
 // Looks until no entry waits.

@@ -1,5 +1,5 @@
 -- The words of entries: what they tell, and that they stay right as edges are pushed and processed. Assumes nothing.
-use Prim.Native.Nat.{ℕ, ◌+◌, ◌*◌, ◌/◌, ◌%◌, ◌<◌}
+use Prim.Native.Nat.{ℕ, ◌+◌, ◌*◌, ◌/◌, ◌%◌, ◌≤◌, ◌<◌}
 use mathlib.Core.Path.{◌≡◌, refl, sym, ap, ap₂, ◌∙◌}
 use mathlib.Core.Logic.{⊎_elim}
 use mathlib.Core.Bool.{Bool, true, false}
@@ -15,6 +15,8 @@ use Rattle.lists.proofs.Counts.{any_false, true_any, false_any, count_append}
 use Rattle.patch.proofs.Edges.{same_key, same_refl, same_false}
 use Rattle.patch.proofs.View.{decode_encode}
 use Rattle.laying_words.specs.Inner.Words.{flag, words_of}
+use Rattle.std.specs.Prelude.{Option, Some, None}
+use Rattle.laying_steps.specs.declared.Entry.{Entry}
 use Rattle.laying_steps.specs.Inner.Work.{entry_of, Open, NoneProcessed, TellsEntry}
 
 -- ---- one word
@@ -36,10 +38,23 @@ above processed e one two = ⊎_elim
     (λ (t : any (same e) processed ≡ false). lt-leb flag (entry_of processed e) (omega (arith, word_plain processed e t)) ∙ sym t)
     (either (any (same e) processed))
 
-pub tells : (word : ℕ) → TellsEntry word record { processed = leb flag word; a = word / 4096; b = word % 4096 }
-tells word processed e one two is =
-    let seen : leb flag word ≡ any (same e) processed = ap (leb flag) is ∙ above processed e one two in
-    (seen, λ left. ap decode is ∙ word_decoded processed e two (sym seen ∙ left))
+abbrev open_edge : Edge → Option Entry
+open_edge e = Some record { a = e.v1; b = e.v2 }
+
+module _ (word : ℕ) where
+  seen : (processed : List Edge) (e : Edge) → e.v1 < 4096 → e.v2 < 4096 → word ≡ entry_of processed e → leb flag word ≡ any (same e) processed
+  seen processed e one two is = ap (leb flag) is ∙ above processed e one two
+
+  pub tells_none : flag ≤ word → TellsEntry word None
+  tells_none h processed e one two is =
+      let b : any (same e) processed ≡ true = sym (seen processed e one two is) ∙ le-leb flag word h in
+      rw b
+
+  pub tells_edge : word < flag → TellsEntry word (Some record { a = word / 4096; b = word % 4096 })
+  tells_edge h processed e one two is =
+      let b : any (same e) processed ≡ false = sym (seen processed e one two is) ∙ lt-leb flag word h in
+      let d : decode word ≡ e = ap decode is ∙ word_decoded processed e two b in
+      rw b (ap open_edge d)
 
 -- ---- one more processed edge
 any_other : (processed : List Edge) (e f : Edge) → same f e ≡ false → any (same f) (processed ++ (e ∷ [])) ≡ any (same f) processed

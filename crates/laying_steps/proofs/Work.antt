@@ -22,7 +22,7 @@ use Rattle.laying_steps.specs.declared.Counts.{Counts}
 use Rattle.regions.specs.Inner.Regions.{used_in}
 use Rattle.laying_words.specs.Inner.Words.{entries_in, flag, words_of, WordsSized, OnlyIn, Taken, Pushed, WordsMarked, WroteFace}
 use Rattle.laying_steps.specs.Inner.Work.{entry_of, HoldsState, Takes, Begins, Clears, Pops, Open, NoneProcessed, Misses, FrontierReady}
-use Rattle.laying_words.proofs.Slices.{before_same, after_same, only_wider, only_both, back}
+use Rattle.laying_words.proofs.Slices.{before_same, after_same, only_wider, only_both}
 use Rattle.laying_steps.proofs.Flags.{entries_kept, Fresh, fresh_pushed, fresh_words, seed_fresh, pivot_fresh}
 
 pub begin_holds : (n : ℕ) (u : List ℕ) → used_in n u ≡ replicate n 0 → Begins n (record {

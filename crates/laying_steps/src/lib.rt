@@ -25,10 +25,9 @@ pub struct Counts {
     pub pivots: u32,
 }
 
-// Whether the edge of an entry is processed, and if it isn't, its points.
+// An entry's edge, by its points.
 #[derive(Clone, Copy)]
 pub struct Entry {
-    pub processed: bool,
     pub a: u32,
     pub b: u32,
 }
@@ -114,15 +113,17 @@ pub fn pop(w: &mut [u32], n: usize, c: Counts, rule: u32) -> Popped
     pop_heap(w, n, c)
 }
 
-// What the word of an entry tells. Of a processed edge the points are not told.
-pub fn read_entry(word: u32) -> Entry
+// What the word of an entry tells: its edge, unless that is processed.
+pub fn read_entry(word: u32) -> Option<Entry>
     ensures { TellsEntry word result }
 {
-    Entry {
-        processed: FLAG <= word,
+    if FLAG <= word {
+        return None;
+    }
+    Some(Entry {
         a: word / 4096,
         b: word % 4096,
-    }
+    })
 }
 
 // A pivot is over that met no point.

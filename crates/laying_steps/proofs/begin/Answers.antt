@@ -1,7 +1,4 @@
 use Rattle.laying_steps.proofs.Work.{begin_holds}
-use Rattle.laying_steps.proofs.begin.Reads as reads
-use Rattle.laying_steps.proofs.begin.Lts as lts
-use Rattle.laying_words.proofs.clear_used.Reads as clear-used-reads
 use Rattle.laying_steps.proofs.begin.Goals as goal
 
 pub returns : goal.returns

@@ -1,6 +1,4 @@
 use Rattle.laying_steps.proofs.Work.{clear_takes}
-use Rattle.laying_steps.proofs.clear.Reads as reads
-use Rattle.laying_steps.proofs.clear.Lts as lts
 use Rattle.laying_steps.proofs.clear.Goals as goal
 
 pub returns : goal.returns

@@ -2,10 +2,6 @@
 use Prim.Native.Nat.{◌*◌}
 use Rattle.laying_words.proofs.Slices.{only_none}
 use Rattle.laying_steps.proofs.Work.{by_queue, by_heap}
-use Rattle.laying_steps.proofs.pop.Reads as reads
-use Rattle.laying_steps.proofs.pop.Lts as lts
-use Rattle.laying_steps.proofs.pop_heap.Reads as pop-heap-reads
-use Rattle.laying_steps.proofs.pop_queue.Reads as pop-queue-reads
 use Rattle.laying_steps.proofs.pop.Goals as goal
 
 pub returns-then-rule-eq2 : goal.returns-then-rule-eq2

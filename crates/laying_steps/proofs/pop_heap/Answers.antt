@@ -3,9 +3,6 @@ use Prim.Native.Nat.{◌*◌}
 use native.Mathlib.Omega.{arith}
 use Rattle.laying_words.proofs.Slices.{only_wider}
 use Rattle.laying_steps.proofs.Work.{pop_takes}
-use Rattle.laying_steps.proofs.pop_heap.Reads as reads
-use Rattle.laying_steps.proofs.pop_heap.Lts as lts
-use Rattle.laying_words.proofs.pop_frontier.Reads as pop-frontier-reads
 use Rattle.laying_steps.proofs.pop_heap.Goals as goal
 
 pub returns : goal.returns

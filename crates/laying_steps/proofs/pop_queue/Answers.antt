@@ -1,8 +1,6 @@
 -- `laying_steps::pop_queue` meets its contract. Assumes nothing.
 use mathlib.Core.Path.{refl}
 use Rattle.laying_steps.proofs.Work.{queue_takes}
-use Rattle.laying_steps.proofs.pop_queue.Reads as reads
-use Rattle.laying_steps.proofs.pop_queue.Lts as lts
 use Rattle.laying_steps.proofs.pop_queue.Goals as goal
 
 pub returns : goal.returns

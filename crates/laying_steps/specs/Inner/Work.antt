@@ -1,6 +1,6 @@
 -- What the lent slices and the counts hold of a state of the laying, and what each part of a step asks and
 -- changes. Definitions only.
-use Rattle.std.specs.Prelude.{ℕ, ◌+◌, ◌*◌, ◌≤◌, ◌<◌, ◌≡◌, ◌≢◌, false, List, [], ◌∷◌, map, length}
+use Rattle.std.specs.Prelude.{ℕ, ◌+◌, ◌*◌, ◌≤◌, ◌<◌, ◌≡◌, ◌≢◌, false, cond, Option, Some, None, List, [], ◌∷◌, map, length}
 use Rattle.regions.specs.Inner.Regions.{used_in}
 use Rattle.lists.specs.Lists.{bit, any}
 use Rattle.patch.specs.Lay.{Edge, edge, same, State, Pop, seeds_of, popped, cleared, pivoted, blank}
@@ -47,10 +47,10 @@ Pops pop n c w entry r u = (lent slice : List ℕ) (s : State) (x : Edge) (xs : 
     → s.frontier ≡ x ∷ xs
     → (entry ≡ entry_of s.processed (pop x xs).0) × HoldsState n lent (popped (pop x xs).1 s) r u slice
 
--- r tells of an entry's word whether its edge is processed, and which one it is if not
-abbrev pub TellsEntry : ℕ → Entry → Type 0
+-- r tells of an entry's word its edge, and none if that is processed
+abbrev pub TellsEntry : ℕ → Option Entry → Type 0
 TellsEntry word r = (processed : List Edge) (e : Edge) → e.v1 < 4096 → e.v2 < 4096 → word ≡ entry_of processed e
-    → (r.processed ≡ any (same e) processed) × (r.processed ≡ false → edge r.a r.b ≡ e)
+    → r ≡ cond (any (same e) processed) None (Some record { a = e.v1; b = e.v2 })
 
 -- ---- what is asked of a state, so that the flags stay right
 
