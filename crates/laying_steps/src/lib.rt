@@ -11,9 +11,6 @@ ghost use Rattle.laying_steps.specs.Inner.Work.{Takes, Begins, Clears, Pops, Tel
 ghost use Rattle.laying_steps.specs.Inner.Work.{Misses};
 ghost use Rattle.laying_steps.specs.Inner.Work.{FrontierReady, FaceRoom};
 
-// What an entry has above its edge if the edge is processed.
-const FLAG: u32 = 16777216;
-
 // How many faces, seeds, looks and pivots there were, how many entries wait, and where the first of them stands.
 #[derive(Clone, Copy)]
 pub struct Counts {
@@ -117,7 +114,7 @@ pub fn pop(w: &mut [u32], n: usize, c: Counts, rule: u32) -> Popped
 pub fn read_entry(word: u32) -> Option<Entry>
     ensures { TellsEntry word result }
 {
-    if FLAG <= word {
+    if laying_words::FLAG <= word {
         return None;
     }
     Some(Entry {
@@ -155,7 +152,7 @@ pub fn lay_pivot(
     let waiting = c.frontier;
     laying_words::put_face(faces, count, a, b, k);
     laying_words::mark_used(w, n, k);
-    laying_words::add_triangle_edges_to_frontier(w, n, c.first + waiting, FLAG, a, b, k);
+    laying_words::add_triangle_edges_to_frontier(w, n, c.first + waiting, true, a, b, k);
     let mut r = c;
     r.faces = count + 1;
     r.frontier = waiting + 3;
@@ -182,7 +179,7 @@ pub fn lay_seed(
     let waiting = c.frontier;
     laying_words::put_face(faces, count, i, j, k);
     laying_words::mark_seed(w, n, i, j, k);
-    laying_words::add_triangle_edges_to_frontier(w, n, c.first + waiting, 0, i, j, k);
+    laying_words::add_triangle_edges_to_frontier(w, n, c.first + waiting, false, i, j, k);
     let mut r = c;
     r.faces = count + 1;
     r.seeds = c.seeds + 1;

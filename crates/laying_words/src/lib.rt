@@ -3,12 +3,15 @@
 
 mod heap;
 
-ghost use Rattle.std.specs.Prelude.{◌≡◌, [], ◌∷◌, replicate, ◌+◌, ◌*◌, ◌≤◌, ◌<◌};
+ghost use Rattle.std.specs.Prelude.{◌≡◌, cond, [], ◌∷◌, replicate, ◌+◌, ◌*◌, ◌≤◌, ◌<◌};
 ghost use Rattle.regions.specs.Inner.Regions.{used_at, frontier_at, used_in};
 ghost use Rattle.patch.specs.Lay.{edge, face};
 ghost use Rattle.laying_words.specs.Inner.Words.{flag, word_of, words_of, WordsSized, OnlyIn, Taken, Pushed};
 ghost use Rattle.laying_words.specs.Inner.Words.{WordsMarked};
 ghost use Rattle.laying_words.specs.Inner.Words.{WroteFace};
+
+// What an entry has above its edge if the edge is processed.
+pub const FLAG: u32 = 16777216;
 
 // No point is used.
 pub fn clear_used(w: &mut [u32], n: usize)
@@ -38,20 +41,20 @@ fn push_edge(w: &mut [u32], n: usize, end: usize, mark: u32, a: u32, b: u32)
     w[i] = a * 4096 + b + mark;
 }
 
-// The three edges of the face a, b, k, of which none was processed; `mark` comes above the first: FLAG if it is
-// processed from now on, else 0.
+// The three edges of the face a, b, k, of which none was processed; the first may be from now on.
 pub fn add_triangle_edges_to_frontier(
     w: &mut [u32],
     n: usize,
     end: usize,
-    mark: u32,
+    processed: bool,
     a: u32,
     b: u32,
     k: u32,
 )
-    requires { WordsSized n w.old × (end + 3 ≤ 3 * n) × (mark ≤ flag) × (a < 4096) × (b < 4096) × (k < 4096) }
-    ensures { Pushed n end (words_of mark (face a b k)) w.old w.new }
+    requires { WordsSized n w.old × (end + 3 ≤ 3 * n) × (a < 4096) × (b < 4096) × (k < 4096) }
+    ensures { Pushed n end (words_of (cond processed flag 0) (face a b k)) w.old w.new }
 {
+    let mark = if processed { FLAG } else { 0 };
     push_edge(w, n, end, mark, a, b);
     push_edge(w, n, end + 1, 0, b, k);
     push_edge(w, n, end + 2, 0, k, a);
