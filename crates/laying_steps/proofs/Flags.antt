@@ -1,23 +1,18 @@
 -- The words of entries: what they tell, and that they stay right as edges are pushed and processed. Assumes nothing.
-use Prim.Native.Nat.{ℕ, ◌+◌, ◌*◌, ◌/◌, ◌%◌, ◌≤◌, ◌<◌}
-use mathlib.Core.Path.{◌≡◌, refl, sym, ap, ap₂, ◌∙◌}
-use mathlib.Core.Logic.{⊎_elim}
+use Prim.Native.Nat.{ℕ, ◌+◌, ◌*◌}
+use mathlib.Core.Path.{◌≡◌, refl, ap, ap₂, ◌∙◌}
 use mathlib.Core.Bool.{Bool, true, false}
 use mathlib.Core.List.{List, [], ◌∷◌, ◌++◌, map, map-append, append_assoc}
 use native.Mathlib.Omega.{arith}
-use lib.Dec.{leb, ltb}
-use borrow.Author.Tests.{le-leb, lt-leb}
+use lib.Dec.{ltb}
 use Rattle.lists.specs.Lists.{bit, count, any}
 use Rattle.patch.specs.Lay.{Edge, edge, same, Face, face, edges_of, State, push}
-use Rattle.patch.specs.Inner.Entries.{encode, decode}
-use Rattle.lists.proofs.Bools.{either, not-true}
+use Rattle.patch.specs.Inner.Entries.{encode}
+use Rattle.lists.proofs.Bools.{not-true}
 use Rattle.lists.proofs.Counts.{any_false, true_any, false_any, count_append}
 use Rattle.patch.proofs.Edges.{same_key, same_refl, same_false}
-use Rattle.patch.proofs.View.{decode_encode}
 use Rattle.laying_words.specs.Inner.Words.{flag, words_of}
-use Rattle.std.specs.Prelude.{Option, Some, None}
-use Rattle.laying_steps.specs.declared.Entry.{Entry}
-use Rattle.laying_steps.specs.Inner.Work.{entry_of, Open, NoneProcessed, TellsEntry}
+use Rattle.laying_steps.specs.Inner.Work.{entry_of, Open, NoneProcessed}
 
 -- ---- one word
 word_plain : (processed : List Edge) (e : Edge) → any (same e) processed ≡ false → entry_of processed e ≡ encode e + 0
@@ -25,36 +20,6 @@ word_plain processed e h = let z : bit (any (same e) processed) ≡ 0 = ap bit h
 
 word_flagged : (processed : List Edge) (e : Edge) → any (same e) processed ≡ true → entry_of processed e ≡ encode e + flag
 word_flagged processed e h = let o : bit (any (same e) processed) ≡ 1 = ap bit h in omega arith
-
--- the word of an edge that is not processed is the edge's number
-word_decoded : (processed : List Edge) (e : Edge) → e.v2 < 4096 → any (same e) processed ≡ false → decode (entry_of processed e) ≡ e
-word_decoded processed e small h =
-    let p : entry_of processed e ≡ encode e = word_plain processed e h ∙ (omega arith) in ap decode p ∙ decode_encode e.v1 e.v2 small
-
--- the others are less than the words of processed edges
-above : (processed : List Edge) (e : Edge) → e.v1 < 4096 → e.v2 < 4096 → leb flag (entry_of processed e) ≡ any (same e) processed
-above processed e one two = ⊎_elim
-    (λ (t : any (same e) processed ≡ true). le-leb flag (entry_of processed e) (omega (arith, word_flagged processed e t)) ∙ sym t)
-    (λ (t : any (same e) processed ≡ false). lt-leb flag (entry_of processed e) (omega (arith, word_plain processed e t)) ∙ sym t)
-    (either (any (same e) processed))
-
-abbrev open_edge : Edge → Option Entry
-open_edge e = Some record { a = e.v1; b = e.v2 }
-
-module _ (word : ℕ) where
-  seen : (processed : List Edge) (e : Edge) → e.v1 < 4096 → e.v2 < 4096 → word ≡ entry_of processed e → leb flag word ≡ any (same e) processed
-  seen processed e one two is = ap (leb flag) is ∙ above processed e one two
-
-  pub tells_none : flag ≤ word → TellsEntry word None
-  tells_none h processed e one two is =
-      let b : any (same e) processed ≡ true = sym (seen processed e one two is) ∙ le-leb flag word h in
-      rw b
-
-  pub tells_edge : word < flag → TellsEntry word (Some record { a = word / 4096; b = word % 4096 })
-  tells_edge h processed e one two is =
-      let b : any (same e) processed ≡ false = sym (seen processed e one two is) ∙ lt-leb flag word h in
-      let d : decode word ≡ e = ap decode is ∙ word_decoded processed e two b in
-      rw b (ap open_edge d)
 
 -- ---- one more processed edge
 any_other : (processed : List Edge) (e f : Edge) → same f e ≡ false → any (same f) (processed ++ (e ∷ [])) ≡ any (same f) processed

@@ -15,9 +15,6 @@ loop-p-preserved c =
     let i = c.loop-p.invariant in
     (simp length-set (omega arith), search rules, simp length-set (omega arith), step _ _ _ _ _ i.2 i.1 i.3 c.loop-p-test.true)
 
-pub bounds-w-p-then-p-m-3 : goal.bounds-w-p-then-p-m-3
-bounds-w-p-then-p-m-3 c = simp length-set (omega arith)
-
 pub returns-then-p-m : goal.returns-then-p-m
 returns-then-p-m c =
     let i = c.loop-p.invariant in
