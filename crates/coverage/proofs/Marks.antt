@@ -5,8 +5,6 @@ use Prim.Native.Nat.{ℕ, zero, suc, ◌+◌, ◌<◌, ◌≤◌}
 use native.Mathlib.Nat.{not-suc-le-zero, le_of_suc-le-suc}
 use native.Mathlib.Numerals.{add-one}
 use native.Mathlib.Omega.{arith}
-use mathlib.Core.Bool.{Bool, true, false}
-use mir.Val.{bool_byte}
 use lib.Dec.{eqb, ltb}
 use lib.ListN.{length, set, get_or, take, replicate, length-replicate}
 use lib.Seq.{take-suc}
@@ -76,10 +74,6 @@ reached_step faces n i w l e =
     let z : 0 + get_or faces i 0 ≡ get_or faces i 0 = omega arith in
     ap (λ (t : List ℕ). set t (get_or faces i 0) 1) e ∙ marks_set (take i faces) 0 n (get_or faces i 0) ∙ ap
     (λ (k : ℕ). marks (take i faces ++ (k ∷ [])) 0 n) z ∙ ap (λ (t : List ℕ). marks t 0 n) (sym s)
-
-pub bit_byte : (b : Bool) → (bool_byte b ≡ bit b) × (bool_byte b ≤ 1)
-bit_byte true = (refl, omega arith)
-bit_byte false = (refl, omega arith)
 
 -- a store at an entry that is not 1 makes one more
 pub set_new : (w : List ℕ) (k : ℕ) → k < length w → (get_or w k 0 ≡ 1 → ⊥) → count (eqb 1) (set w k 1) ≡ 1 + count (eqb 1) w

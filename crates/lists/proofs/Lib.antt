@@ -1,4 +1,5 @@
 pub mod Bools
+pub mod Bytes
 pub mod Counts
-pub mod Members
 pub mod Found
+pub mod Members

@@ -5,7 +5,6 @@ use mathlib.Core.Logic.{◌≢◌, inl, inr, ⊎_elim}
 use mathlib.Core.Bool.{Bool, true, false, not, ◌&&◌}
 use mathlib.Core.List.{List, [], ◌∷◌}
 use native.Mathlib.Omega.{arith}
-use mir.Val.{bool_byte}
 use lib.Dec.{eqb, ltb}
 use lib.ListN.{length, set, get_or}
 use lib.Seq.{get_or-set_same, get_or-set_other}
@@ -398,10 +397,6 @@ module _ (n faces : ℕ) (few : faces ≤ n) (start w : List ℕ) (k seeded : �
   }
 
 -- ---- for the loop
-pub byte_bit : (b : Bool) → (bool_byte b ≡ bit b) × (bool_byte b ≤ 1)
-byte_bit true = (refl, omega arith)
-byte_bit false = (refl, omega arith)
-
 pub places_as : (n faces i j : ℕ) (shared r s : Bool) (w z : List ℕ) → i ≡ j → r ≡ s → Places n faces i shared r w z → Places n faces j shared s w z
 places_as n faces i j shared r s w z e f p = subst (λ (q : Bool). Places n faces j shared q w z) f (subst (λ (q : ℕ). Places n faces q shared r w z) e p)
 

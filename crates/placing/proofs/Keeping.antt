@@ -11,7 +11,7 @@ use lib.Seq.{get_or-set_same, get_or-set_other}
 use borrow.Author.Tests.{eqb-true, eqb-false, eq-eqb, ne_eqb, leb-true, leb-false}
 use Rattle.lists.specs.Lists.{bit, any, up_from}
 use Rattle.lists.proofs.Bools.{either, not-true, true_not_false, and_both}
-use Rattle.lists.proofs.Counts.{bit_le, false_any, count_ext}
+use Rattle.lists.proofs.Counts.{false_any, count_ext}
 use Rattle.patch.specs.Lay.{Edge, edge, same, Face, face}
 use Rattle.patch.specs.Shape.{has, touches}
 use Rattle.patch.proofs.Edges.{has_congr, key_same, has_which}
@@ -24,7 +24,9 @@ use Rattle.corners.proofs.Chain.{linked_same, bound_same}
 use Rattle.offers.specs.Inner.Offers.{offered, Faces, Meets}
 use Rattle.offers.proofs.Walk.{offered_left, offered_kept, offered_no}
 use Rattle.regions.specs.Inner.Ordering.{reached_words_at, tree_at, tree_end}
-use Rattle.placing.specs.Inner.Placing.{lies, is_placed, opens, known, fitting, Opens, AllSidesOpened, Arounds, value, PlacedKept, Placed, Places}
+use mir.Val.{bool_byte}
+use Rattle.lists.proofs.Bytes.{byte_bit}
+use Rattle.placing.specs.Inner.Placing.{lies, is_placed, opens, fitting, Opens, AllSidesOpened, Arounds, value, PlacedKept, Placed, Places}
 use Rattle.placing.proofs.Sides.{or_either, or_left, or_right, own_edge, own_ab, own_bc, own_ca, neighbours_which, laid_joined, old_ab, old_bc, old_ca}
 
 -- ---- one side
@@ -155,16 +157,16 @@ fitting_fits false false true false = refl
 fitting_fits false false false true = refl
 fitting_fits false false false false = refl
 
-known_bit : (b : Bool) → known (bit b) ≡ bit b
-unfolding known
-known_bit true = refl
-known_bit false = refl
+-- a word tells a flag
+flag_is : (v : ℕ) (b : Bool) → v ≡ bit b → not (eqb v 0) ≡ b
+flag_is v true e = ap (λ (k : ℕ). not (eqb k 0)) e
+flag_is v false e = ap (λ (k : ℕ). not (eqb k 0)) e
 
-opens_bits : (p q : Bool) → opens (bit p) (bit q) ≡ not (p && q)
-opens_bits true true = refl
-opens_bits true false = refl
-opens_bits false true = refl
-opens_bits false false = refl
+opens_both : (p q : Bool) → opens p q ≡ not (p && q)
+opens_both true true = refl
+opens_both true false = refl
+opens_both false true = refl
+opens_both false false = refl
 
 -- ---- values
 module _ (at : ℕ → Face) (faces : ℕ) (placed : List ℕ) (g : ℕ) where
@@ -461,14 +463,14 @@ module _ (n faces i : ℕ) (few : faces ≤ n) (below : i < faces) (w : List ℕ
   abbrev c : ℕ
   c = get_or w (3 * i + 2) 0
 
-  abbrev ua : ℕ
-  ua = get_or w (reached_words_at n + a) 0
+  abbrev ua : Bool
+  ua = not (eqb (get_or w (reached_words_at n + a) 0) 0)
 
-  abbrev ub : ℕ
-  ub = get_or w (reached_words_at n + b) 0
+  abbrev ub : Bool
+  ub = not (eqb (get_or w (reached_words_at n + b) 0) 0)
 
-  abbrev uc : ℕ
-  uc = get_or w (reached_words_at n + c) 0
+  abbrev uc : Bool
+  uc = not (eqb (get_or w (reached_words_at n + c) 0) 0)
 
   pub points_below : (a < n) × (b < n) × (c < n)
   points_below = (bound.points (3 * i) (omega arith), bound.points (3 * i + 1) (omega arith), bound.points (3 * i + 2) (omega arith))
@@ -485,29 +487,29 @@ module _ (n faces i : ℕ) (few : faces ≤ n) (below : i < faces) (w : List ℕ
     inside : ((at i).a < n) × ((at i).b < n) × ((at i).c < n)
     inside = subst (λ (f : Face). (f.a < n) × (f.b < n) × (f.c < n)) face_is points_below
 
-    flag_of : (x y : ℕ) → x ≡ y → x < n → get_or w (reached_words_at n + x) 0 ≡ bit (reached at placed y)
-    flag_of x y e l = kept.used x l ∙ ap (λ (k : ℕ). bit (reached at placed k)) e
+    flag_of : (x y : ℕ) → x ≡ y → x < n → not (eqb (get_or w (reached_words_at n + x) 0) 0) ≡ reached at placed y
+    flag_of x y e l = flag_is (get_or w (reached_words_at n + x) 0) (reached at placed x) (kept.used x l) ∙ ap (λ (k : ℕ). reached at placed k) e
 
-    ua_is : ua ≡ bit (reached at placed (at i).a)
+    ua_is : ua ≡ reached at placed (at i).a
     ua_is = flag_of a (at i).a (ap (λ (f : Face). f.a) face_is) points_below.0
 
-    ub_is : ub ≡ bit (reached at placed (at i).b)
+    ub_is : ub ≡ reached at placed (at i).b
     ub_is = flag_of b (at i).b (ap (λ (f : Face). f.b) face_is) points_below.1
 
-    uc_is : uc ≡ bit (reached at placed (at i).c)
+    uc_is : uc ≡ reached at placed (at i).c
     uc_is = flag_of c (at i).c (ap (λ (f : Face). f.c) face_is) points_below.2
 
-    fits_is : (shared : Bool) → shared ≡ joined at placed i → fitting (known ua + known ub + known uc) shared ≡ fits at placed i
+    fits_is : (shared : Bool) → shared ≡ joined at placed i → fitting (bit ua + bit ub + bit uc) shared ≡ fits at placed i
     unfolding fits fresh
     fits_is shared s =
-        let ka = ap known ua_is ∙ known_bit (reached at placed (at i).a) in
-        let kb = ap known ub_is ∙ known_bit (reached at placed (at i).b) in
-        let kc = ap known uc_is ∙ known_bit (reached at placed (at i).c) in
-        (λ k. fitting (ka k + kb k + kc k) (s k))
+        let ka = ua_is in
+        let kb = ub_is in
+        let kc = uc_is in
+        (λ k. fitting (bit (ka k) + bit (kb k) + bit (kc k)) (s k))
         ∙ fitting_fits (reached at placed (at i).a) (reached at placed (at i).b) (reached at placed (at i).c) (joined at placed i)
 
-    opens_is : (x y : ℕ) (p q : Bool) → x ≡ bit p → y ≡ bit q → opens x y ≡ not (p && q)
-    opens_is x y p q e f = (λ k. opens (e k) (f k)) ∙ opens_bits p q
+    opens_is : (x y p q : Bool) → x ≡ p → y ≡ q → opens x y ≡ not (p && q)
+    opens_is x y p q e f = (λ k. opens (e k) (f k)) ∙ opens_both p q
 
   -- with its points reached no head or link has changed
   pub marked_bound : (u m : List ℕ) → Renewed (tree_at n) faces i (2 * faces) w u → m
@@ -522,7 +524,7 @@ module _ (n faces i : ℕ) (few : faces ≤ n) (below : i < faces) (w : List ℕ
       bound
 
   module _ (shared : Bool) where
-    pub place_unfit : fitting (known ua + known ub + known uc) shared ≡ false → Places n faces i shared false w w
+    pub place_unfit : fitting (bit ua + bit ub + bit uc) shared ≡ false → Places n faces i shared false w w
     place_unfit h = record {
       outside = λ k s. refl;
       places = λ corner at placed held kept s. record {
@@ -532,7 +534,7 @@ module _ (n faces i : ℕ) (few : faces ≤ n) (below : i < faces) (w : List ℕ
       };
     }
 
-    module _ (u z : List ℕ) (r : Bool) (fitted : fitting (known ua + known ub + known uc) shared ≡ true) (renewed : Renewed (tree_at n) faces i (2 * faces) w u)
+    module _ (u z : List ℕ) (r : Bool) (fitted : fitting (bit ua + bit ub + bit uc) shared ≡ true) (renewed : Renewed (tree_at n) faces i (2 * faces) w u)
         (long : tree_end n ≤ length u) where
       abbrev marked : Face → List ℕ
       marked f = set (set (set u (reached_words_at n + f.a) 1) (reached_words_at n + f.b) 1) (reached_words_at n + f.c) 1
@@ -594,23 +596,19 @@ module _ (n faces i : ℕ) (few : faces ≤ n) (below : i < faces) (w : List ℕ
                 (λ (q : k ≡ reached_words_at n + b). omega (arith, p.1)) (λ (q : k ≡ reached_words_at n + c). omega (arith, p.2)))
                 s
 
-pub known_le : (u : ℕ) → known u ≤ 1
-unfolding known
-known_le u = bit_le (not (eqb u 0))
-
 -- the three ways out of the question whether it fits
-module _ (x y z s t v : ℕ) (shared : Bool) (p : s ≡ known x) (q : t ≡ known y) (r : v ≡ known z) where
-  all : known x + known y + known z ≡ s + t + v
-  all = omega arith
+module _ (p q r shared : Bool) (x y z : ℕ) (ex : x ≡ bool_byte p) (ey : y ≡ bool_byte q) (ez : z ≡ bool_byte r) where
+  all : x + y + z ≡ bit p + bit q + bit r
+  all = omega (arith, byte_bit p, byte_bit q, byte_bit r)
 
-  pub fitting_none : s + t + v ≡ 0 → true ≡ fitting (known x + known y + known z) shared
+  pub fitting_none : x + y + z ≡ 0 → eqb (x + y + z) 0 ≡ fitting (bit p + bit q + bit r) shared
   unfolding fitting
-  fitting_none e = rw (all, eq-eqb (s + t + v) 0 e)
+  fitting_none e = rw (← all, eq-eqb (x + y + z) 0 e)
 
-  pub fitting_shared : s + t + v ≢ 0 → shared ≡ true → eqb (s + t + v) 2 ≡ fitting (known x + known y + known z) shared
+  pub fitting_shared : x + y + z ≢ 0 → shared ≡ true → eqb (x + y + z) 2 ≡ fitting (bit p + bit q + bit r) shared
   unfolding fitting
-  fitting_shared e h = rw (all, ne_eqb (s + t + v) 0 e, h)
+  fitting_shared e h = rw (← all, ne_eqb (x + y + z) 0 e, h)
 
-  pub fitting_apart : s + t + v ≢ 0 → shared ≡ false → false ≡ fitting (known x + known y + known z) shared
+  pub fitting_apart : x + y + z ≢ 0 → shared ≡ false → shared ≡ fitting (bit p + bit q + bit r) shared
   unfolding fitting
-  fitting_apart e h = rw (all, ne_eqb (s + t + v) 0 e, h)
+  fitting_apart e h = rw (← all, ne_eqb (x + y + z) 0 e, h)

@@ -3,20 +3,21 @@
 #![tactic(auto)]
 
 ghost use Rattle.std.specs.Prelude.{◌≡◌, ◌+◌, ◌*◌, ◌≤◌, ◌<◌, length, set};
+ghost use Rattle.lists.specs.Lists.{bit};
 ghost use Rattle.corners.specs.Corners.{Bound};
 ghost use Rattle.regions.specs.Inner.Ordering.{reached_words_at, tree_end};
-ghost use Rattle.placing.specs.Inner.Placing.{opens, known, fitting, Opens, Arounds, Places};
+ghost use Rattle.placing.specs.Inner.Placing.{opens, fitting, Opens, Arounds, Places};
 
-// The side from x to y of a face that is placed, ux and uy 0 where the point was not reached before.
-fn open_side(n: usize, count: usize, words: &mut [u32], x: u32, y: u32, ux: u32, uy: u32) -> bool
+// The side from x to y of a face that is placed; ux and uy tell whether the points were reached before.
+fn open_side(n: usize, count: usize, words: &mut [u32], x: u32, y: u32, ux: bool, uy: bool) -> bool
     requires { (n ≤ 4096) × (count ≤ n) × (x < n) × (y < n) × (tree_end n ≤ length words.old)
         × Bound n (3 * count) words.old }
     ensures { Opens n count x y (opens ux uy) result words.old words.new }
 {
-    if ux == 0 {
+    if !ux {
         return offers::offer_at(n, count, words, x as usize, y) <= 2;
     }
-    if uy == 0 {
+    if !uy {
         return offers::offer_at(n, count, words, y as usize, x) <= 2;
     }
     true
@@ -30,22 +31,18 @@ fn open_sides(
     a: u32,
     b: u32,
     c: u32,
-    ua: u32,
-    ub: u32,
-    uc: u32,
+    ua: bool,
+    ub: bool,
+    uc: bool,
 ) -> bool
     requires { (n ≤ 4096) × (count ≤ n) × (a < n) × (b < n) × (c < n) × (tree_end n ≤ length words.old)
         × Bound n (3 * count) words.old }
     ensures { Arounds n count a b c (opens ua ub) (opens ub uc) (opens uc ua) result words.old
         words.new }
 {
-    if !open_side(n, count, words, a, b, ua, ub) {
-        return false;
-    }
-    if !open_side(n, count, words, b, c, ub, uc) {
-        return false;
-    }
-    open_side(n, count, words, c, a, uc, ua)
+    open_side(n, count, words, a, b, ua, ub)
+        && open_side(n, count, words, b, c, ub, uc)
+        && open_side(n, count, words, c, a, uc, ua)
 }
 
 // Three points are reached.
@@ -60,25 +57,12 @@ fn reach(n: usize, words: &mut [u32], a: usize, b: usize, c: usize)
     words[regions::REACHED * n + c] = 1;
 }
 
-// 1 if the flag is set.
-fn seen(u: u32) -> u32
-    ensures { result ≡ known u }
+// Whether a face fits of whose points these were reached: none, or two where it shares an edge.
+fn may_place(ua: bool, ub: bool, uc: bool, shared: bool) -> bool
+    ensures { result ≡ fitting (bit ua + bit ub + bit uc) shared }
 {
-    if u == 0 { 0 } else { 1 }
-}
-
-// Whether a face whose points have these flags fits: none is set, or two where it shares an edge.
-fn may_place(ua: u32, ub: u32, uc: u32, shared: bool) -> bool
-    ensures { result ≡ fitting (known ua + known ub + known uc) shared }
-{
-    let reached = seen(ua) + seen(ub) + seen(uc);
-    if reached == 0 {
-        return true;
-    }
-    if shared {
-        return reached == 2;
-    }
-    false
+    let reached = u32::from(ua) + u32::from(ub) + u32::from(uc);
+    reached == 0 || shared && reached == 2
 }
 
 // Places the face i, which shares an edge with a placed one or not; answers whether it fits, and none of its edges lies
@@ -91,9 +75,9 @@ pub fn place(n: usize, count: usize, words: &mut [u32], i: usize, shared: bool) 
     let a = words[3 * i];
     let b = words[3 * i + 1];
     let c = words[3 * i + 2];
-    let ua = words[regions::REACHED * n + a as usize];
-    let ub = words[regions::REACHED * n + b as usize];
-    let uc = words[regions::REACHED * n + c as usize];
+    let ua = words[regions::REACHED * n + a as usize] != 0;
+    let ub = words[regions::REACHED * n + b as usize] != 0;
+    let uc = words[regions::REACHED * n + c as usize] != 0;
     if !may_place(ua, ub, uc, shared) {
         return false;
     }

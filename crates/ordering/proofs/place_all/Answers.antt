@@ -1,7 +1,8 @@
 -- `ordering::place_all` meets its contract. The loop's invariant: for any faces that the words tell, the greedy order
 -- so far. Assumes nothing.
 use Rattle.regions.specs.Inner.Ordering.{tree_at, placed_at}
-use Rattle.ordering.proofs.Running.{runs_start, runs_astray, runs_refused, runs_step, runs_end, places_as, placed_bound, byte_bit}
+use Rattle.lists.proofs.Bytes.{byte_bit, byte_le}
+use Rattle.ordering.proofs.Running.{runs_start, runs_astray, runs_refused, runs_step, runs_end, places_as, placed_bound}
 use Rattle.ordering.specs.Inner.Ordering.{least_face}
 use lib.ListN.{set, get_or}
 use lib.Dec.{ltb}
@@ -41,16 +42,16 @@ loop-k-preserved c =
     let f = c.face_of-i in
     let q = c.place in
     let s = c.from-seeds in
-    let b = byte_bit (not (ltb (get_or l.words (tree_at a.n + 1) 0) a.count)) in
+    let b = not (ltb (get_or l.words (tree_at a.n + 1) 0) a.count) in
     let z = q.new.words in (
-      omega (arith, s.ensures, l.invariant.0, b.1),
+      omega (arith, s.ensures, l.invariant.0, byte_le b),
       placed_bound a.n a.count p.1 f.result (ltb (get_or l.words (tree_at a.n + 1) 0) a.count) q.result l.words z l.k f.result
           q.ensures l.invariant.1,
       runs_step a.n a.count p.1 a.words.now l.words l.k l.seeds l.invariant.2 z c.loop-k-test.true (set z (placed_at a.n + l.k) f.result)
           s.result (places_as a.n a.count f.result (least_face a.count (get_or l.words (tree_at a.n + 1) 0))
           (ltb (get_or l.words (tree_at a.n + 1) 0) a.count) q.result true l.words q.new.words f.ensures
           c.if-not-place.false q.ensures) (ap (set z (placed_at a.n + l.k)) f.ensures)
-          (omega (arith, q.auto.words, l.auto.words, p.0, p.1, p.2)) (s.ensures ∙ b.0),
+          (omega (arith, q.auto.words, l.auto.words, p.0, p.1, p.2)) (s.ensures ∙ byte_bit b),
     )
 
 pub returns : goal.returns

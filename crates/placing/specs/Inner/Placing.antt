@@ -18,12 +18,8 @@ abbrev pub is_placed : (ℕ → Face) → List ℕ → Edge → Bool
 is_placed at placed e = any (λ j. has e (at j)) placed
 
 -- a side is new if one of its points was not reached before
-abbrev pub opens : ℕ → ℕ → Bool
-opens ux uy = eqb ux 0 || eqb uy 0
-
--- a point's flag as a number, 0 or 1
-unfoldable pub known : ℕ → ℕ
-known u = bit (not (eqb u 0))
+abbrev pub opens : Bool → Bool → Bool
+opens ux uy = not ux || not uy
 
 -- a face of whose points so many were reached fits: none, or two where it shares an edge
 unfoldable pub fitting : ℕ → Bool → Bool
