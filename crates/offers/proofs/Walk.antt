@@ -103,7 +103,7 @@ module _ (n faces x y : ℕ) (start : List ℕ) where
   walk_bound few w o h = bound_same n (3 * faces) (omega arith) start w (front w o) h
 
   module _ (few : faces ≤ n) (w u : List ℕ) (met next r : ℕ) (more : 0 < next) (low : next ≤ 3 * faces) (walked : Walked w met next)
-      (at-face : OfferedAt n faces ((next - 1) / 3) y r w u) where
+      (has-it : Bool) (counted : r ≡ bit has-it) (at-face : OfferedAt n faces ((next - 1) / 3) y has-it w u) where
     abbrev side : ℕ
     side = next - 1
 
@@ -163,7 +163,7 @@ module _ (n faces x y : ℕ) (start : List ℕ) where
           let one : tally corner x q next ≡ bit (q here) + tally corner x q side =
           (let e : next ≡ suc side = omega arith in ap (tally corner x q) e ∙ tally_here corner x q side at_x) in
           let now : tally corner x q (get_or u (corners_at n + side) 0) ≡ tally corner x q side = ap (tally corner x q) next_now ∙ tally_last corner x q side in
-          let found : r ≡ bit (q here) = at-face.0 ∙ ap bit test_is in
+          let found : r ≡ bit (q here) = counted ∙ ap bit (at-face.0 ∙ test_is) in
           omega arith
 
       seen_now : (t : ℕ) → get_or u (corners_at n + side) 0 ≤ t → t < 3 * faces → corner t ≡ x → q (t / 3) ≡ true → leaf (tree_at n) faces u (t / 3)

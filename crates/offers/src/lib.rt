@@ -13,22 +13,21 @@ fn offer(n: usize, count: usize, words: &mut [u32], g: usize)
     ensures { Offered n count g true words.old words.new }
 {
     let value = words[regions::TREE * n + count + g] as usize;
-    if value != count + g {
-        return;
+    if value == count + g {
+        minima::renew(regions::TREE * n, count, words, g, g as u32);
     }
-    minima::renew(regions::TREE * n, count, words, g, g as u32);
 }
 
-// Offers the face g if it has the point y; answers 1 if it has, else 0.
-fn offer_with(n: usize, count: usize, words: &mut [u32], g: usize, y: u32) -> usize
+// Offers the face g if it has the point y; tells whether it has.
+fn offer_with(n: usize, count: usize, words: &mut [u32], g: usize, y: u32) -> bool
     requires { (n ≤ 4096) × (count ≤ n) × (g < count) × (tree_end n ≤ length words.old) }
     ensures { OfferedAt n count g y result words.old words.new }
 {
     if corners::has_point(words, g, y) {
         offer(n, count, words, g);
-        return 1;
+        return true;
     }
-    0
+    false
 }
 
 // Offers every face that has the edge from x to y; answers how many have it.
@@ -41,7 +40,7 @@ pub fn offer_at(n: usize, count: usize, words: &mut [u32], x: usize, y: u32) -> 
     let mut next: usize = words[regions::HEADS * n + x] as usize;
     while 0 < next {
         let side = next - 1;
-        met += offer_with(n, count, words, side / 3, y);
+        met += usize::from(offer_with(n, count, words, side / 3, y));
         next = words[regions::CORNERS * n + side] as usize;
     }
     met

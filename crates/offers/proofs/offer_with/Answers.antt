@@ -1,7 +1,6 @@
 -- `offers::offer_with` meets its contract: by cases on the face's point. Assumes nothing.
 use mathlib.Core.Path.{◌≡◌, sym, ap, ◌∙◌}
 use mathlib.Core.Bool.{false}
-use Rattle.lists.specs.Lists.{bit}
 use Rattle.patch.specs.Shape.{touches}
 use Rattle.minima.specs.Inner.Minima.{leaf}
 use Rattle.corners.specs.Corners.{face_in}
@@ -15,13 +14,13 @@ returns-then-has_point c =
     let a = c.args in
     let o = c.offer in
     let is = sym c.if-has_point.true ∙ c.has_point.ensures in
-    (ap bit is, offer_yes a.n a.count a.g a.words.now o.new.words (touches a.y (face_in a.words.now a.g)) is o.ensures)
+    (is, offer_yes a.n a.count a.g a.words.now o.new.words (touches a.y (face_in a.words.now a.g)) is o.ensures)
 
 pub returns : goal.returns
 returns c =
     let a = c.args in
     let is : false ≡ touches a.y (face_in a.words.now a.g) = sym c.if-has_point.false ∙ c.has_point.ensures in (
-      ap bit is,
+      is,
       offer_none a.n a.count a.g a.words.now (touches a.y (face_in a.words.now a.g))
           (ap (λ v. offered v a.count a.g (leaf (tree_at a.n) a.count a.words.now a.g)) (sym is) ∙ offered_no a.count a.g
           (leaf (tree_at a.n) a.count a.words.now a.g)),

@@ -1,7 +1,7 @@
 -- Faces that are offered because an edge of theirs was placed, in the tree of minima that holds a value for each face:
 -- count + g while the face g shares no edge with a placed one, then g. Definitions only.
 use Rattle.std.specs.Prelude.{ℕ, ◌+◌, ◌*◌, ◌<◌, ◌≡◌, ◌≢◌, Bool, true, false, List, eqb}
-use Rattle.lists.specs.Lists.{bit, count, up_from}
+use Rattle.lists.specs.Lists.{count, up_from}
 use Rattle.patch.specs.Lay.{edge, Face, face}
 use Rattle.patch.specs.Shape.{has, touches}
 use Rattle.corners.specs.Corners.{face_in, CornersLinked}
@@ -21,9 +21,9 @@ pub record Offered (n faces g : ℕ) (test : Bool) (before after : List ℕ) : T
   pub outside : Outside (tree_at n) faces before after
 
 -- a face is offered if it has the point y
-abbrev pub OfferedAt : ℕ → ℕ → ℕ → ℕ → ℕ → List ℕ → List ℕ → Type 0
+abbrev pub OfferedAt : ℕ → ℕ → ℕ → ℕ → Bool → List ℕ → List ℕ → Type 0
 OfferedAt n faces g y r before after =
-    (r ≡ bit (touches y (face_in before g))) × Offered n faces g (touches y (face_in before g)) before after
+    (r ≡ touches y (face_in before g)) × Offered n faces g (touches y (face_in before g)) before after
 
 -- the faces have the corners, three each, and three different points
 pub record Faces (faces : ℕ) (corner : ℕ → ℕ) (at : ℕ → Face) : Type 0 where
