@@ -1,6 +1,7 @@
 -- What the lent slices and the counts hold of a state of the laying, and what each part of a step asks and
 -- changes. Definitions only.
-use Rattle.std.specs.Prelude.{ℕ, ◌+◌, ◌*◌, ◌≤◌, ◌<◌, ◌≡◌, ◌≢◌, false, cond, Option, Some, None, List, [], ◌∷◌, map, length}
+use Rattle.std.specs.Prelude.{ℕ, ◌+◌, ◌*◌, ◌≤◌, ◌<◌, ◌≡◌, ◌≢◌, false, cond, Option, Some, None}
+use Rattle.std.specs.Prelude.{List, [], ◌∷◌, map, length}
 use Rattle.regions.specs.Inner.Regions.{used_in}
 use Rattle.lists.specs.Lists.{bit, any}
 use Rattle.patch.specs.Lay.{Edge, edge, same, State, Pop, seeds_of, popped, cleared, pivoted, blank}
