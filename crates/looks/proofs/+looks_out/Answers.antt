@@ -3,9 +3,6 @@ use native.Mathlib.Omega.{arith}
 use Rattle.looks.proofs.Laws.{out_seed, out_child}
 use Rattle.looks.proofs.+looks_out.Goals as goal
 
-pub looks_out-requires : goal.looks_out-requires
-looks_out-requires t c = (omega (arith, c.decreases), tt)
-
 pub returns-then-face-parent : goal.returns-then-face-parent
 returns-then-face-parent t c = out_seed _ _ _ c.parent_of-parent.ensures c.if-face-parent.true
 
