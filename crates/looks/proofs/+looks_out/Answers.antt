@@ -1,5 +1,4 @@
 -- By what is known of the parent, whose number is smaller. Assumes nothing.
-use native.Mathlib.Omega.{arith}
 use Rattle.looks.proofs.Laws.{out_seed, out_child}
 use Rattle.looks.proofs.+looks_out.Goals as goal
 
