@@ -81,7 +81,7 @@ pub fn deliver(found: Finding, faces: &mut [u32]) -> Patch
         return refuse(found.reason, 0);
     }
     if faces.len() / 3 < count {
-        clearing::clear_u32(faces);
+        clearing::clear(faces);
         return refuse(answers::FACES, 0);
     }
     accept(found)

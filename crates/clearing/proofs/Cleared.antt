@@ -1,10 +1,10 @@
 -- A loop that fills a list of any element from the front, one store a turn. Assumes nothing.
 use mathlib.Core.Path.{◌≡◌, refl, sym, ap, ◌∙◌}
-use mathlib.Core.List.{List, [], ◌∷◌, ◌++◌, append-nil}
-use Prim.Native.Nat.{ℕ, zero, suc, ◌+◌, ◌<◌, ◌≤◌}
-use native.Mathlib.Nat.{not-suc-le-zero, le_of_suc-le-suc, le_antisymm}
+use mathlib.Core.List.{List, [], ◌∷◌, ◌++◌}
+use Prim.Native.Nat.{ℕ, zero, suc, ◌+◌, ◌<◌}
+use native.Mathlib.Nat.{not-suc-le-zero, le_of_suc-le-suc}
 use native.Mathlib.Numerals.{add-one}
-use lib.ListN.{length, set, drop, replicate, drop_of_length-le}
+use lib.ListN.{length, set, drop, replicate}
 
 module _ {A : Type 0} (v : A) where
   fill_suc : (n : ℕ) (d : List A) → n < length d → set (replicate n v ++ drop n d) n v ≡ replicate (suc n) v ++ drop (suc n) d
@@ -15,7 +15,3 @@ module _ {A : Type 0} (v : A) where
   -- a store of v at n, where the first n are v already
   pub fill_step : (n : ℕ) (d w : List A) → n < length d → w ≡ replicate n v ++ drop n d → set w n v ≡ replicate (n + 1) v ++ drop (n + 1) d
   fill_step n d w l e = ap (λ (t : List A). set t n v) e ∙ fill_suc n d l ∙ ap (λ (k : ℕ). replicate k v ++ drop k d) (sym (add-one n))
-
-  pub fill_end : (n : ℕ) (d w : List A) → n ≤ length d → length d ≤ n → w ≡ replicate n v ++ drop n d → w ≡ replicate (length d) v
-  fill_end n d w l m e =
-      e ∙ ap (λ (t : List A). replicate n v ++ t) (drop_of_length-le d m) ∙ append-nil (replicate n v) ∙ ap (λ (k : ℕ). replicate k v) (le_antisymm l m)

@@ -4,22 +4,30 @@
 ghost use Rattle.std.specs.Prelude.{◌≡◌, length, replicate};
 ghost use Rattle.numbers.specs.Rounded.{f32};
 
-pub fn clear_u32(w: &mut [u32])
-    ensures { w.new ≡ replicate (length w.old) 0 }
-{
-    let mut k: usize = 0;
-    while k < w.len() {
-        w[k] = 0;
-        k += 1;
-    }
+// A kind of number that has a zero.
+pub trait Zero: Copy {
+    ghost ZERO: { Self };
+
+    const ZERO: Self;
 }
 
-pub fn clear_f32(w: &mut [f32])
-    ensures { w.new ≡ replicate (length w.old) (f32 0) }
+impl Zero for u32 {
+    ghost ZERO = { 0 };
+
+    const ZERO: u32 = 0;
+}
+
+impl Zero for f32 {
+    ghost ZERO = { f32 0 };
+
+    const ZERO: f32 = 0.0;
+}
+
+// Sets every number to zero.
+pub fn clear<T: Zero>(w: &mut [T])
+    ensures { w.new ≡ replicate (length w.old) T.ZERO }
 {
-    let mut i: usize = 0;
-    while i < w.len() {
-        w[i] = 0.0;
-        i += 1;
+    for i in 0..w.len() {
+        w[i] = T::ZERO;
     }
 }

@@ -22,7 +22,7 @@ fn mark_point(reached: &mut [u32], point: usize) -> bool
 pub fn mark_reached(faces: &[u32], reached: &mut [u32]) -> usize
     ensures { Marked faces.now reached.old result reached.new }
 {
-    clearing::clear_u32(reached);
+    clearing::clear(reached);
     let mut total: usize = 0;
     for point in faces {
         total += usize::from(mark_point(reached, *point as usize));

@@ -34,8 +34,8 @@ pub fn estimate_optimal_radius(
         };
     }
     let radius = samples::optimal_radius(points, points.len() / 3, percentile, work_u32, work_f32);
-    clearing::clear_u32(work_u32);
-    clearing::clear_f32(work_f32);
+    clearing::clear(work_u32);
+    clearing::clear(work_f32);
     Estimate {
         answer: 0,
         detail: 0,

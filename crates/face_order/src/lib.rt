@@ -93,7 +93,7 @@ pub fn order_faces(
         return patch_order::refused(first, 0);
     }
     let ordered = order_checked(faces, point_count, order, words);
-    clearing::clear_u32(words);
-    clearing::clear_f32(floats);
+    clearing::clear(words);
+    clearing::clear(floats);
     ordered
 }

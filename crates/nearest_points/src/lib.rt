@@ -132,8 +132,8 @@ pub fn nearest_point(
         return nearest_of(refusal.answer, refusal.detail as u32, 0, 0.0);
     }
     let own = point_index::matches(points, index, words, floats);
-    clearing::clear_u32(words);
-    clearing::clear_f32(floats);
+    clearing::clear(words);
+    clearing::clear(floats);
     if !own {
         return nearest_of(answers::FOREIGN_INDEX, 0, 0, 0.0);
     }
@@ -168,8 +168,8 @@ pub fn nearest_points(
         return refusal;
     }
     let own = point_index::matches(points, index, words, floats);
-    clearing::clear_u32(words);
-    clearing::clear_f32(floats);
+    clearing::clear(words);
+    clearing::clear(floats);
     if found.len() < spots.len() / 3 {
         return answer_of(answers::OUTPUT_TOO_SHORT, 0);
     }

@@ -72,8 +72,8 @@ pub fn deliver(
         return ball_pivoting::refuse(found.reason, 0);
     }
     if is_over(count, faces.len(), origins.len()) {
-        clearing::clear_u32(faces);
-        clearing::clear_u32(origins);
+        clearing::clear(faces);
+        clearing::clear(origins);
         return ball_pivoting::refuse(answers::FACES, 0);
     }
     let radii = found.radii;

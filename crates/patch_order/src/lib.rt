@@ -120,7 +120,7 @@ pub fn order_patch(
         return refused(first, 0);
     }
     let ordered = order_lines(bytes, point_count, seen.count, order, words);
-    clearing::clear_u32(words);
-    clearing::clear_f32(floats);
+    clearing::clear(words);
+    clearing::clear(floats);
     ordered
 }

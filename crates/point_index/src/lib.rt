@@ -90,8 +90,8 @@ pub fn build_index(
         };
     }
     build(points, index, floats);
-    clearing::clear_u32(words);
-    clearing::clear_f32(floats);
+    clearing::clear(words);
+    clearing::clear(floats);
     Indexed {
         answer: 0,
         detail: 0,
@@ -117,8 +117,8 @@ pub fn index_belongs(
         };
     }
     let same = matches(points, index, words, floats);
-    clearing::clear_u32(words);
-    clearing::clear_f32(floats);
+    clearing::clear(words);
+    clearing::clear(floats);
     Belongs {
         answer: 0,
         detail: 0,

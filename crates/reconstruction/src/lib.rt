@@ -31,7 +31,7 @@ pub fn reconstruct_with_normals(
         return ball_pivoting::refuse(refusal.answer, refusal.detail);
     }
     let found = paths::find(points, settings, faces, words, floats);
-    clearing::clear_u32(words);
-    clearing::clear_f32(floats);
+    clearing::clear(words);
+    clearing::clear(floats);
     ball_pivoting::deliver(found, faces)
 }

@@ -86,9 +86,9 @@ pub fn reconstruct_with_origins(
         return ball_pivoting::refuse(refusal.answer, refusal.detail);
     }
     let found = find(points, settings, turned, faces, words, floats);
-    clearing::clear_u32(words);
-    clearing::clear_f32(floats);
+    clearing::clear(words);
+    clearing::clear(floats);
     let patch = origins_outcome::deliver(found, turned, points.len() / 3, faces, origins, words);
-    clearing::clear_u32(words);
+    clearing::clear(words);
     patch
 }

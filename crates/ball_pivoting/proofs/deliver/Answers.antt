@@ -8,7 +8,7 @@ returns-then-count-eq0 c =
 
 pub returns-then-faces-count : goal.returns-then-faces-count
 returns-then-faces-count c =
-    λ why f rs ms lent named h. delivers_over why f rs ms lent _ _ named h _ _ c.refuse-then-faces-count.ensures c.clear_u32.ensures
+    λ why f rs ms lent named h. delivers_over why f rs ms lent _ _ named h _ _ c.refuse-then-faces-count.ensures c.clear.ensures
     c.if-count-eq0.false c.if-faces-count.true
 
 pub returns : goal.returns

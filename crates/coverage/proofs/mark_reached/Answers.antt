@@ -9,7 +9,7 @@ use Rattle.coverage.proofs.mark_reached.Goals as goal
 
 pub loop-point-init : goal.loop-point-init
 loop-point-init c =
-    let s = reached_start (length c.args.reached.now) _ c.clear_u32.ensures in
+    let s = reached_start (length c.args.reached.now) _ c.clear.ensures in
     (search rules, s.1, s.2)
 
 pub loop-point-preserved : goal.loop-point-preserved

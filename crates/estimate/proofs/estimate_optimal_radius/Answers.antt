@@ -25,7 +25,7 @@ optimal_radius-radius-requires c =
 
 pub returns : goal.returns
 returns c =
-    let clear-u32 = c.clear_u32 in
+    let clear-u32 = c.clear in
     let optimal-radius = c.optimal_radius-radius in
     let if1 = c.if-refusal-ne0 in
     let refusal-of-estimate = c.refusal_of_estimate-refusal in
@@ -35,7 +35,7 @@ returns c =
     let zero = if1.false in
     let o = optimal-radius in
     let u = clear-u32 in
-    let f = c.clear_f32 in
+    let f = c.clear-2 in
     let same : length o.new.f ≡ length s.args.work_f32.now = omega arith in
     let same-words : length o.new.w ≡ length s.args.work_u32.now = omega arith in
     outcome_passed s.args.points.now s.args.percentile s.args.work_u32.now s.args.work_f32.now r.result r.ensures o.result

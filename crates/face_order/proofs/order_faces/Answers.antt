@@ -43,4 +43,4 @@ pub returns : goal.returns
 returns c = let o = c.order_checked-ordered in
     let same : length o.new.words
     ≡ length c.args.words.now = omega (arith, o.auto.words) in
-    whole_last c.args.faces.now c.args.point_count c.args.order.now c.args.words.now c.args.floats.now c.if-faces-ne0.false _ (first_is c.args.faces.now c.args.point_count _ _ _ c.look_at-seen.ensures c.first_answer-first.ensures) c.if-first-ne0.false _ _ _ _ o.ensures (c.clear_u32.ensures ∙ ap (λ (n : ℕ). replicate n 0) same) c.clear_f32.ensures
+    whole_last c.args.faces.now c.args.point_count c.args.order.now c.args.words.now c.args.floats.now c.if-faces-ne0.false _ (first_is c.args.faces.now c.args.point_count _ _ _ c.look_at-seen.ensures c.first_answer-first.ensures) c.if-first-ne0.false _ _ _ _ o.ensures (c.clear.ensures ∙ ap (λ (n : ℕ). replicate n 0) same) c.clear-2.ensures

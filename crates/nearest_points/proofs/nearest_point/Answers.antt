@@ -51,8 +51,8 @@ matches-own-requires c =
 
 pub returns-then-not-own : goal.returns-then-not-own
 returns-then-not-own c =
-    let clear-f32 = c.clear_f32 in
-    let clear-u32 = c.clear_u32 in
+    let clear-f32 = c.clear-2 in
+    let clear-u32 = c.clear in
     let matches = c.matches-own in
     let if1 = c.if-refusal-ne0 in
     let refusal-of-search = c.refusal_of_search-refusal in
@@ -100,8 +100,8 @@ nearest_in-best-requires c =
 pub returns : goal.returns
 returns c =
     let if2 = c.if-not-own in
-    let clear-f32 = c.clear_f32 in
-    let clear-u32 = c.clear_u32 in
+    let clear-f32 = c.clear-2 in
+    let clear-u32 = c.clear in
     let matches = c.matches-own in
     let if1 = c.if-refusal-ne0 in
     let refusal-of-search = c.refusal_of_search-refusal in

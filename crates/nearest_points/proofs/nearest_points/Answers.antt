@@ -29,8 +29,8 @@ matches-own-requires c =
 
 pub returns-then-found-spots : goal.returns-then-found-spots
 returns-then-found-spots c =
-    let clear-f32 = c.clear_f32 in
-    let clear-u32 = c.clear_u32 in
+    let clear-f32 = c.clear-2 in
+    let clear-u32 = c.clear in
     let matches = c.matches-own in
     let if1 = c.if-refusal-ne0 in
     let refusal-of-search = c.refusal_of_search-refusal in
@@ -46,8 +46,8 @@ returns-then-found-spots c =
 
 pub returns-then-not-own : goal.returns-then-not-own
 returns-then-not-own c =
-    let clear-f32 = c.clear_f32 in
-    let clear-u32 = c.clear_u32 in
+    let clear-f32 = c.clear-2 in
+    let clear-u32 = c.clear in
     let matches = c.matches-own in
     let if1 = c.if-refusal-ne0 in
     let refusal-of-search = c.refusal_of_search-refusal in
@@ -96,8 +96,8 @@ pub returns : goal.returns
 returns c =
     let if3 = c.if-not-own in
     let if2 = c.if-found-spots in
-    let clear-f32 = c.clear_f32 in
-    let clear-u32 = c.clear_u32 in
+    let clear-f32 = c.clear-2 in
+    let clear-u32 = c.clear in
     let matches = c.matches-own in
     let if1 = c.if-refusal-ne0 in
     let refusal-of-search = c.refusal_of_search-refusal in

@@ -13,7 +13,7 @@ returns-then-is_over c =
     c.if-count-eq0.false _ _ _
     (sym c.is_over.ensures
     ∙ c.if-is_over.true) c.refuse-then-is_over.ensures
-    c.clear_u32.ensures c.clear_u32-then-is_over.ensures
+    c.clear.ensures c.clear-then-is_over.ensures
 
 pub write_laid-requires : goal.write_laid-requires
 write_laid-requires c =

@@ -25,7 +25,7 @@ order_lines-ordered-requires c =
 
 pub returns : goal.returns
 returns c =
-    let clear-u32 = c.clear_u32 in
+    let clear-u32 = c.clear in
     let order-lines = c.order_lines-ordered in
     let if2 = c.if-first-ne0 in
     let first-answer = c.first_answer-first in
@@ -34,4 +34,4 @@ returns c =
     let same : length o.new.words ≡ length c.args.words.now = omega arith in
     whole_last c.args.bytes.now _ _ c.args.words.now c.args.floats.now g.faces g.lines _
     (first_is _ _ _ g _ _ _ first-answer.ensures) if2.false _ _ _ _ o.ensures
-    (clear-u32.ensures ∙ ap (λ (n : ℕ). replicate n 0) same) c.clear_f32.ensures
+    (clear-u32.ensures ∙ ap (λ (n : ℕ). replicate n 0) same) c.clear-2.ensures

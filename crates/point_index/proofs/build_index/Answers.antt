@@ -20,12 +20,12 @@ build-requires c =
 
 pub returns : goal.returns
 returns c =
-    let clear-u32 = c.clear_u32 in
+    let clear-u32 = c.clear in
     let build = c.build in
     let if1 = c.if-refusal-ne0 in
     let refusal-of-index = c.refusal_of_index-refusal in
     let start = c in
     let e : length build.new.floats ≡ length start.args.floats.now = build.auto.floats in builds_passed start.args.points.now
     start.args.index.now start.args.words.now start.args.floats.now _ refusal-of-index.ensures if1.false build.new.index
-    clear-u32.new.w c.clear_f32.new.w build.ensures clear-u32.ensures
-    (c.clear_f32.ensures ∙ ap (λ (n : ℕ). replicate n (f32 0)) e)
+    clear-u32.new.w c.clear-2.new.w build.ensures clear-u32.ensures
+    (c.clear-2.ensures ∙ ap (λ (n : ℕ). replicate n (f32 0)) e)

@@ -23,7 +23,7 @@ matches-same-requires c =
 
 pub returns : goal.returns
 returns c =
-    let clear-u32 = c.clear_u32 in
+    let clear-u32 = c.clear in
     let matches = c.matches-same in
     let if1 = c.if-refusal-ne0 in
     let refusal-of-index = c.refusal_of_index-refusal in
@@ -31,5 +31,5 @@ returns c =
     let e : length matches.new.floats ≡ length start.args.floats.now = matches.auto.floats in let w : length
     matches.new.words ≡ length start.args.words.now = matches.auto.words in tells_passed start.args.points.now start.args.index.now
     start.args.words.now start.args.floats.now _ refusal-of-index.ensures if1.false matches.result clear-u32.new.w
-    c.clear_f32.new.w matches.ensures (clear-u32.ensures ∙ ap (λ (n : ℕ). replicate n 0) w)
-    (c.clear_f32.ensures ∙ ap (λ (n : ℕ). replicate n (f32 0)) e)
+    c.clear-2.new.w matches.ensures (clear-u32.ensures ∙ ap (λ (n : ℕ). replicate n 0) w)
+    (c.clear-2.ensures ∙ ap (λ (n : ℕ). replicate n (f32 0)) e)

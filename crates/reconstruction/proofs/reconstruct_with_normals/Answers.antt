@@ -20,8 +20,8 @@ find-found-requires c =
 
 pub returns : goal.returns
 returns c =
-    let clear-f32 = c.clear_f32 in
-    let clear-u32 = c.clear_u32 in
+    let clear-f32 = c.clear-2 in
+    let clear-u32 = c.clear in
     let find = c.find-found in
     let if1 = c.if-refusal-ne0 in
     let refusal-of-reconstruct = c.refusal_of_reconstruct-refusal in

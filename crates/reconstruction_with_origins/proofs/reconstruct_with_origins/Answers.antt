@@ -19,7 +19,7 @@ find-found-requires c = ready_of _ _ _ _ _ (ap (λ (q : Refusal). q.answer)
 
 pub deliver-patch-requires : goal.deliver-patch-requires
 deliver-patch-requires c =
-    let clear-u32 = c.clear_u32 in
+    let clear-u32 = c.clear in
     let find = c.find-found in
     let if1 = c.if-refusal-ne0 in
     let refusal-of-reconstruct = c.refusal_of_reconstruct-refusal in
@@ -32,8 +32,8 @@ deliver-patch-requires c =
 pub returns : goal.returns
 returns c =
     let deliver = c.deliver-patch in
-    let clear-f32 = c.clear_f32 in
-    let clear-u32 = c.clear_u32 in
+    let clear-f32 = c.clear-2 in
+    let clear-u32 = c.clear in
     let find = c.find-found in
     let if1 = c.if-refusal-ne0 in
     let refusal-of-reconstruct = c.refusal_of_reconstruct-refusal in
@@ -42,5 +42,5 @@ returns c =
     let d = deliver in
     taken _ _ _ _ _ _ _ _ _ refusal-of-reconstruct.ensures _ _ _ _ _ if1.false
     (d.ensures _ _ _ f.ensures refl (zeros_again w.new.w (length f.new.words) w.ensures))
-    (c.clear_u32-2.ensures ∙ ap (λ (k : ℕ). replicate k 0) (d.auto.words ∙ w.auto.w ∙ f.auto.words))
+    (c.clear-3.ensures ∙ ap (λ (k : ℕ). replicate k 0) (d.auto.words ∙ w.auto.w ∙ f.auto.words))
     (clear-f32.ensures ∙ ap (λ (k : ℕ). replicate k (f32 0)) f.auto.floats)
