@@ -1,4 +1,4 @@
--- The loops of `sift` and `put_from`: what is left of a list leads to the whole. Assumes nothing.
+-- The loop of `sift`: what is left of a list leads to the whole. Assumes nothing.
 use mathlib.Core.Path.{◌≡◌, refl, sym, ap, ◌∙◌}
 use mathlib.Core.Bool.{Bool, true, false, not}
 use mathlib.Core.List.{List, [], ◌∷◌, ◌++◌, append_assoc, append-nil}
@@ -6,10 +6,10 @@ use Prim.Native.Nat.{ℕ, suc, ◌+◌, ◌-◌, ◌≤◌, ◌<◌}
 use native.Mathlib.Omega.{arith}
 use borrow.Author.Tests.{eq-eqb, ne_eqb}
 use lib.ListN.{length, take, drop, get_or, set, length-set, drop_of_length-le}
-use lib.Seq.{take-suc, take-suc-set, take-set-le, drop-set-lt, drop-cons, drop-drop, get_or-drop, take_all}
+use lib.Seq.{take-suc-set, take-set-le, drop-set-lt, drop-cons, drop-drop, get_or-drop}
 use Rattle.lists.specs.Members.{only}
 use Rattle.lists.proofs.Members.{only_skip, only_take}
-use Rattle.axis_orders.specs.Inner.Parted.{others, parted_but, order_along, NumbersSifted}
+use Rattle.axis_orders.specs.Inner.Parted.{others, parted_but, NumbersSifted}
 
 -- one element more at the end of what a list begins with
 take_next : (l : List ℕ) (k v : ℕ) → k < length l → take (k + 1) (set l k v) ≡ take k l ++ (v ∷ [])
@@ -125,35 +125,6 @@ pub record Putting (list₀ : List ℕ) (from : ℕ) (work list : List ℕ) (i :
   pub most : i ≤ length list₀
   pub same : take i list ≡ take from list₀ ++ take (i - from) work
 
-module _ {list₀ : List ℕ} {from : ℕ} {work : List ℕ} where
-  pub put_start : from ≤ length list₀ → Putting list₀ from work list₀ from
-  put_start h = record {
-    size = refl;
-    least = omega arith;
-    most = h;
-    same = let e : from - from
-        ≡ 0 = omega arith in sym (ap (λ (n : ℕ). take from list₀ ++ take n work) e ∙ append-nil (take from list₀));
-  }
-
-  pub put_step : {list : List ℕ} {i : ℕ} → Putting list₀ from work list i → length list₀ ≤ from + length work → i < length list
-      → Putting list₀ from work (set list i (get_or work (i - from) 0)) (i + 1)
-  put_step {list} {i} p room h =
-      let v = get_or work (i - from) 0 in
-      let n : suc (i - from) ≡ i + 1 - from = omega (arith, p.least) in
-      record {
-        size = length-set list i v ∙ p.size;
-        least = omega (arith, p.least);
-        most = omega (arith, p.size);
-        same =
-            take_next list i v h ∙ ap (λ (z : List ℕ). z ++ (v ∷ [])) p.same ∙ append_assoc (take from list₀) (take (i - from) work) (v ∷ [])
-            ∙ ap (λ (z : List ℕ). take from list₀ ++ z) (sym (take-suc work (i - from) 0 (omega (arith, p.least, p.size))) ∙ ap (λ (k : ℕ). take k work) n);
-      }
-
-  pub put_end : {list : List ℕ} {i : ℕ} → Putting list₀ from work list i → length list ≤ i → list ≡ take from list₀ ++ take (length list₀ - from) work
-  put_end {list} {i} p h =
-      let e : i ≡ length list₀ = omega (arith, p.size, p.most) in
-      sym (take_all i list h) ∙ p.same ∙ ap (λ (n : ℕ). take from list₀ ++ take (n - from) work) e
-
 -- ---- an order parted, or left as it is
 module _ (own axis : ℕ) (test : ℕ → Bool) (l : List ℕ) where
   pub parted_own : own ≡ axis → l ≡ parted_but own axis test l
@@ -164,20 +135,3 @@ module _ (own axis : ℕ) (test : ℕ → Bool) (l : List ℕ) where
       ++ take (length l' - r) w' → l'' ≡ parted_but own axis test l
   unfolding parted_but
   parted_other l' w' l'' r no_own s e k = rw (ne_eqb own axis no_own) (k ∙ (λ i. s.front i ++ (ap (λ (n : ℕ). take (n - r) w') e ∙ s.aside) i))
-
--- ---- the order along an axis
-put_whole : (o x : List ℕ) {r : List ℕ} → length x ≡ length o → r ≡ take 0 o ++ take (length o - 0) x → r ≡ x
-put_whole o x e k = k ∙ take_all (length o - 0) x (omega arith)
-
-module _ (o x y z : List ℕ) (axis : ℕ) {r : List ℕ} where
-  pub along_x : length x ≡ length o → axis ≡ 0 → r ≡ take 0 o ++ take (length o - 0) x → r ≡ order_along axis x y z
-  unfolding order_along
-  along_x e a k = rw (eq-eqb axis 0 a) (put_whole o x e k)
-
-  pub along_y : length y ≡ length o → (axis ≡ 0 → ⊥) → axis ≡ 1 → r ≡ take 0 o ++ take (length o - 0) y → r ≡ order_along axis x y z
-  unfolding order_along
-  along_y e a b k = rw (ne_eqb axis 0 a, eq-eqb axis 1 b) (put_whole o y e k)
-
-  pub along_z : length z ≡ length o → (axis ≡ 0 → ⊥) → (axis ≡ 1 → ⊥) → r ≡ take 0 o ++ take (length o - 0) z → r ≡ order_along axis x y z
-  unfolding order_along
-  along_z e a b k = rw (ne_eqb axis 0 a, ne_eqb axis 1 b) (put_whole o z e k)

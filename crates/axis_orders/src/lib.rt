@@ -38,13 +38,10 @@ fn sift(
         work.new result }
 {
     let mut kept: usize = 0;
-    let mut i: usize = 0;
-    while i < list.len() {
+    for i in 0..list.len() {
         let number = list[i];
-        let aside = i - kept;
         list[kept] = number;
-        work[aside] = number;
-        i += 1;
+        work[i - kept] = number;
         if is_before(points, axis, at, pivot, number) {
             kept += 1;
         }
@@ -58,11 +55,8 @@ pub fn put_from(list: &mut [u32], from: usize, work: &[u32])
     ensures { list.new
         ≡ take from list.old ++ take (length list.old - from) work.now }
 {
-    let mut i = from;
-    while i < list.len() {
-        list[i] = work[i - from];
-        i += 1;
-    }
+    let count = list.len() - from;
+    list[from..].copy_from_slice(&work[..count]);
 }
 
 // Parts an order at a pivot, unless it is the order along the pivot's axis: that one is in parts as it is.
@@ -92,15 +86,11 @@ fn put_along(axis: usize, order: &mut [u32], x: &[u32], y: &[u32], z: &[u32])
         × (length z.now ≡ length order.old) }
     ensures { order.new ≡ order_along axis x.now y.now z.now }
 {
-    if axis == 0 {
-        put_from(order, 0, x);
-        return;
-    }
-    if axis == 1 {
-        put_from(order, 0, y);
-        return;
-    }
-    put_from(order, 0, z);
+    order.copy_from_slice(match axis {
+        0 => x,
+        1 => y,
+        _ => z,
+    });
 }
 
 // Puts a part's numbers in order along an axis, and parts each of its orders at the middle one.
@@ -148,7 +138,7 @@ fn box_of(points: &[f32], x: &[u32], y: &[u32], z: &[u32]) -> Bounds
         corner(points, 1, y[y.len() - 1]),
         corner(points, 2, z[z.len() - 1]),
     );
-    Bounds { lo: lo, hi: hi }
+    Bounds { lo, hi }
 }
 
 // Writes the box of three orders from `at` on, and answers the axis where it is longest.

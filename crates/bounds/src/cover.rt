@@ -20,7 +20,7 @@ pub fn interval(v: f32, reach: f32, limit: f32) -> Interval
     let lo = v - reach;
     let hi = v + reach;
     if is_covering(v, limit, lo, hi) {
-        return Interval { lo: lo, hi: hi };
+        return Interval { lo, hi };
     }
     Interval {
         lo: -1.0 / 0.0,

@@ -14,12 +14,10 @@ pub fn link_corners(n: usize, count: usize, words: &mut [u32])
         × ((x : ℕ) → x < n → get_or words.old (heads_at n + x) 0 ≡ 0) }
     ensures { Links n (3 * count) words.old words.new }
 {
-    let mut s: usize = 0;
-    while s < 3 * count {
+    for s in 0..3 * count {
         let x = words[s] as usize;
         words[regions::CORNERS * n + s] = words[regions::HEADS * n + x];
         words[regions::HEADS * n + x] = (s + 1) as u32;
-        s += 1;
     }
 }
 

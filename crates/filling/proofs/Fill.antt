@@ -2,14 +2,15 @@
 use mathlib.Core.Path.{◌≡◌, refl, sym, ap, ◌∙◌, subst}
 use mathlib.Core.Bool.{Bool, true, false, ◌&&◌}
 use mathlib.Core.List.{List, [], ◌∷◌, ◌++◌, append_assoc, append-nil, map}
-use Prim.Native.Nat.{ℕ, zero, suc, ◌+◌, ◌-◌, ◌≤◌, ◌<◌}
+use Prim.Native.Nat.{ℕ, zero, suc, ◌+◌, ◌≤◌, ◌<◌}
 use native.Mathlib.Omega.{arith}
-use borrow.Author.Tests.{eq-eqb, ne_eqb, eqb-true}
+use borrow.Author.Tests.{ne_eqb, eqb-true}
 use lib.Dec.{eqb}
 use lib.Ieee.{Float, nan, binary32, to_bits}
-use lib.ListN.{length, take, drop, set, get_or, replicate, length-append, length-drop, length-map, length-replicate, replicate-append-replicate, take-append-drop}
+use lib.ListN.{length, take, drop, set, get_or, length-append, length-drop, length-map, take-append-drop}
 use lib.ListN.{drop_of_length-le}
-use lib.Seq.{length-take-le, take_all, take_at, drop_at, set_split, drop-drop, take-suc, drop-cons, get_or-take}
+use lib.Seq.{length-take-le, take_all, take_at, drop_at, set_split, drop-drop, take-suc}
+use Rattle.std.specs.Cmp.Lexicographic.{pointwise}
 use Rattle.lists.specs.Lists.{up_from, bit, count}
 use Rattle.axis_sort.specs.Inner.Small.{Small}
 use Rattle.axis_sort.proofs.Floats.{map-append}
@@ -153,68 +154,10 @@ bits_step {fs} {w₀} {w} {at} {i} {v} b h l ev =
 pub bits_end : {fs : List Float} {w₀ w : List ℕ} {at i : ℕ} → Bitten fs w₀ w at i → length fs ≤ i → PutList w₀ w at (map (to_bits binary32) fs)
 bits_end {fs} {w₀} {w} {at} {i} b h = subst (λ (z : List Float). PutList w₀ w at (map (to_bits binary32) z)) (take_all i fs h) b.put
 
--- ---- zeros
-pub record Zeroed (w₀ w : List ℕ) (at end i : ℕ) : Type 0 where
-  pub least : at ≤ i
-  pub most : i ≤ end
-  pub put : PutList w₀ w at (replicate (i - at) 0)
-
-pub zeros_start : (w : List ℕ) (at end : ℕ) → at ≤ end → Zeroed w w at end at
-zeros_start w at end h =
-    record { least = omega arith; most = h; put = let e : 0 ≡ at - at = omega arith in subst (λ (n : ℕ). PutList w w at (replicate n 0)) e (put_none w at) }
-
-pub zeros_size : {w₀ w : List ℕ} {at end i : ℕ} → Zeroed w₀ w at end i → end ≤ length w₀ → length w ≡ length w₀
-zeros_size {w₀} {w} {at} {end} {i} z h = put_size z.put (omega (arith, length-replicate {A = ℕ} (i - at) 0, z.least, z.most))
-
-pub zeros_step : {w₀ w : List ℕ} {at end i : ℕ} → Zeroed w₀ w at end i → end ≤ length w₀ → i < end → Zeroed w₀ (set w i 0) at end (i + 1)
-zeros_step {w₀} {w} {at} {end} {i} z h l =
-    let n : length {A = ℕ} (replicate (i - at) 0) ≡ i - at = length-replicate {A = ℕ} (i - at) 0 in
-    let e : i - at + 1 ≡ i + 1 - at = omega (arith, z.least) in
-    record {
-      least = omega (arith, z.least);
-      most = omega arith;
-      put = subst (λ (k : List ℕ). PutList w₀ (set w i 0) at k) (replicate-append-replicate (i - at) 1 0 ∙ ap (λ (k : ℕ). replicate k 0) e)
-          (put_next i 0 z.put (omega (arith, z.least)) (omega arith));
-    }
-
-pub zeros_end : {w₀ w : List ℕ} {at end i : ℕ} → Zeroed w₀ w at end i → end ≤ i → PutList w₀ w at (replicate (end - at) 0)
-zeros_end {w₀} {w} {at} {end} {i} z h = let e : i ≡ end = omega (arith, z.most) in subst (λ (k : ℕ). PutList w₀ w at (replicate (k - at) 0)) e z.put
-
--- ---- two fronts: those that are left tell of the whole
-pub record Alike (a b : List ℕ) (size i : ℕ) : Type 0 where
-  pub most : i ≤ size
-  pub left : same_numbers (drop i (take size a)) (drop i (take size b)) ≡ same_numbers (take size a) (take size b)
-
-pub alike_start : (a b : List ℕ) (size : ℕ) → Alike a b size 0
-alike_start a b size = record { most = omega arith; left = refl }
-
-module _ (a b : List ℕ) (size i : ℕ) (la : size ≤ length a) (lb : size ≤ length b) (l : i < size) where
-  head_of : (w : List ℕ) → size ≤ length w → drop i (take size w) ≡ get_or w i 0 ∷ drop (suc i) (take size w)
-  head_of w h =
-      let n : length (take size w) ≡ size = length-take-le size w h in
-      drop-cons (take size w) i 0 (omega arith) ∙ ap (λ (k : ℕ). k ∷ drop (suc i) (take size w)) (get_or-take size w i 0 l)
-
-  one_more : same_numbers (drop i (take size a)) (drop i (take size b))
-      ≡ (eqb (get_or a i 0) (get_or b i 0) && same_numbers (drop (suc i) (take size a)) (drop (suc i) (take size b)))
-  unfolding same_numbers
-  one_more = ap (λ (z : List ℕ). same_numbers z (drop i (take size b))) (head_of a la) ∙ ap
-      (λ (z : List ℕ). same_numbers (get_or a i 0 ∷ drop (suc i) (take size a)) z) (head_of b lb)
-
-  pub alike_step : Alike a b size i → get_or a i 0 ≡ get_or b i 0 → Alike a b size (i + 1)
-  alike_step k e =
-      let s : suc i ≡ i + 1 = omega arith in
-      let t : same_numbers (drop i (take size a)) (drop i (take size b)) ≡ same_numbers (drop (suc i) (take size a)) (drop (suc i) (take size b)) =
-      one_more ∙ ap (λ (x : Bool). x && same_numbers (drop (suc i) (take size a)) (drop (suc i) (take size b))) (eq-eqb (get_or a i 0) (get_or b i 0) e) in
-      record { most = omega arith; left = ap (λ (n : ℕ). same_numbers (drop n (take size a)) (drop n (take size b))) (sym s) ∙ sym t ∙ k.left }
-
-  pub alike_not : Alike a b size i → (get_or a i 0 ≡ get_or b i 0 → ⊥) → false ≡ same_numbers (take size a) (take size b)
-  alike_not k e = sym (ap (λ (x : Bool). x && same_numbers (drop (suc i) (take size a)) (drop (suc i) (take size b)))
-      (ne_eqb (get_or a i 0) (get_or b i 0) e)) ∙ sym one_more ∙ k.left
-
-pub alike_end : (a b : List ℕ) (size i : ℕ) → size ≤ length a → size ≤ length b → Alike a b size i → size ≤ i → true ≡ same_numbers (take size a) (take size b)
+-- ---- two lists compared as `==` does
+pub same_pointwise : (xs ys : List ℕ) → pointwise eqb xs ys ≡ same_numbers xs ys
 unfolding same_numbers
-alike_end a b size i la lb k h =
-    let na : length (take size a) ≡ size = length-take-le size a la in
-    let nb : length (take size b) ≡ size = length-take-le size b lb in
-    sym (ap (λ (z : List ℕ). same_numbers z (drop i (take size b))) (drop_of_length-le (take size a) {i = i} (omega arith)) ∙ ap
-    (λ (z : List ℕ). same_numbers [] z) (drop_of_length-le (take size b) {i = i} (omega arith))) ∙ k.left
+same_pointwise [] [] = refl
+same_pointwise [] (y ∷ ys) = refl
+same_pointwise (x ∷ xs) [] = refl
+same_pointwise (x ∷ xs) (y ∷ ys) = ap (λ (b : Bool). eqb x y && b) (same_pointwise xs ys)

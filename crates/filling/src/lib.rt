@@ -13,10 +13,8 @@ pub fn number_order(order: &mut [u32])
     requires { length order.old ≤ 4096 }
     ensures { order.new ≡ up_from 0 (length order.old) }
 {
-    let mut i: usize = 0;
-    while i < order.len() {
+    for i in 0..order.len() {
         order[i] = i as u32;
-        i += 1;
     }
 }
 
@@ -26,10 +24,8 @@ pub fn put_bits(floats: &[f32], index: &mut [u32], at: usize)
     ensures { PutList index.old index.new at
         (map (to_bits binary32) floats.now) }
 {
-    let mut i: usize = 0;
-    while i < floats.len() {
+    for i in 0..floats.len() {
         index[at + i] = axis_sort::bits_of(floats[i]);
-        i += 1;
     }
 }
 
@@ -38,11 +34,7 @@ pub fn clear_between(index: &mut [u32], at: usize, end: usize)
     requires { (at ≤ end) × (end ≤ length index.old) }
     ensures { PutList index.old index.new at (replicate (end - at) 0) }
 {
-    let mut i = at;
-    while i < end {
-        index[i] = 0;
-        i += 1;
-    }
+    index[at..end].fill(0);
 }
 
 // Whether the first numbers of two slices are the same.
@@ -50,12 +42,5 @@ pub fn same_front(a: &[u32], b: &[u32], size: usize) -> bool
     requires { (size ≤ length a.now) × (size ≤ length b.now) }
     ensures { result ≡ same_numbers (take size a.now) (take size b.now) }
 {
-    let mut i: usize = 0;
-    while i < size {
-        if a[i] != b[i] {
-            return false;
-        }
-        i += 1;
-    }
-    true
+    a[..size] == b[..size]
 }

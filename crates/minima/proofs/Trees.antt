@@ -10,7 +10,7 @@ use lib.ListN.{length, set, get_or}
 use lib.Seq.{get_or-set_same, get_or-set_other}
 use borrow.Author.Tests.{eqb-true, eqb-false, ltb-true, ltb-false}
 use Rattle.lists.proofs.Bools.{either}
-use Rattle.minima.specs.Inner.Minima.{Node, Nodes, leaf, Renewed, Planted}
+use Rattle.minima.specs.Inner.Minima.{Node, Nodes, leaf, Renewed}
 
 -- every node over two others is their least one, but perhaps node b
 abbrev pub AllBut : ℕ → ℕ → ℕ → List ℕ → Type 0
@@ -184,43 +184,6 @@ Leaves base count g w = (j : ℕ) → j < g → leaf base count w j ≡ count + 
 abbrev pub LeavesOnly : ℕ → ℕ → List ℕ → List ℕ → Type 0
 LeavesOnly base count v w = (k : ℕ) → (k < base + count) ⊎ (base + 2 * count ≤ k) → get_or w k 0 ≡ get_or v k 0
 
-module _ (base count g : ℕ) (w : List ℕ) (b : g < count) (room : base + 2 * count ≤ length w) where
-  pub leaves_stored : Leaves base count g w → Leaves base count (g + 1) (set w (base + count + g) (count + g))
-  leaves_stored h j l = ⊎_elim
-      (λ (t : eqb j g ≡ true). rw (eqb-true j g t) (get_or-set_same w (base + count + g) (count + g) 0 (omega arith)))
-      (λ (t : eqb j g ≡ false).
-      let ne = eqb-false j g t in
-      let less : j < g = let n : j ≢ g = ne in omega arith in
-      get_or-set_other w (base + count + g) (base + count + j) (count + g) 0 (λ (q : base + count + j ≡ base + count + g). ne (omega arith)) ∙ h j less)
-      (either (eqb j g))
-
-  pub leaves_only : (v : List ℕ) → LeavesOnly base count v w → LeavesOnly base count v (set w (base + count + g) (count + g))
-  leaves_only v h k s =
-      get_or-set_other w (base + count + g) k (count + g) 0
-      (⊎_elim (λ (l : k < base + count) (e : k ≡ base + count + g). omega arith) (λ (l : base + 2 * count ≤ k) (e : k ≡ base + count + g). omega arith) s)
-      ∙ h k s
-
 -- the nodes from b on are the least of the two below them
 abbrev pub NodesFrom : ℕ → ℕ → ℕ → List ℕ → Type 0
 NodesFrom base count b w = (k : ℕ) → b ≤ k → 1 ≤ k → k < count → Node base w k
-
-pub nodes_stored : (base count b v : ℕ) (w : List ℕ) → 1 ≤ b → b < count → base + 2 * count ≤ length w → v
-    ≡ min (get_or w (base + 2 * b) 0) (get_or w (base + 2 * b + 1) 0) → NodesFrom base count (b + 1) w → NodesFrom base count b (set w (base + b) v)
-nodes_stored base count b v w l m room is h k kb kl km = ⊎_elim
-    (λ (t : eqb k b ≡ true). rw (eqb-true k b t) (self_stored base w b v l (omega arith) is))
-    (λ (t : eqb k b ≡ false).
-    let a = eqb-false k b t in
-    let more : b + 1 ≤ k = let n : k ≢ b = a in omega arith in
-    elsewhere base count w b v k kl a (λ (q : 2 * k ≡ b). omega arith) (λ (q : 2 * k + 1 ≡ b). omega arith) (h k more kl km))
-    (either (eqb k b))
-
-pub planted : (base count : ℕ) (w u v : List ℕ) → Leaves base count count u → LeavesOnly base count w u → Nodes base count v → InnerOnly base count u v
-    → Planted base count w v
-planted base count w u v leaves a nodes b = record {
-  nodes = nodes;
-  leaves = λ g l. b (base + count + g) (inr (omega arith)) ∙ leaves g l;
-  outside = λ k s. ⊎_elim
-      (λ (l : k < base). b k (inl l) ∙ a k (inl (omega arith)))
-      (λ (l : base + 2 * count ≤ k). b k (inr (omega arith)) ∙ a k (inr l))
-      s;
-}

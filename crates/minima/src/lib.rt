@@ -1,14 +1,8 @@
 // A tree of minima in a part of a lent slice: the least value of all elements stands at its root.
 #![tactic(auto)]
 
-ghost use Rattle.std.specs.Prelude.{◌≡◌, ◌⊎◌, ℕ, ◌+◌, ◌*◌, ◌≤◌, ◌<◌, min, length, get_or};
+ghost use Rattle.std.specs.Prelude.{◌≡◌, ◌⊎◌, ℕ, ◌+◌, ◌*◌, ◌≤◌, ◌<◌, length, get_or};
 ghost use Rattle.minima.specs.Inner.Minima.{Nodes, leaf, Renewed, Planted};
-
-fn least(a: u32, b: u32) -> u32
-    ensures { result ≡ min a b }
-{
-    if a < b { a } else { b }
-}
 
 // Gives the element the value, and every node over it the least of that and of the node beside.
 pub fn renew(base: usize, count: usize, words: &mut [u32], element: usize, value: u32)
@@ -20,7 +14,7 @@ pub fn renew(base: usize, count: usize, words: &mut [u32], element: usize, value
     let mut v: u32 = value;
     while 1 < k {
         let up = k / 2;
-        v = least(v, words[base + (4 * up + 1 - k)]);
+        v = v.min(words[base + (4 * up + 1 - k)]);
         words[base + up] = v;
         k = up;
     }
@@ -33,10 +27,8 @@ fn set_leaves(base: usize, count: usize, words: &mut [u32])
     ensures kept { (k : ℕ) → (k < base + count) ⊎ (base + 2 * count ≤ k)
         → get_or words.new k 0 ≡ get_or words.old k 0 }
 {
-    let mut g: usize = 0;
-    while g < count {
+    for g in 0..count {
         words[base + count + g] = (count + g) as u32;
-        g += 1;
     }
 }
 
@@ -47,10 +39,8 @@ fn set_nodes(base: usize, count: usize, words: &mut [u32])
     ensures kept { (k : ℕ) → (k < base) ⊎ (base + count ≤ k)
         → get_or words.new k 0 ≡ get_or words.old k 0 }
 {
-    let mut k: usize = count;
-    while 1 < k {
-        k = k - 1;
-        words[base + k] = least(words[base + 2 * k], words[base + 2 * k + 1]);
+    for k in (1..count).rev() {
+        words[base + k] = words[base + 2 * k].min(words[base + 2 * k + 1]);
     }
 }
 

@@ -1,11 +1,6 @@
-use Prim.Native.Nat.{◌-◌}
-use lib.ListN.{length}
 use Rattle.axis_orders.specs.Inner.Parted.{is_before_pivot}
 use Rattle.axis_orders.proofs.Sifting.{Sifting}
 use Rattle.axis_orders.proofs.sift.Given as goal
 
 abbrev pub invariant-loop-i : goal.invariant-loop-i
 invariant-loop-i l = Sifting (is_before_pivot l.points l.axis l.at l.pivot) l.initial.list l.list l.initial.work l.work l.kept l.i
-
-abbrev pub decreases-loop-i : goal.decreases-loop-i
-decreases-loop-i l = length l.initial.list - l.i

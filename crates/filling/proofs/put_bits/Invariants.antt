@@ -1,10 +1,5 @@
 use Rattle.filling.proofs.Fill.{Bitten}
-use lib.ListN.{length}
-use Prim.Native.Nat.{◌-◌}
 use Rattle.filling.proofs.put_bits.Given as goal
 
 abbrev pub invariant-loop-i : goal.invariant-loop-i
 invariant-loop-i l = Bitten l.floats l.initial.index l.index l.at l.i
-
-abbrev pub decreases-loop-i : goal.decreases-loop-i
-decreases-loop-i l = length l.floats - l.i

@@ -1,13 +1,7 @@
 -- `minima::set_leaves` meets its contract. The loop's invariant: the leaves below g are set, and nothing else changed.
 -- Assumes nothing.
-use Prim.Native.Nat.{◌-◌, ◌≤◌}
-use mathlib.Core.Path.{◌≡◌}
-use lib.ListN.{length}
 use Rattle.minima.proofs.Trees.{Leaves, LeavesOnly}
 use Rattle.minima.proofs.set_leaves.Given as goal
 
 abbrev pub invariant-loop-g : goal.invariant-loop-g
-invariant-loop-g l = (l.g ≤ l.count) × (length l.words ≡ length l.initial.words) × Leaves l.base l.count l.g l.words × LeavesOnly l.base l.count l.initial.words l.words
-
-abbrev pub decreases-loop-g : goal.decreases-loop-g
-decreases-loop-g l = l.count - l.g
+invariant-loop-g l = Leaves l.base l.count l.g l.words × LeavesOnly l.base l.count l.initial.words l.words
