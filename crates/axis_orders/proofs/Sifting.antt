@@ -4,7 +4,7 @@ use mathlib.Core.Bool.{Bool, true, false, not}
 use mathlib.Core.List.{List, [], ◌∷◌, ◌++◌, append_assoc, append-nil}
 use Prim.Native.Nat.{ℕ, suc, ◌+◌, ◌-◌, ◌≤◌, ◌<◌}
 use native.Mathlib.Omega.{arith}
-use borrow.Author.Tests.{eq-eqb, ne_eqb}
+use lib.Dec.{eqb}
 use lib.ListN.{length, take, drop, get_or, set, length-set, drop_of_length-le}
 use lib.Seq.{take-suc-set, take-set-le, drop-set-lt, drop-cons, drop-drop, get_or-drop}
 use Rattle.lists.specs.Members.{only}
@@ -127,11 +127,11 @@ pub record Putting (list₀ : List ℕ) (from : ℕ) (work list : List ℕ) (i :
 
 -- ---- an order parted, or left as it is
 module _ (own axis : ℕ) (test : ℕ → Bool) (l : List ℕ) where
-  pub parted_own : own ≡ axis → l ≡ parted_but own axis test l
+  pub parted_own : eqb own axis ≡ true → l ≡ parted_but own axis test l
   unfolding parted_but
-  parted_own e = rw (eq-eqb own axis e)
+  parted_own e = rw e
 
-  pub parted_other : (l' w' l'' : List ℕ) (r : ℕ) → (own ≡ axis → ⊥) → NumbersSifted test l l' w' r → length l' ≡ length l → l'' ≡ take r l'
+  pub parted_other : (l' w' l'' : List ℕ) (r : ℕ) → eqb own axis ≡ false → NumbersSifted test l l' w' r → length l' ≡ length l → l'' ≡ take r l'
       ++ take (length l' - r) w' → l'' ≡ parted_but own axis test l
   unfolding parted_but
-  parted_other l' w' l'' r no_own s e k = rw (ne_eqb own axis no_own) (k ∙ (λ i. s.front i ++ (ap (λ (n : ℕ). take (n - r) w') e ∙ s.aside) i))
+  parted_other l' w' l'' r no_own s e k = rw no_own (k ∙ (λ i. s.front i ++ (ap (λ (n : ℕ). take (n - r) w') e ∙ s.aside) i))

@@ -3,23 +3,24 @@
 
 ghost use Rattle.std.specs.Prelude.{◌≡◌, true, ℕ, ◌*◌, ◌<◌, ◌≤◌, length};
 ghost use Rattle.points.specs.Points.{point_at};
+ghost use Rattle.vector.specs.Inner.Axes.{axis_index};
 ghost use Rattle.vector.specs.Inner.Numbers.{Finite};
 ghost use Rattle.flatness.specs.Inner.Flat.{too_small, Flat, AxisFinite, Extent};
 
 use decisions::Scene;
-use vector::Point3f;
+use vector::{Axis, Point3f};
 
-// How far the n points reach on one axis, 0, 1 or 2. The difference is taken both ways, since a zero may have either
-// sign.
-fn extent_on(points: &[f32], axis: usize, n: usize) -> f32
-    requires { (axis < 3) × (0 < n) × (n ≤ 4096) × (3 * n ≤ length points.now) × AxisFinite points.now axis n }
-    ensures { Extent points.now axis n result }
+// How far the n points reach on one axis. The difference is taken both ways, since a zero may have either sign.
+fn extent_on(points: &[f32], axis: Axis, n: usize) -> f32
+    requires { (0 < n) × (n ≤ 4096) × (3 * n ≤ length points.now) × AxisFinite points.now (axis_index axis) n }
+    ensures { Extent points.now (axis_index axis) n result }
 {
-    let mut lo = points[axis];
-    let mut hi = points[axis];
+    let first = axis.index();
+    let mut lo = points[first];
+    let mut hi = points[first];
     for i in 1..n {
-        lo = numbers::min(lo, points[3 * i + axis]);
-        hi = numbers::max(hi, points[3 * i + axis]);
+        lo = numbers::min(lo, points[3 * i + first]);
+        hi = numbers::max(hi, points[3 * i + first]);
     }
     numbers::max(numbers::max(0.0, hi - lo), -(lo - hi))
 }
@@ -39,9 +40,9 @@ pub fn is_flat(s: Scene, points: &[f32]) -> bool
         × ((k : ℕ) → k < s.n → Finite (point_at points.now k)) }
     ensures { result ≡ true → Flat s points.now }
 {
-    let x = extent_on(points, 0, s.n);
-    let y = extent_on(points, 1, s.n);
-    let z = extent_on(points, 2, s.n);
+    let x = extent_on(points, Axis::X, s.n);
+    let y = extent_on(points, Axis::Y, s.n);
+    let z = extent_on(points, Axis::Z, s.n);
     let v = vector::point(x, y, z);
     is_too_small(s, v)
 }

@@ -10,7 +10,7 @@ ghost use Rattle.regions.specs.Inner.Regions.{neighbors_at, words_length};
 ghost use Rattle.grid.specs.Grid.{bounds_min, grid_of, cell_of};
 ghost use Rattle.grid.specs.Inner.Index.{CellsIndexed};
 
-use vector::Point3f;
+use vector::{Axis, Point3f};
 
 // Cells are cubes of side cell_size, counted from the cloud's least coordinates.
 #[derive(Clone, Copy)]
@@ -31,9 +31,9 @@ pub fn bounds_min(points: &[f32], n: usize) -> Point3f
     requires { 3 * n ≤ length points.now }
     ensures { result ≡ bounds_min points.now n }
 {
-    let x = cells::least_from(points, 0, n);
-    let y = cells::least_from(points, 1, n);
-    let z = cells::least_from(points, 2, n);
+    let x = cells::least_from(points, Axis::X, n);
+    let y = cells::least_from(points, Axis::Y, n);
+    let z = cells::least_from(points, Axis::Z, n);
     Point3f { x, y, z }
 }
 

@@ -3,10 +3,12 @@
 #![tactic(auto)]
 
 ghost use Rattle.std.specs.Prelude.{◌≡◌, ◌+◌, ◌≤◌, ◌<◌, length};
+ghost use Rattle.vector.specs.Inner.Axes.{axis_index};
 ghost use Rattle.kd_tree.specs.Boxes.{plus_zero, box_corners, longest};
 ghost use Rattle.kd_tree.specs.Inner.Written.{ListWritten};
 
 use bounds::Bounds;
+use vector::Axis;
 
 // Minus zero as zero.
 pub fn plus_zero(x: f32) -> f32
@@ -19,22 +21,20 @@ pub fn plus_zero(x: f32) -> f32
 }
 
 // The axis where a box is longest, the earliest on a tie.
-pub fn longest(b: Bounds) -> usize
-    ensures { (result ≡ longest b) × (result < 3) }
+#[tactic(auto, unfolding(crate::specs::Boxes::longest))]
+pub fn longest(b: Bounds) -> Axis
+    ensures { axis_index result ≡ longest b }
 {
     let x = b.hi.x - b.lo.x;
     let y = b.hi.y - b.lo.y;
     let z = b.hi.z - b.lo.z;
     if x < y {
-        if y < z {
-            return 2;
-        }
-        return 1;
+        if y < z { Axis::Z } else { Axis::Y }
+    } else if x < z {
+        Axis::Z
+    } else {
+        Axis::X
     }
-    if x < z {
-        return 2;
-    }
-    0
 }
 
 // A box's six coordinates, from `at` on.

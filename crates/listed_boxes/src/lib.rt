@@ -6,6 +6,7 @@ ghost use Rattle.std.specs.Prelude.{◌≤◌, ◌<◌, length};
 ghost use Rattle.listed_boxes.specs.Inner.Boxes.{SameWords, RangeBoxed};
 
 use bounds::Bounds;
+use vector::Axis;
 
 // A part with so many points or fewer is left as it is.
 const FEW: usize = 8;
@@ -36,20 +37,18 @@ pub fn box_of(points: &[f32], list: &[u32], from: usize, to: usize) -> Bounds
 }
 
 // The middle of a box along an axis.
-fn middle(b: Bounds, axis: usize) -> f32 {
-    if axis == 0 {
-        return (b.lo.x + b.hi.x) * 0.5;
-    }
-    if axis == 1 {
-        return (b.lo.y + b.hi.y) * 0.5;
-    }
-    (b.lo.z + b.hi.z) * 0.5
+fn middle(b: Bounds, axis: Axis) -> f32 {
+    let ends = match axis {
+        Axis::X => b.lo.x + b.hi.x,
+        Axis::Y => b.lo.y + b.hi.y,
+        Axis::Z => b.lo.z + b.hi.z,
+    };
+    ends * 0.5
 }
 
 // Moves the points of a list that lie below a coordinate to its front, and returns how many they are. Each is moved
 // before it is asked, so that no branch has to be foretold.
-fn move_below(points: &[f32], axis: usize, at: f32, list: &mut [u32]) -> usize
-    requires { axis < 3 }
+fn move_below(points: &[f32], axis: Axis, at: f32, list: &mut [u32]) -> usize
     ensures { (result ≤ length list.old) × SameWords list.old list.new }
 {
     let mut kept: usize = 0;

@@ -1,26 +1,29 @@
 // The numbers of all points as a k-d tree has them, and the boxes of its parts.
 #![tactic(auto)]
 
-ghost use Rattle.std.specs.Prelude.{◌≡◌, ◌≤◌, ◌<◌, length};
+ghost use Rattle.std.specs.Prelude.{◌≡◌, ◌≤◌, length};
 ghost use Rattle.lists.specs.Lists.{up_from};
+ghost use Rattle.vector.specs.Inner.Axes.{axis_index};
 ghost use Rattle.axis_sort.specs.Axis.{precedes};
 ghost use Rattle.axis_sort.specs.Sorted.{sorted_by};
 ghost use Rattle.point_order.specs.Inner.Ordering.{PointOrderReady, OrderedAll};
 
+use vector::Axis;
+
 // All numbers in order along an axis: guessed, tested, and sorted where the guess fails.
 fn order_along(
     points: &[f32],
-    axis: usize,
+    axis: Axis,
     list: &mut [u32],
     work: &mut [u32],
     keys: &mut [u32],
     counts: &mut [u32],
     floats: &mut [f32],
 )
-    requires { (axis < 3) × PointOrderReady points.now (length list.old) (length work.old) (length counts.old)
+    requires { PointOrderReady points.now (length list.old) (length work.old) (length counts.old)
         (length floats.old) × (length list.old ≤ length keys.old) }
     ensures { list.new
-        ≡ sorted_by (precedes points.now axis) (up_from 0 (length list.old)) }
+        ≡ sorted_by (precedes points.now (axis_index axis)) (up_from 0 (length list.old)) }
 {
     axis_guess::guess(points, axis, list, work, keys, counts);
     if axis_guess::rises(points, axis, list) {
@@ -48,9 +51,9 @@ fn order_all(
         × (length z.old ≡ length order.old) }
     ensures { OrderedAll points.now order.new floats.new result }
 {
-    order_along(points, 0, x, work, order, counts, floats);
-    order_along(points, 1, y, work, order, counts, floats);
-    order_along(points, 2, z, work, order, counts, floats);
+    order_along(points, Axis::X, x, work, order, counts, floats);
+    order_along(points, Axis::Y, y, work, order, counts, floats);
+    order_along(points, Axis::Z, z, work, order, counts, floats);
     filling::number_order(order);
     tree_build::split(points, order, x, y, z, work, floats, 0)
 }

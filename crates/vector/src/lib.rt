@@ -1,7 +1,8 @@
 // Points and vectors of three f32, each operation rounded once.
 #![tactic(auto)]
 
-ghost use Rattle.std.specs.Prelude.{◌≡◌};
+ghost use Rattle.std.specs.Prelude.{◌≡◌, ◌<◌};
+ghost use Rattle.vector.specs.Inner.Axes.{axis_index};
 ghost use Rattle.vector.specs.Vector.{point, difference, magnitude_squared, magnitude, cross, squared, distance};
 
 // A point, or the vector between two.
@@ -11,6 +12,28 @@ pub struct Point3f {
     pub x: f32,
     pub y: f32,
     pub z: f32,
+}
+
+// An axis of space.
+#[derive(Clone, Copy, PartialEq, Eq)]
+pub enum Axis {
+    X,
+    Y,
+    Z,
+}
+
+impl Axis {
+    // Which of a point's three coordinates is the one along it.
+    pub fn index(self) -> usize
+        ensures number { result ≡ axis_index self }
+        ensures below { result < 3 }
+    {
+        match self {
+            Axis::X => 0,
+            Axis::Y => 1,
+            Axis::Z => 2,
+        }
+    }
 }
 
 // The point (x, y, z).

@@ -10,20 +10,20 @@ put_along-requires c =
 
 pub part-requires : goal.part-requires
 part-requires c = let d = c.requires in
-    (d.axis_is, omega (arith, (order_sizes d.numbers d.orders).0, d.work_enough))
+    omega (arith, (order_sizes d.numbers d.orders).0, d.work_enough)
 
 pub part-requires-2 : goal.part-requires-2
 part-requires-2 c =
     let part = c.part in
     let d = c.requires in
-    (d.axis_is, omega (arith, (order_sizes d.numbers d.orders).1, d.work_enough, part.auto.work))
+    omega (arith, (order_sizes d.numbers d.orders).1, d.work_enough, part.auto.work)
 
 pub part-requires-3 : goal.part-requires-3
 part-requires-3 c =
     let part2 = c.part-2 in
     let part = c.part in
     let d = c.requires in
-    (d.axis_is, omega (arith, (order_sizes d.numbers d.orders).2, d.work_enough, part.auto.work, part2.auto.work))
+    omega (arith, (order_sizes d.numbers d.orders).2, d.work_enough, part.auto.work, part2.auto.work)
 
 pub returns : goal.returns
 returns c =

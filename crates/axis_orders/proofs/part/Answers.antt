@@ -1,13 +1,13 @@
+use mathlib.Core.Path.{sym, ◌∙◌}
+use Rattle.vector.proofs.Axes.{same_axis}
 use Rattle.axis_orders.proofs.Sifting.{parted_own, parted_other}
 use Rattle.axis_orders.proofs.part.Goals as goal
 
-pub returns-then-own-axis : goal.returns-then-own-axis
-returns-then-own-axis c = parted_own _ _ _ _ c.if-own-axis.true
+pub returns-then-eq : goal.returns-then-eq
+returns-then-eq c = parted_own _ _ _ _ (sym (same_axis c.args.own c.args.axis) ∙ sym c.eq.ensures ∙ c.if-eq.true)
 
 pub returns : goal.returns
 returns c =
-    let sift = c.sift-kept in
-    let if1 = c.if-own-axis in
-    let s = sift in
-    parted_other _ _ _ c.args.list.now s.new.list s.new.work _ _ if1.false s.ensures s.auto.list
-    c.put_from.ensures
+    let s = c.sift-kept in
+    parted_other _ _ _ c.args.list.now s.new.list s.new.work _ _ (sym (same_axis c.args.own c.args.axis) ∙ sym c.eq.ensures ∙ c.if-eq.false)
+    s.ensures s.auto.list c.put_from.ensures

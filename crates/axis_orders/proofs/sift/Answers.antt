@@ -7,8 +7,8 @@ pub loop-i-preserved : goal.loop-i-preserved
 loop-i-preserved c =
     let h = c.loop-i.invariant in
     elim c.if-is_before.branch [
-      | then-is_before w ↦ rw w.kept-is (sift_keep h c.requires.1 (omega (arith, h.size)) c.is_before.ensures w.if-is_before.true)
-      | else-is_before w ↦ rw w.kept-is (sift_leave h c.requires.1 (omega (arith, h.size)) c.is_before.ensures w.if-is_before.false)
+      | then-is_before w ↦ rw w.kept-is (sift_keep h c.requires (omega (arith, h.size)) c.is_before.ensures w.if-is_before.true)
+      | else-is_before w ↦ rw w.kept-is (sift_leave h c.requires (omega (arith, h.size)) c.is_before.ensures w.if-is_before.false)
     ]
 
 pub returns : goal.returns

@@ -4,4 +4,4 @@ use Rattle.flatness.proofs.Extents.{Reaching}
 use Rattle.flatness.proofs.extent_on.Given as goal
 
 abbrev pub invariant-loop-i : goal.invariant-loop-i
-invariant-loop-i l = Reaching l.points l.axis l.n l.lo l.hi l.i
+invariant-loop-i l = Reaching l.points l.first l.n l.lo l.hi l.i

@@ -7,17 +7,17 @@ use Rattle.flatness.proofs.is_flat.Goals as goal
 pub extent_on-x-requires : goal.extent_on-x-requires
 extent_on-x-requires c =
     let s = c in
-    (omega arith, s.requires.0, s.requires.1, omega (arith, s.requires.2), (axis_numbers s.args.points.now s.args.s.n s.requires.3).0)
+    (s.requires.0, s.requires.1, omega (arith, s.requires.2), (axis_numbers s.args.points.now s.args.s.n s.requires.3).0)
 
 pub extent_on-y-requires : goal.extent_on-y-requires
 extent_on-y-requires c =
     let s = c in
-    (omega arith, s.requires.0, s.requires.1, omega (arith, s.requires.2), (axis_numbers s.args.points.now s.args.s.n s.requires.3).1.0)
+    (s.requires.0, s.requires.1, omega (arith, s.requires.2), (axis_numbers s.args.points.now s.args.s.n s.requires.3).1.0)
 
 pub extent_on-z-requires : goal.extent_on-z-requires
 extent_on-z-requires c =
     let s = c in
-    (omega arith, s.requires.0, s.requires.1, omega (arith, s.requires.2), (axis_numbers s.args.points.now s.args.s.n s.requires.3).1.1)
+    (s.requires.0, s.requires.1, omega (arith, s.requires.2), (axis_numbers s.args.points.now s.args.s.n s.requires.3).1.1)
 
 pub returns : goal.returns
 returns c h =

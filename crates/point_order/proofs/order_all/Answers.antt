@@ -6,20 +6,18 @@ use Rattle.axis_sort.specs.Axis.{precedes}
 use Rattle.lists.specs.Lists.{up_from}
 use Prim.Native.Nat.{ℕ}
 use mathlib.Core.Path.{refl, ap, ◌∙◌}
-use lib.Dec.{lit≤}
 use native.Mathlib.Omega.{arith}
 use Rattle.point_order.proofs.order_all.Goals as goal
 
 pub order_along-requires : goal.order_along-requires
 order_along-requires c =
     let start = c in
-    (lit≤ tt, as_long start.requires.0 start.requires.1 (refl) (refl) (refl), omega (arith, start.requires.1))
+    (as_long start.requires.0 start.requires.1 (refl) (refl) (refl), omega (arith, start.requires.1))
 
 pub order_along-requires-2 : goal.order_along-requires-2
 order_along-requires-2 c =
     let order-along = c.order_along in
     let start = c in (
-      lit≤ tt,
       as_long start.requires.0 start.requires.2 order-along.auto.work order-along.auto.counts
           order-along.auto.floats,
       omega (arith, start.requires.2, order-along.auto.keys),
@@ -30,7 +28,6 @@ order_along-requires-3 c =
     let order-along2 = c.order_along-2 in
     let order-along = c.order_along in
     let start = c in (
-      lit≤ tt,
       as_long start.requires.0 start.requires.3 (order-along2.auto.work ∙ order-along.auto.work)
           (order-along2.auto.counts ∙ order-along.auto.counts)
           (order-along2.auto.floats ∙ order-along.auto.floats),
