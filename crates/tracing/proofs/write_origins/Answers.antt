@@ -1,10 +1,7 @@
 -- One face more, and none that is left. Assumes nothing.
 use lib.ListN.{take}
-use Rattle.tracing.proofs.Laws.{tracing_start, tracing_step, tracing_end}
+use Rattle.tracing.proofs.Laws.{tracing_step, tracing_end}
 use Rattle.tracing.proofs.write_origins.Goals as goal
-
-pub loop-k-init : goal.loop-k-init
-loop-k-init c = tracing_start (take c.args.radii c.args.marks) c.args.faces.now c.args.count c.args.words.now c.args.origins.now
 
 pub loop-k-preserved : goal.loop-k-preserved
 loop-k-preserved c =

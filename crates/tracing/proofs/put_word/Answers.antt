@@ -1,7 +1,0 @@
--- A word goes to its place, if there is one. Assumes nothing.
-use mathlib.Core.Path.{sym}
-use lib.Seq.{set_out}
-use Rattle.tracing.proofs.put_word.Goals as goal
-
-pub returns-else-at-words : goal.returns-else-at-words
-returns-else-at-words c = sym (set_out _ _ _ c.if-at-words.false)
