@@ -1,13 +1,8 @@
 -- `plain::faces_among` meets its contract. The loop's invariant: what is left of the faces leads to all of them.
 -- Assumes nothing.
-use mathlib.Core.Path.{refl}
 use Rattle.plain.proofs.Plain.{at_step_lem, at_end}
-use Rattle.plain.proofs.Laid.{leads_start, leads_step, leads_end}
-use borrow.Author.Rules.{rules}
+use Rattle.plain.proofs.Laid.{leads_step, leads_end}
 use Rattle.plain.proofs.faces_among.Goals as goal
-
-pub loop-at-init : goal.loop-at-init
-loop-at-init c = (search rules, leads_start _ _ refl)
 
 pub loop-at-preserved : goal.loop-at-preserved
 loop-at-preserved c =

@@ -1,31 +1,13 @@
 -- `plain::faces_over` meets its contract. The loop's invariant: what is left of the faces over a leads to all of them.
 -- Assumes nothing.
 use lib.ListN.{get_or}
-use mathlib.Core.Path.{refl}
 use native.Mathlib.Omega.{arith}
 use Rattle.plain.proofs.Plain.{over_step, over_end}
-use Rattle.plain.proofs.Laid.{lays_full, leads_start, leads_step, leads_end}
-use borrow.Author.Rules.{rules}
+use Rattle.plain.proofs.Laid.{lays_full, leads_step, leads_end}
 use Rattle.plain.proofs.faces_over.Goals as goal
 
 pub returns-then-count-ge-MAX_TRIANGLES : goal.returns-then-count-ge-MAX_TRIANGLES
 returns-then-count-ge-MAX_TRIANGLES c = lays_full _ _ (omega arith) _ (omega arith)
-
-pub loop-k-init : goal.loop-k-init
-loop-k-init c = (search rules, leads_start _ _ refl)
-
-pub try_face-laid-requires : goal.try_face-laid-requires
-try_face-laid-requires c =
-    let l = c.loop-k in
-    let g = c.requires.1.lists in (
-      c.requires.1.ready,
-      c.requires.0,
-      g.below c.args.at c.requires.2,
-      g.below l.k c.loop-k-test.true,
-      l.invariant.0,
-      g.distances c.args.at c.requires.2,
-      g.distances l.k c.loop-k-test.true,
-    )
 
 pub loop-k-preserved : goal.loop-k-preserved
 loop-k-preserved c =

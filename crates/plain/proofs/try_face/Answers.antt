@@ -8,10 +8,6 @@ use Rattle.plain.proofs.try_face.Goals as goal
 pub returns-then-count-ge-MAX_TRIANGLES : goal.returns-then-count-ge-MAX_TRIANGLES
 returns-then-count-ge-MAX_TRIANGLES c = lays_full _ _ (omega arith) _ (omega arith)
 
-pub is_sound-requires : goal.is_sound-requires
-is_sound-requires c = let s = c in
-    (s.requires.1, (cc), (cc))
-
 pub returns-then-not-is_sound : goal.returns-then-not-is_sound
 returns-then-not-is_sound c =
     let p = c in

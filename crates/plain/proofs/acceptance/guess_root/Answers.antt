@@ -4,28 +4,17 @@ use mathlib.Core.Bool.{Bool, not}
 use Prim.Native.Nat.{◌+◌, ◌/◌, ◌%◌}
 use native.Mathlib.Omega.{arith}
 use lib.Dec.{T}
-use lib.Ieee.{binary32, fits, of_bits, to_bits}
-use lib.Ieee.Bits.{of_bits-fits, nan_bits_above}
+use lib.Ieee.{binary32, to_bits}
+use lib.Ieee.Bits.{nan_bits_above}
 use borrow.Author.Tests.{le-ltb}
 use Rattle.numbers.proofs.RootSpecial.{not_self}
 use Rattle.plain.proofs.acceptance.guess_root.Goals as goal
 
-pub returns-then-x : goal.returns-then-x
-unfolding fits of_bits
-returns-then-x c = tt
-
 pub float_to_bits-b : goal.float_to_bits-b
 float_to_bits-b c = not_self _ c.if-x.false
-
-pub returns-then-b-ge2139095040 : goal.returns-then-b-ge2139095040
-unfolding fits of_bits
-returns-then-b-ge2139095040 c = tt
 
 pub float_from_bits-result : goal.float_from_bits-result
 float_from_bits-result c =
     let b = to_bits binary32 c.args.x / 2 + 532676624 in
     let e = nan_bits_above binary32 b ∙ le-ltb 2139095040 (b % 2147483648) (omega arith) in
     subst (λ (t : Bool). T (not t)) (sym e) tt
-
-pub returns : goal.returns
-returns c = of_bits-fits binary32 _

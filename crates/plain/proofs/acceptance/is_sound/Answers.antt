@@ -6,12 +6,6 @@ use Rattle.plain.specs.Inner.Bounds.{thin}
 use Rattle.plain.proofs.Judged.{thin_unsound, holds}
 use Rattle.plain.proofs.acceptance.is_sound.Goals as goal
 
-pub is_sound_long-requires : goal.is_sound_long-requires
-is_sound_long-requires c =
-    let x = c in
-    let h = x.requires in
-    (h.0, h.1, h.2, x.cross_squared-s.ensures, holds c.if-s.true, holds c.if-s-2.true)
-
 pub returns-then-s-3 : goal.returns-then-s-3
 returns-then-s-3 c =
     let x = c in

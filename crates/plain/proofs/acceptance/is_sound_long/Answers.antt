@@ -20,9 +20,3 @@ returns-then-is_wide c =
     let h = g.requires in
     sym (wide_given a.p1 a.p2 a.p3 _ _ a.radius h.1 h.2 g.distance_squared-edge.ensures h.3 h.0.widest_is
     (mul-fits binary32 _ _) (mul-fits binary32 _ _) h.4 h.5 _ h.0.beyond_fits (c.is_wide.ensures c.if-is_wide.true))
-
-pub is_sound_closer-requires : goal.is_sound_closer-requires
-is_sound_closer-requires c =
-    let g = c in
-    let h = g.requires in
-    (h.0, h.1, h.2, g.distance_squared-edge.ensures, h.3, h.4, h.5)

@@ -5,19 +5,9 @@ use mathlib.Core.Path.{sym, ap, ◌∙◌}
 use mathlib.Core.List.{List, ◌++◌, append-nil}
 use native.Mathlib.Omega.{arith}
 use lib.ListN.{length, take}
-use Rattle.plain.specs.Plain.{candidates}
-use Rattle.plain.proofs.Plain.{up_start, from_none}
+use Rattle.plain.proofs.Plain.{from_none}
 use Rattle.plain.proofs.Listing.{count_step, lists_step, all_step}
-use borrow.Author.Rules.{rules}
 use Rattle.plain.proofs.near.list_candidates.Goals as goal
-
-pub loop-j-init : goal.loop-j-init
-loop-j-init c =
-    let a = c.args in (
-      search rules,
-      record { words_enough = search rules; lengths_enough = search rules; below = λ k h. absurd (omega arith); distances = λ k h. absurd (omega arith) },
-      ap (candidates a.points.now a.radius a.i) (sym (up_start a.i)),
-    )
 
 pub loop-j-preserved : goal.loop-j-preserved
 loop-j-preserved c =
