@@ -17,25 +17,17 @@ fn write_bits(rt: &HostRuntime, x: f32) -> io::Result<()> {
 }
 
 fn write_slice(rt: &HostRuntime, s: &[f32]) -> io::Result<()> {
-    let mut i: usize = 0;
-    while i < s.len() {
-        write_bits(rt, s[i])?;
-        i += 1;
+    for x in s {
+        write_bits(rt, *x)?;
     }
     Ok(())
-}
-
-fn write_number(rt: &HostRuntime, n: u64) -> io::Result<()> {
-    print!(rt; "{},", n)
 }
 
 fn show(rt: &HostRuntime, input: &[u8]) -> io::Result<()> {
     let mut points = [9.0f32; 6];
     let mut normals = [9.0f32; 7];
     let r = cloud::read_cloud(input, &mut points, &mut normals);
-    write_number(rt, r.answer as u64)?;
-    write_number(rt, r.detail as u64)?;
-    write_number(rt, r.count as u64)?;
+    print!(rt; "{},{},{},", r.answer, r.detail, r.count)?;
     write_bits(rt, r.radius)?;
     print!(rt; " |")?;
     write_slice(rt, &points)?;

@@ -46,8 +46,8 @@ fn doubled_bits(m: u64, d: u64) -> u32
     let mut n = m * 128;
     let mut h: u32 = 142;
     while n < least {
-        n = n * 2;
-        h = h - 1;
+        n *= 2;
+        h -= 1;
     }
     h * 8388608 + nearest_quotient(n, d) as u32
 }
@@ -71,15 +71,7 @@ fn is_nearest(n: u64, d: u64, q: u64) -> bool
     ensures { result ≡ true → (8388608 * d ≤ n) × (q * d * 2 < n * 2 + d) × (n * 2 < q * d * 2 + d) }
 {
     let p = q * d;
-    if p * 2 < n * 2 + d {
-        if n * 2 < p * 2 + d {
-            d * 8388608 <= n
-        } else {
-            false
-        }
-    } else {
-        false
-    }
+    p * 2 < n * 2 + d && n * 2 < p * 2 + d && d * 8388608 <= n
 }
 
 // The bit pattern of m / d, for a quotient from 16 on: the guess where it stands the test, else by doubling.

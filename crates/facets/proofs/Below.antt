@@ -1,33 +1,22 @@
--- The test that every number is below a bound, as the loop makes it. Assumes nothing.
-use mathlib.Core.Path.{◌≡◌, sym, ap, ◌∙◌}
-use mathlib.Core.Bool.{Bool, true, false, ◌&&◌}
+-- The test that every number is below a bound. Assumes nothing.
+use mathlib.Core.Path.{◌≡◌, refl, ap}
+use mathlib.Core.Bool.{Bool, true, ◌&&◌}
 use mathlib.Core.List.{List, [], ◌∷◌}
-use Prim.Native.Nat.{ℕ, zero, suc, ◌+◌, ◌/◌, ◌≤◌, ◌<◌}
+use Prim.Native.Nat.{ℕ, zero, suc, ◌/◌, ◌<◌}
 use native.Mathlib.Omega.{arith}
-use native.Mathlib.Numerals.{add-one}
-use borrow.Author.Tests.{lt-ltb, le-ltb, ltb-true}
+use borrow.Author.Tests.{ltb-true}
 use lib.Dec.{ltb}
-use lib.ListN.{length, get_or, drop, drop_of_length-le}
-use lib.Seq.{drop-cons}
+use lib.ListN.{length, get_or}
 use lib.Ieee.{Float}
+use Rattle.std.specs.List.{list_all}
 use Rattle.lists.proofs.Bools.{and_both}
 use Rattle.facets.specs.Known.{all_below, NamesPoints}
 
-module _ (bound : ℕ) (fs : List ℕ) where
-  step : (i : ℕ) → i < length fs → all_below bound (drop i fs) ≡ (ltb (get_or fs i 0) bound && all_below bound (drop (i + 1) fs))
-  unfolding all_below
-  step i h = ap (all_below bound) (drop-cons fs i 0 h) ∙ ap (λ (k : ℕ). ltb (get_or fs i 0) bound && all_below bound (drop k fs)) (sym (add-one i))
-
-  pub below_failed : (i : ℕ) → i < length fs → all_below bound fs ≡ all_below bound (drop i fs) → bound ≤ get_or fs i 0 → false ≡ all_below bound fs
-  below_failed i h inv b = sym (inv ∙ step i h ∙ ap (λ (t : Bool). t && all_below bound (drop (i + 1) fs)) (le-ltb (get_or fs i 0) bound b))
-
-  pub below_passed : (i : ℕ) → i < length fs → all_below bound fs ≡ all_below bound (drop i fs) → get_or fs i 0 < bound → all_below bound fs
-      ≡ all_below bound (drop (i + 1) fs)
-  below_passed i h inv b = inv ∙ step i h ∙ ap (λ (t : Bool). t && all_below bound (drop (i + 1) fs)) (lt-ltb (get_or fs i 0) bound b)
-
-  pub below_all : (i : ℕ) → length fs ≤ i → all_below bound fs ≡ all_below bound (drop i fs) → true ≡ all_below bound fs
-  unfolding all_below
-  below_all i h inv = sym (inv ∙ ap (all_below bound) (drop_of_length-le fs h))
+-- as a chain asks it
+pub below_chain : (bound : ℕ) (fs : List ℕ) → list_all (λ f. ltb f bound) fs ≡ all_below bound fs
+unfolding all_below
+below_chain bound [] = refl
+below_chain bound (f ∷ fs) = ap (λ (t : Bool). ltb f bound && t) (below_chain bound fs)
 
 below_each : (bound : ℕ) (fs : List ℕ) → all_below bound fs ≡ true → (k : ℕ) → k < length fs → get_or fs k 0 < bound
 unfolding all_below

@@ -32,13 +32,11 @@ pub fn read_facets(bytes: &[u8], corners: &mut [f32], n: usize)
     ensures { corners.new
         ≡ sets corners.old 0 (chunks (corners_of bytes.now) 0 n) }
 {
-    let mut i: usize = 0;
-    while i < n {
+    for i in 0..n {
         let at = 84 + 50 * i;
         let to = 9 * i;
         read_vertex(bytes, at + 12, corners, to);
         read_vertex(bytes, at + 24, corners, to + 3);
         read_vertex(bytes, at + 36, corners, to + 6);
-        i += 1;
     }
 }

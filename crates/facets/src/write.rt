@@ -62,14 +62,12 @@ fn put_facets(out: &mut [u8], points: &[f32], faces: &[u32], n: usize)
     ensures { out.new
         ≡ sets out.old 84 (chunks (facet_of (corner_at points.now faces.now)) 0 n) }
 {
-    let mut i: usize = 0;
-    while i < n {
+    for i in 0..n {
         let k = 3 * i;
         let p = point_at(points, faces[k] as usize);
         let q = point_at(points, faces[k + 1] as usize);
         let r = point_at(points, faces[k + 2] as usize);
         put_facet(out, 84 + 50 * i, p, q, r);
-        i += 1;
     }
 }
 
@@ -88,12 +86,5 @@ pub fn put_file(out: &mut [u8], points: &[f32], faces: &[u32])
 pub fn names_points(faces: &[u32], bound: usize) -> bool
     ensures { result ≡ all_below bound faces.now }
 {
-    let mut i: usize = 0;
-    while i < faces.len() {
-        if faces[i] as usize >= bound {
-            return false;
-        }
-        i += 1;
-    }
-    true
+    faces.iter().all(|f| (*f as usize) < bound)
 }

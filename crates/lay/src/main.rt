@@ -19,17 +19,14 @@ fn write_text(rt: &HostRuntime, input: &[u8], text: &[u8])
 // The buffer holds whatever is printed.
 fn print_patch(rt: &HostRuntime, input: &[u8]) {
     let mut out = [0u8; 220098];
-    let n = patch_text::program_text(input, &mut out);
+    let n = patch_text::program_text(input, &mut out).unwrap();
     write_text(rt, input, &out[..n]);
 }
 
 // One byte more than a file may have, so that a longer one is noticed.
 fn main(rt: HostRuntime) {
-    let mut stdin = rt.stdin();
     let mut input = [0u8; 65537];
-    let p = reading::read_all(&mut stdin, &mut input);
-    if p.failed {
-        return;
+    if let Ok(length) = reading::read_all(&mut rt.stdin(), &mut input) {
+        print_patch(&rt, &input[..length]);
     }
-    print_patch(&rt, &input[..p.length]);
 }

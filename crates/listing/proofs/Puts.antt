@@ -6,13 +6,9 @@ use native.Mathlib.Omega.{arith}
 use native.Mathlib.Nat.{add-zero}
 use native.Mathlib.Numerals.{add-one}
 use lib.ListN.{length, take, get_or, length-append}
-use lib.Seq.{set_out, take-suc, take_all}
+use lib.Seq.{take-suc, take_all}
 use Rattle.words.proofs.Laws.{sets_then}
 use Rattle.listing.specs.Inner.Ready.{PutBytes}
-
--- past the end nothing is put
-pub put_past : (b : ℕ) (l : List ℕ) (at : ℕ) → length l ≤ at → PutBytes (b ∷ []) l l at (at + 1)
-put_past b l at h = record { holds = sym (set_out l at b h); next = refl }
 
 pub put_none : (l : List ℕ) (at : ℕ) → PutBytes [] l l at at
 put_none l at = record { holds = refl; next = sym (add-zero at) }

@@ -9,19 +9,20 @@ use borrow.Author.Tests.{le-leb, lt-leb}
 use lib.Dec.{leb}
 use lib.ListN.{length, drop}
 use lib.Seq.{sets-eq}
-use Rattle.listing.specs.Listing.{listing, listed, filled, written_length}
+use Rattle.listing.specs.Listing.{listing, listed, filled, written_length, listed_length}
+use Rattle.std.specs.Prelude.{Some, None}
 use Rattle.listing.specs.Inner.Ready.{PutBytes}
 use Rattle.listing.specs.declared.ListingCounts.{ListingCounts}
 
-pub whole : (t out out' : List ℕ) (r : ℕ) → PutBytes t out out' 0 r → length t ≤ length out → (r ≡ written_length t out) × (out' ≡ filled t out)
+pub whole : (t out out' : List ℕ) (r : ℕ) → PutBytes t out out' 0 r → length t ≤ length out → (Some r ≡ written_length t out) × (out' ≡ filled t out)
 unfolding written_length filled
 whole t out out' r p h =
     let fits : leb (length t) (length out) ≡ true = le-leb (length t) (length out) h in
     let z : 0 + length t ≡ length t = zero-add (length t) in
     let room : 0 + length t ≤ length out = omega arith in
-    (rw fits (p.next ∙ z), rw fits (p.holds ∙ sets-eq t out 0 room ∙ ap (λ (n : ℕ). t ++ drop n out) z))
+    (rw fits (ap Some (p.next ∙ z)), rw fits (p.holds ∙ sets-eq t out 0 room ∙ ap (λ (n : ℕ). t ++ drop n out) z))
 
-pub no_room_lem : (t out : List ℕ) → length out < length t → (◌≡◌ {A = ℕ} 0 (written_length t out)) × (out ≡ filled t out)
+pub no_room_lem : (t out : List ℕ) → length out < length t → (None ≡ written_length t out) × (out ≡ filled t out)
 unfolding written_length filled
 no_room_lem t out h = let short : leb (length t) (length out) ≡ false = lt-leb (length t) (length out) h in (rw short, rw short)
 
@@ -34,10 +35,13 @@ pub listed_all : (c : ListingCounts) (fs : List ℕ) → c.faces ≤ length fs /
 unfolding listed
 listed_all c fs h = let e : leb (3 * c.faces) (length fs) ≡ true = le-leb (3 * c.faces) (length fs) (omega arith) in rw e
 
-pub listed_none : (c : ListingCounts) (fs out : List ℕ) → length fs / 3 < c.faces → (◌≡◌ {A =
-    ℕ} 0 (written_length (listed c fs) out)) × (out ≡ filled (listed c fs) out)
-unfolding listed written_length filled
+pub listed_long : (c : ListingCounts) (fs out : List ℕ) → c.faces ≤ length fs / 3 → listed_length c fs out ≡ written_length (listed c fs) out
+unfolding listed listed_length
+listed_long c fs out h = let e : leb (3 * c.faces) (length fs) ≡ true = le-leb (3 * c.faces) (length fs) (omega arith) in rw e
+
+pub listed_none : (c : ListingCounts) (fs out : List ℕ) → length fs / 3 < c.faces → (None ≡ listed_length c fs out) × (out ≡ filled (listed c fs) out)
+unfolding listed listed_length filled
 listed_none c fs out h =
     let e : leb (3 * c.faces) (length fs) ≡ false = lt-leb (3 * c.faces) (length fs) (omega arith) in
     let z : leb 0 (length out) ≡ true = le-leb 0 (length out) (omega arith) in
-    (rw (e, z), rw (e, z))
+    (rw e, rw (e, z))

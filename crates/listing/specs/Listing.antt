@@ -1,5 +1,6 @@
 -- The text that the program prints: the listing of a patch, or a refusal. Definitions only.
 use Rattle.std.specs.Prelude.{ℕ, zero, suc, ◌+◌, ◌*◌, ◌/◌, ◌%◌, cond, List, [], ◌∷◌, ◌++◌, leb, ltb, length, get_or, drop}
+use Rattle.std.specs.Prelude.{if◌then◌else◌, Option, Some, None}
 use Prim.Native.String.{String, [] as []ˢ, ◌∷◌ as ◌∷ˢ◌}
 use Prim.Native.Char.{code}
 use Rattle.listing.specs.declared.ListingCounts.{ListingCounts}
@@ -51,14 +52,19 @@ unfoldable pub refusal_text : ℕ → ℕ → List ℕ
 unfolding text field_text
 refusal_text answer detail = text "refused," ++ field_text answer 44 ++ field_text detail 10
 
--- ---- into a lent buffer: the whole text in front, or nothing where it does not fit; and how many bytes were written
+-- ---- into a lent buffer: the whole text in front, or nothing where it does not fit; and how many bytes were
+-- written, if it fits
 unfoldable pub filled : List ℕ → List ℕ → List ℕ
 filled t out = cond (leb (length t) (length out)) (t ++ drop (length t) out) out
 
-unfoldable pub written_length : List ℕ → List ℕ → ℕ
-written_length t out = cond (leb (length t) (length out)) (length t) 0
+unfoldable pub written_length : List ℕ → List ℕ → Option ℕ
+written_length t out = if leb (length t) (length out) then Some (length t) else None
 
 -- Where there are fewer faces than the counts say, there is nothing to list.
 unfoldable pub listed : ListingCounts → List ℕ → List ℕ
 unfolding listing
 listed c fs = cond (leb (3 * c.faces) (length fs)) (listing c fs) []
+
+unfoldable pub listed_length : ListingCounts → List ℕ → List ℕ → Option ℕ
+unfolding listing written_length
+listed_length c fs out = if leb (3 * c.faces) (length fs) then written_length (listing c fs) out else None

@@ -8,7 +8,7 @@ mod put;
 mod rows;
 
 ghost use Rattle.std.specs.Prelude.{◌≡◌, ◌*◌, ◌≤◌, length};
-ghost use Rattle.listing.specs.Listing.{refusal_text, listing, listed, filled, written_length};
+ghost use Rattle.listing.specs.Listing.{refusal_text, listing, listed, filled, written_length, listed_length};
 ghost use Rattle.listing.specs.Inner.Ready.{PutBytes};
 
 use crate::put::{put_field, put_text};
@@ -36,20 +36,20 @@ fn put_listing(counts: ListingCounts, faces: &[u32], out: &mut [u8]) -> usize
     put_faces(out, c, faces, n)
 }
 
-// The number of bytes written, 0 where the listing does not fit or there are fewer faces than counted.
-pub fn write_listing(counts: ListingCounts, faces: &[u32], out: &mut [u8]) -> usize
-    ensures { (result ≡ written_length (listed counts faces.now) out.old)
+// The number of bytes written, or none where the listing does not fit or there are fewer faces than counted.
+pub fn write_listing(counts: ListingCounts, faces: &[u32], out: &mut [u8]) -> Option<usize>
+    ensures { (result ≡ listed_length counts faces.now out.old)
         × (out.new ≡ filled (listed counts faces.now) out.old) }
 {
     if faces.len() / 3 < counts.faces as usize {
-        return 0;
+        return None;
     }
     let mut scratch = [0u8; 1];
     let n = put_listing(counts, faces, &mut scratch);
     if out.len() < n {
-        return 0;
+        return None;
     }
-    put_listing(counts, faces, out)
+    Some(put_listing(counts, faces, out))
 }
 
 fn put_refusal(answer: u32, detail: usize, out: &mut [u8]) -> usize
@@ -60,15 +60,15 @@ fn put_refusal(answer: u32, detail: usize, out: &mut [u8]) -> usize
     put_field(out, b, detail as u64, b'\n')
 }
 
-// The number of bytes written, 0 where the line does not fit.
-pub fn write_refusal(answer: u32, detail: usize, out: &mut [u8]) -> usize
+// The number of bytes written, or none where the line does not fit.
+pub fn write_refusal(answer: u32, detail: usize, out: &mut [u8]) -> Option<usize>
     ensures { (result ≡ written_length (refusal_text answer detail) out.old)
         × (out.new ≡ filled (refusal_text answer detail) out.old) }
 {
     let mut scratch = [0u8; 1];
     let n = put_refusal(answer, detail, &mut scratch);
     if out.len() < n {
-        return 0;
+        return None;
     }
-    put_refusal(answer, detail, out)
+    Some(put_refusal(answer, detail, out))
 }

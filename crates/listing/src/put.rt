@@ -9,7 +9,6 @@ fn put_byte(out: &mut [u8], at: usize, b: u8) -> usize
 {
     if at < out.len() {
         out[at] = b;
-        return at + 1;
     }
     at + 1
 }
@@ -19,11 +18,9 @@ pub fn put_text(out: &mut [u8], at: usize, text: &[u8]) -> usize
     requires { at < 2 ^ 62 }
     ensures { PutBytes text.now out.old out.new at result }
 {
-    let mut i: usize = 0;
     let mut next = at;
-    while i < text.len() {
-        next = put_byte(out, next, text[i]);
-        i += 1;
+    for b in text {
+        next = put_byte(out, next, *b);
     }
     next
 }
@@ -34,10 +31,10 @@ fn put_decimal(out: &mut [u8], at: usize, n: u64) -> usize
     ensures { PutBytes (digits_of n) out.old out.new at result × (result ≤ at + 20) }
 {
     if n < 10 {
-        return put_byte(out, at, 48 + n as u8);
+        return put_byte(out, at, b'0' + n as u8);
     }
     let next = put_decimal(out, at, n / 10);
-    put_byte(out, next, 48 + (n % 10) as u8)
+    put_byte(out, next, b'0' + (n % 10) as u8)
 }
 
 // A number and the byte that ends it.

@@ -32,12 +32,10 @@ pub fn put_faces(out: &mut [u8], at: usize, faces: &[u32], n: u32) -> usize
     requires { (at < 2 ^ 32) × (3 * n ≤ length faces.now) }
     ensures { PutBytes (face_lines faces.now 0 n) out.old out.new at result }
 {
-    let mut i: u32 = 0;
     let mut next = at;
-    while i < n {
+    for i in 0..n {
         let k = 3 * i as usize;
         next = put_face(out, next, i, faces[k], faces[k + 1], faces[k + 2]);
-        i += 1;
     }
     next
 }

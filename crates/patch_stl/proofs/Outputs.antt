@@ -4,7 +4,7 @@ use mathlib.Core.Path.{◌≡◌, refl, sym, ap, ap₂, ◌∙◌, subst}
 use mathlib.Core.Bool.{Bool, true, false, cond}
 use mathlib.Core.List.{List, [], ◌∷◌, map, ◌++◌}
 use native.Mathlib.Omega.{arith}
-use lib.Dec.{eqb}
+use lib.Dec.{eqb, leb}
 use lib.ListN.{length, take, drop, length-append}
 use lib.Seq.{take-append_seam}
 use lib.Ieee.{Float}
@@ -27,20 +27,42 @@ use Rattle.stl_file.specs.Answers.{Wrote}
 use Rattle.stl_file.specs.declared.StlWritten.{StlWritten}
 use Rattle.facets.proofs.Puts.{stl_length}
 use Rattle.stl_file.proofs.Calls.{accepted_patch}
-use Rattle.patch_stl.specs.Output.{Output, output_refused, written_output, patch_output, laid_output, outcome_output, file_output, Outputs}
-use Rattle.patch_stl.specs.declared.StlOutput.{StlOutput}
+use Rattle.patch_stl.specs.Output.{Output, output_refused, written_output, patch_output, laid_output, outcome_output, file_output, told_of, Outputs}
+use Rattle.std.specs.Prelude.{Option, Some, Result, Ok, Err}
 
-pub outputs_as : (o o' : Output) (out after : List ℕ) (r : StlOutput) → o ≡ o' → Outputs o out r after → Outputs o' out r after
+pub outputs_as : (o o' : Output) (out after : List ℕ) (r : Result ℕ ℕ) → o ≡ o' → Outputs o out r after → Outputs o' out r after
 outputs_as o o' out after r e h = subst (λ (p : Output). Outputs p out r after) e h
 
--- the bytes told of are the output's
-pub outputs_front : (o : Output) (out after : List ℕ) (r : StlOutput) → Outputs o out r after → take r.length after ≡ o.bytes
-outputs_front o out after r h =
-    ap₂ (λ (k : ℕ) (l : List ℕ). take k l) h.length_is h.after_is ∙ take-append_seam o.bytes (drop (length o.bytes) out)
+-- so many bytes in front are the output's, refused or not
+pub record Front (o : Output) (after : List ℕ) (refused : Bool) (n : ℕ) : Type 0 where
+  pub refused_is : o.refused ≡ refused
+  pub front : take n after ≡ o.bytes
+  pub within : n ≤ length after
 
-pub outputs_within : (o : Output) (out after : List ℕ) (r : StlOutput) → Outputs o out r after → r.length ≤ length after
-outputs_within o out after r h =
-    omega (arith, h.length_is, ap length h.after_is, length-append o.bytes (drop (length o.bytes) out))
+fronts : (o : Output) (out after : List ℕ) (n : ℕ) → n ≡ length o.bytes → after ≡ o.bytes ++ drop (length o.bytes) out
+    → (take n after ≡ o.bytes) × (n ≤ length after)
+fronts o out after n e h = (
+  ap₂ (λ (k : ℕ) (l : List ℕ). take k l) e h ∙ take-append_seam o.bytes (drop (length o.bytes) out),
+  omega (arith, e, ap length h, length-append o.bytes (drop (length o.bytes) out)),
+)
+
+-- the bytes told of are the output's
+module _ (o : Output) (out after : List ℕ) (n : ℕ) where
+  pub file_front : Outputs o out (Ok n) after → Front o after false n
+  unfolding told_of
+  file_front h = go o.refused refl h.told_is
+    where
+      go : (b : Bool) → o.refused ≡ b → ◌≡◌ {A = Result ℕ ℕ} (Ok n) (cond b (Err (length o.bytes)) (Ok (length o.bytes))) → Front o after false n
+      go true r e = cc
+      go false r e = let f = fronts o out after n (cc) h.after_is in record { refused_is = r; front = f.0; within = f.1 }
+
+  pub line_front : Outputs o out (Err n) after → Front o after true n
+  unfolding told_of
+  line_front h = go o.refused refl h.told_is
+    where
+      go : (b : Bool) → o.refused ≡ b → ◌≡◌ {A = Result ℕ ℕ} (Err n) (cond b (Err (length o.bytes)) (Ok (length o.bytes))) → Front o after true n
+      go true r e = let f = fronts o out after n (cc) h.after_is in record { refused_is = r; front = f.0; within = f.1 }
+      go false r e = cc
 
 -- ---- a refusal's line is at most forty bytes long
 field_within : (k n end : ℕ) → n < 10 ^ suc k → length (field_text n end) ≤ suc (suc k)
@@ -60,19 +82,21 @@ line_most answer detail a d =
       field_within 19 detail 10 twenty,
     )
 
-pub line_output : (answer detail n : ℕ) (out after : List ℕ) (r : StlOutput) → answer < 2 ^ 32 → detail < 2 ^ 64 → 40 ≤ length out → r ≡ record {
-  refused =
-      true;
-  length = n;
-}
-    → (n ≡ written_length (refusal_text answer detail) out) × (after ≡ filled (refusal_text answer detail) out) → Outputs (output_refused answer detail) out r after
-unfolding written_length filled
-line_output answer detail n out after r a d room e w =
-    let t : List ℕ = refusal_text answer detail in
-    let fits = le-leb (length t) (length out) (omega (arith, line_most answer detail a d)) in
-    let number : n ≡ length t = rw fits at w.0 in
-    let held : after ≡ t ++ drop (length t) out = rw fits at w.1 in
-    record { refused_is = ap (λ (s : StlOutput). s.refused) e; length_is = ap (λ (s : StlOutput). s.length) e ∙ number; after_is = held }
+-- so it fits
+module _ (answer detail : ℕ) (out : List ℕ) (a : answer < 2 ^ 32) (d : detail < 2 ^ 64) (room : 40 ≤ length out) where
+  line_fits : leb (length (refusal_text answer detail)) (length out) ≡ true
+  line_fits = le-leb (length (refusal_text answer detail)) (length out) (omega (arith, line_most answer detail a d))
+
+  pub line_written : (r : Option ℕ) → r ≡ written_length (refusal_text answer detail) out → r ≡ Some (length (refusal_text answer detail))
+  unfolding written_length
+  line_written r e = rw line_fits at e
+
+  pub line_output : (after : List ℕ) (n : ℕ) → Some n ≡ written_length (refusal_text answer detail) out → after ≡ filled (refusal_text answer detail) out
+      → Outputs (output_refused answer detail) out (Err n) after
+  unfolding filled told_of
+  line_output after n e w =
+      let number : n ≡ length (refusal_text answer detail) = let s = line_written (Some n) e in cc in
+      record { told_is = ap Err number; after_is = rw line_fits at w }
 
 -- ---- the writer of STL files
 module _ (points : List Float) (faces out : List ℕ) (t : StlWritten) (out₁ : List ℕ) (w : Wrote points faces out t out₁) where
@@ -84,7 +108,7 @@ module _ (points : List Float) (faces out : List ℕ) (t : StlWritten) (out₁ :
       (sym w.answer_is)
       ∙ ap (λ (d : Bool). cond d (record { refused = false; bytes = stl points faces }) (output_refused t.answer t.detail)) e
 
-  pub writer_refused : (t.answer ≡ 0 → ⊥) → (r : StlOutput) (after : List ℕ) → Outputs (output_refused t.answer t.detail) out₁ r after
+  pub writer_refused : (t.answer ≡ 0 → ⊥) → (r : Result ℕ ℕ) (after : List ℕ) → Outputs (output_refused t.answer t.detail) out₁ r after
       → Outputs (written_output points faces (length out)) out r after
   writer_refused bad r after h =
       let no : eqb t.answer 0 ≡ false = ne_eqb t.answer 0 bad in
@@ -92,15 +116,15 @@ module _ (points : List Float) (faces out : List ℕ) (t : StlWritten) (out₁ :
       outputs_as (output_refused t.answer t.detail) (written_output points faces (length out)) out after r (sym (by_answer false no))
       (subst (λ (l : List ℕ). Outputs (output_refused t.answer t.detail) l r after) same h)
 
-  pub writer_wrote : t.answer ≡ 0 → (r : StlOutput) → r ≡ record { refused = false; length = t.length }
-      → Outputs (written_output points faces (length out)) out r out₁
-  writer_wrote z r e =
+  pub writer_wrote : t.answer ≡ 0 → Outputs (written_output points faces (length out)) out (Ok t.length) out₁
+  unfolding told_of
+  writer_wrote z =
       let yes : eqb t.answer 0 ≡ true = eq-eqb t.answer 0 z in
       let size : t.length ≡ length (stl points faces) = (accepted_patch points faces out out₁ t w z).4 ∙ sym (stl_length points faces) in
       let held : out₁ ≡ stl points faces ++ drop (length (stl points faces)) out =
       w.after_is ∙ ap (λ (b : Bool). cond b (stl points faces ++ drop t.length out) out) yes ∙ ap (λ (k : ℕ). stl points faces ++ drop k out) size in
-      outputs_as (record { refused = false; bytes = stl points faces }) (written_output points faces (length out)) out out₁ r (sym (by_answer true yes))
-      (record { refused_is = ap (λ (s : StlOutput). s.refused) e; length_is = ap (λ (s : StlOutput). s.length) e ∙ size; after_is = held })
+      outputs_as (record { refused = false; bytes = stl points faces }) (written_output points faces (length out)) out out₁ (Ok t.length)
+      (sym (by_answer true yes)) (record { told_is = ap Ok size; after_is = held })
 
 -- ---- the main call
 module _ (points normals : List Float) (c : BallPivotingConfig) (faces words : List ℕ) (floats : List Float) (p : Patch) (faces' words' : List ℕ)

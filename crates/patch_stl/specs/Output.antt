@@ -1,6 +1,7 @@
 -- What the program `stl` writes of a cloud file: a file to standard output, or a refusal's line to standard error.
 -- Definitions only.
 use Rattle.std.specs.Prelude.{ℕ, ◌≡◌, Bool, true, false, cond, List, map, ◌++◌, ltb, eqb, length, drop, Float}
+use Rattle.std.specs.Prelude.{if◌then◌else◌, Result, Ok, Err}
 use Rattle.answers.specs.Answers.{no_room}
 use Rattle.settings.specs.Settings.{defaults}
 use Rattle.patch.specs.View as patch
@@ -10,7 +11,6 @@ use Rattle.cloud.specs.Answers as cloud
 use Rattle.listing.specs.Listing.{refusal_text}
 use Rattle.facets.specs.Format.{stl}
 use Rattle.stl_file.specs.Answers.{stl_outcome}
-use Rattle.patch_stl.specs.declared.StlOutput.{StlOutput}
 
 pub record Output : Type 0 where
   pub refused : Bool
@@ -68,8 +68,11 @@ output bytes = file_output bytes 1536 1536 15000 12352 2112 250084
 abbrev pub longest_line : ℕ
 longest_line = 40
 
--- what is told of an output, and its bytes in front of a slice
-pub record Outputs (o : Output) (out : List ℕ) (told : StlOutput) (after : List ℕ) : Type 0 where
-  pub refused_is : told.refused ≡ o.refused
-  pub length_is : told.length ≡ length o.bytes
+-- what is told of an output: the length of its file, or else of its line
+unfoldable pub told_of : Output → Result ℕ ℕ
+told_of o = if o.refused then Err (length o.bytes) else Ok (length o.bytes)
+
+-- that, and an output's bytes in front of a slice
+pub record Outputs (o : Output) (out : List ℕ) (told : Result ℕ ℕ) (after : List ℕ) : Type 0 where
+  pub told_is : told ≡ told_of o
   pub after_is : after ≡ o.bytes ++ drop (length o.bytes) out

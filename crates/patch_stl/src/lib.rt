@@ -9,25 +9,15 @@ ghost use Rattle.patch_stl.specs.Output.{Outputs};
 
 use settings::BallPivotingConfig;
 
-// Whether there is a refusal, and how many bytes in front of the output are its line, or the file.
-#[derive(Clone, Copy)]
-pub struct StlOutput {
-    pub refused: bool,
-    pub length: usize,
-}
-
-fn refuse(answer: u32, detail: usize, out: &mut [u8]) -> StlOutput
+// The length of a refusal's line, in front of the output.
+fn refuse(answer: u32, detail: usize, out: &mut [u8]) -> Result<usize, usize>
     requires { longest_line ≤ length out.old }
     ensures { Outputs (output_refused answer detail) out.old result out.new }
 {
-    let length = listing::write_refusal(answer, detail, out);
-    StlOutput {
-        refused: true,
-        length,
-    }
+    Err(listing::write_refusal(answer, detail, out).unwrap())
 }
 
-fn write_faces(points: &[f32], faces: &[u32], out: &mut [u8]) -> StlOutput
+fn write_faces(points: &[f32], faces: &[u32], out: &mut [u8]) -> Result<usize, usize>
     requires { longest_line ≤ length out.old }
     ensures { Outputs (written_output points.now faces.now (length out.old))
         out.old result out.new }
@@ -36,10 +26,7 @@ fn write_faces(points: &[f32], faces: &[u32], out: &mut [u8]) -> StlOutput
     if told.answer != 0 {
         return refuse(told.answer, told.detail, out);
     }
-    StlOutput {
-        refused: false,
-        length: told.length,
-    }
+    Ok(told.length)
 }
 
 // The patch over a cloud, or why there is none.
@@ -51,7 +38,7 @@ fn write_patch(
     words: &mut [u32],
     floats: &mut [f32],
     out: &mut [u8],
-) -> StlOutput
+) -> Result<usize, usize>
     requires { longest_line ≤ length out.old }
     ensures { Outputs
         (laid_output radius points.now normals.now (length faces.old)
@@ -68,6 +55,7 @@ fn write_patch(
     write_faces(points, &faces[..3 * patch.faces as usize], out)
 }
 
+// The length of the file, or of a refusal's line, in front of the output.
 pub fn lay_stl(
     input: &[u8],
     points: &mut [f32],
@@ -76,7 +64,7 @@ pub fn lay_stl(
     words: &mut [u32],
     floats: &mut [f32],
     out: &mut [u8],
-) -> StlOutput
+) -> Result<usize, usize>
     requires { longest_line ≤ length out.old }
     ensures { Outputs
         (file_output input.now (length points.old) (length normals.old)

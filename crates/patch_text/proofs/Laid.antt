@@ -21,7 +21,9 @@ use Rattle.ball_pivoting.specs.Reconstruct.{found, reconstructed, accepted, face
 use Rattle.ball_pivoting.specs.Outcome.{Reconstructs}
 use Rattle.ball_pivoting.specs.declared.Patch.{Patch}
 use Rattle.ball_pivoting.proofs.Answered.{answered_zero}
-use Rattle.listing.specs.Listing.{refusal_text, listed, written_length, filled}
+use Rattle.listing.specs.Listing.{refusal_text, listed, written_length, listed_length, filled}
+use Rattle.listing.proofs.Whole.{listed_long}
+use Rattle.std.specs.Prelude.{Option, Some, None}
 use Rattle.patch_text.specs.Text.{counts_of, patch_text, laid_text, Prints}
 
 -- the faces' points stand in front of the slice
@@ -67,6 +69,14 @@ module _ (points normals : List Float) (c : BallPivotingConfig) (faces words : L
       let long : 3 * p.faces ≤ length (view.flat (found c points).faces) = omega (arith, a.0, length_flat (found c points).faces) in
       rw (e, eq-eqb p.answer 0 z, le-leb (3 * p.faces) (length (view.flat (found c points).faces)) long)
 
+  pub listed_front_length : p.answer ≡ 0 → (out : List ℕ) → listed_length (counts_of (length points / 3) p) (take (3 * p.faces) faces') out
+      ≡ written_length (listed (counts_of (length points / 3) p) (take (3 * p.faces) faces')) out
+  listed_front_length z out =
+      let e = faces_front z in
+      let a = (accepts z).1 in
+      let long : 3 * p.faces ≤ length (view.flat (found c points).faces) = omega (arith, a.0, length_flat (found c points).faces) in
+      listed_long (counts_of (length points / 3) p) (take (3 * p.faces) faces') out (rw e (omega arith))
+
   pub refused_text : (p.answer ≡ 0 → ⊥) → refusal_text p.answer p.detail ≡ patch_text (length points / 3) p (found c points)
   unfolding patch_text
   refused_text bad = rw (ne_eqb p.answer 0 bad)
@@ -79,21 +89,17 @@ module _ (points normals : List Float) (c : BallPivotingConfig) (faces words : L
       (found d points)) e
 
 -- ---- a text written is the text printed
-pub prints_as : {t t' out out' : List ℕ} {r : ℕ} → t ≡ t' → Prints t out r out' → Prints t' out r out'
+pub prints_as : {t t' out out' : List ℕ} {r : Option ℕ} → t ≡ t' → Prints t out r out' → Prints t' out r out'
 prints_as {t} {t'} {out} {out'} {r} e w = subst (λ (u : List ℕ). Prints u out r out') e w
 
-pub prints : {t t' out out' : List ℕ} {r : ℕ} → t ≡ t' → (r ≡ written_length t out) × (out' ≡ filled t out) → Prints t' out r out'
+pub prints : {t t' out out' : List ℕ} {r : Option ℕ} → t ≡ t' → (r ≡ written_length t out) × (out' ≡ filled t out) → Prints t' out r out'
 prints e w = prints_as e (record { bytes = w.0; holds = w.1 })
 
-written_within : (t out : List ℕ) → written_length t out ≤ length (filled t out)
-unfolding written_length filled
-written_within t out = go (leb (length t) (length out))
-  where
-    go : (fits : Bool) → cond fits (length t) 0 ≤ length (cond fits (t ++ drop (length t) out) out)
-    go true = omega (arith, length-append t (drop (length t) out))
-    go false = omega arith
-
 -- what is printed is inside the buffer
-pub prints_within : {t out out' : List ℕ} {r : ℕ} → Prints t out r out' → r ≤ length out'
-prints_within {t} {out} {out'} w =
-    subst (λ (k : ℕ). k ≤ length out') (sym w.bytes) (subst (λ (l : List ℕ). written_length t out ≤ length l) (sym w.holds) (written_within t out))
+pub prints_within : {t out out' : List ℕ} {n : ℕ} → Prints t out (Some n) out' → n ≤ length out'
+unfolding written_length filled
+prints_within {t} {out} {out'} {n} w = go (leb (length t) (length out)) w.bytes w.holds
+  where
+    go : (fits : Bool) → Some n ≡ cond fits (Some (length t)) None → out' ≡ cond fits (t ++ drop (length t) out) out → n ≤ length out'
+    go true e h = let m : n ≡ length t = cc in omega (arith, ap length h, length-append t (drop (length t) out))
+    go false e h = cc

@@ -1,7 +1,7 @@
 -- A buffer of 220,098 bytes holds whatever the program prints: 5,000 faces of 44 bytes each, five counts of 11 and two
 -- lines of names. Assumes nothing.
 use Prim.Native.Nat.{ℕ, zero, suc, ◌+◌, ◌*◌, ◌/◌, ◌≤◌, ◌<◌}
-use mathlib.Core.Path.{◌≡◌, refl, ap, ap₂, ◌∙◌, subst}
+use mathlib.Core.Path.{◌≡◌, refl, ap, ◌∙◌, subst}
 use mathlib.Core.Bool.{Bool, true, false, cond, ◌&&◌}
 use mathlib.Core.List.{List, [], ◌∷◌, ◌++◌, map}
 use native.Mathlib.Omega.{arith}
@@ -27,6 +27,7 @@ use Rattle.cloud.specs.Answers as cloud
 use Rattle.cloud_lines.specs.declared.line.Point.{Point}
 use Rattle.numerals.proofs.Shorter.{Below}
 use Rattle.cloud_lines.proofs.Shorter.{field_below}
+use Rattle.std.specs.Prelude.{Option, Some}
 use Rattle.listing.specs.Listing.{refusal_text, listing, written_length, filled}
 use Rattle.listing.proofs.Lengths.{listing_most, listing_some, refusal_most, refusal_some}
 use Rattle.patch_text.specs.Text.{counts_of, patch_text, laid_text, outcome_text, file_text, printed, Prints, PrintsFile}
@@ -215,16 +216,16 @@ printed_most bytes = go (ltb 65536 (length bytes)) refl
         judged_most (file bytes) 1536 1536 15000 12352 2112 (early_more (suc (length bytes)) 65537 (file bytes) (omega arith) (file_early bytes)) (omega arith)
         (omega arith)
 
--- so a buffer of that length gets the whole text, and its first r bytes are the text
-pub prints_whole : (bytes out : List ℕ) (r : ℕ) (out' : List ℕ) → 220098 ≤ length out → Prints (printed bytes) out r out' → (r ≡ length (printed bytes))
-    × (take r out' ≡ printed bytes)
+-- so a buffer of that length gets the whole text, and its first bytes are the text
+pub prints_whole : (bytes out : List ℕ) (r : Option ℕ) (out' : List ℕ) → 220098 ≤ length out → Prints (printed bytes) out r out'
+    → (r ≡ Some (length (printed bytes))) × (take (length (printed bytes)) out' ≡ printed bytes)
 unfolding written_length filled
 prints_whole bytes out r out' long h =
     let t : List ℕ = printed bytes in
     let fits = le-leb (length t) (length out) (omega (arith, printed_most bytes)) in
-    let number : r ≡ length t = rw fits at h.bytes in
+    let number : r ≡ Some (length t) = rw fits at h.bytes in
     let held : out' ≡ t ++ drop (length t) out = rw fits at h.holds in
-    (number, ap₂ (λ (k : ℕ) (l : List ℕ). take k l) number held ∙ take-append_seam t (drop (length t) out))
+    (number, ap (take (length t)) held ∙ take-append_seam t (drop (length t) out))
 
 -- ---- no text is empty
 cond_some : (b : Bool) (t u : List ℕ) → 0 < length t → 0 < length u → 0 < length (cond b t u)
@@ -253,10 +254,10 @@ printed_some bytes =
     cond_some (ltb 65536 (length bytes)) (refusal_text 11 0) (outcome_text o 15000 12352 2112) (refusal_some 11 0) (outcome_some o 15000 12352 2112)
 
 -- so whatever holds of a text that was printed, this holds of the file
-pub prints_file : (bytes out : List ℕ) (r : ℕ) (out' : List ℕ) → Prints (printed bytes) out r out' → PrintsFile bytes out r out'
+pub prints_file : (bytes out : List ℕ) (r : Option ℕ) (out' : List ℕ) → Prints (printed bytes) out r out' → PrintsFile bytes out r out'
 prints_file bytes out r out' h = record {
   text = h;
   number = λ long. (prints_whole bytes out r out' long h).0;
-  some = λ long. omega (arith, (prints_whole bytes out r out' long h).0, printed_some bytes);
+  some = printed_some bytes;
   front = λ long. (prints_whole bytes out r out' long h).1;
 }

@@ -1,5 +1,5 @@
 -- What the program prints of a cloud file, from the file's bytes to the text. Definitions only.
-use Rattle.std.specs.Prelude.{ℕ, ◌<◌, ◌≤◌, ◌≡◌, cond, List, map, ltb, eqb, length, take, Float}
+use Rattle.std.specs.Prelude.{ℕ, ◌<◌, ◌≤◌, ◌≡◌, cond, List, map, ltb, eqb, length, take, Option, Some, Float}
 use Rattle.answers.specs.Answers.{no_room}
 use Rattle.settings.specs.Settings.{defaults}
 use Rattle.patch.specs.View as patch
@@ -41,8 +41,9 @@ file_text bytes points normals faces words floats =
 unfoldable pub printed : List ℕ → List ℕ
 printed bytes = file_text bytes 1536 1536 15000 12352 2112
 
--- a text stands in front of a buffer, whole, or the buffer is too short and unchanged; r is the number of bytes written
-pub record Prints (text out : List ℕ) (r : ℕ) (out' : List ℕ) : Type 0 where
+-- a text stands in front of a buffer, whole, and r is the number of bytes written; or the buffer is too short and
+-- unchanged, and there is no such number
+pub record Prints (text out : List ℕ) (r : Option ℕ) (out' : List ℕ) : Type 0 where
   pub bytes : r ≡ written_length text out
   pub holds : out' ≡ filled text out
 
@@ -52,9 +53,9 @@ abbrev pub enough : ℕ
 enough = 220098
 
 -- what the program prints of a file: its text as above; and into a buffer of `enough` bytes it goes whole, is not
--- empty, and is the first r bytes
-pub record PrintsFile (file out : List ℕ) (r : ℕ) (out' : List ℕ) : Type 0 where
+-- empty, and is the first bytes, as many as were written
+pub record PrintsFile (file out : List ℕ) (r : Option ℕ) (out' : List ℕ) : Type 0 where
   pub text : Prints (printed file) out r out'
-  pub number : enough ≤ length out → r ≡ length (printed file)
-  pub some : enough ≤ length out → 0 < r
-  pub front : enough ≤ length out → take r out' ≡ printed file
+  pub number : enough ≤ length out → r ≡ Some (length (printed file))
+  pub some : 0 < length (printed file)
+  pub front : enough ≤ length out → take (length (printed file)) out' ≡ printed file

@@ -23,7 +23,7 @@ fn write_patch(
     words: &mut [u32],
     floats: &mut [f32],
     out: &mut [u8],
-) -> usize
+) -> Option<usize>
     ensures { Prints (laid_text radius (length points.now / 3) points.now
         normals.now (length faces.old) (length words.old)
         (length floats.old)) out.old result out.new }
@@ -45,7 +45,7 @@ fn write_patch(
     listing::write_listing(counts, &faces[..3 * patch.faces as usize], out)
 }
 
-// The number of bytes written, 0 where the text does not fit.
+// The number of bytes written, or none where the text does not fit.
 pub fn lay_text(
     input: &[u8],
     points: &mut [f32],
@@ -54,7 +54,7 @@ pub fn lay_text(
     words: &mut [u32],
     floats: &mut [f32],
     out: &mut [u8],
-) -> usize
+) -> Option<usize>
     ensures { Prints
         (file_text input.now (length points.old) (length normals.old)
         (length faces.old) (length words.old) (length floats.old)) out.old
@@ -81,7 +81,7 @@ pub fn lay_text(
 
 // The text of the program `lay`: slices for 512 points and 5,000 faces, and work for so many points. An output of
 // 220,098 bytes holds whatever it is.
-pub fn program_text(input: &[u8], out: &mut [u8]) -> usize
+pub fn program_text(input: &[u8], out: &mut [u8]) -> Option<usize>
     ensures { PrintsFile input.now out.old result out.new }
 {
     let mut points = [0.0f32; 1536];

@@ -33,7 +33,7 @@ fn write_patch(rt: &HostRuntime, input: &[u8]) {
     let mut words = [0u32; 12352];
     let mut floats = [0.0f32; 2112];
     let mut out = [0u8; 250084];
-    let r = patch_stl::lay_stl(
+    let told = patch_stl::lay_stl(
         input,
         &mut points,
         &mut normals,
@@ -42,20 +42,16 @@ fn write_patch(rt: &HostRuntime, input: &[u8]) {
         &mut floats,
         &mut out,
     );
-    if r.refused {
-        write_line(rt, input, &out[..r.length]);
-        return;
+    match told {
+        Ok(length) => write_file(rt, input, &out[..length]),
+        Err(length) => write_line(rt, input, &out[..length]),
     }
-    write_file(rt, input, &out[..r.length]);
 }
 
 // One byte more than a file may have, so that a longer one is noticed.
 fn main(rt: HostRuntime) {
-    let mut stdin = rt.stdin();
     let mut input = [0u8; 65537];
-    let p = reading::read_all(&mut stdin, &mut input);
-    if p.failed {
-        return;
+    if let Ok(length) = reading::read_all(&mut rt.stdin(), &mut input) {
+        write_patch(&rt, &input[..length]);
     }
-    write_patch(&rt, &input[..p.length]);
 }

@@ -1,10 +1,8 @@
 -- `decimals::is_nearest` meets its contract: it is the three tests. Assumes nothing.
 use Prim.Native.Nat.{◌*◌, ◌≤◌}
-use mathlib.Core.Bool.{true≢false}
-use mathlib.Core.Path.{sym}
 use native.Mathlib.Nat.{mul-le-mul_right}
 use native.Mathlib.Omega.{arith}
-use borrow.Author.Tests.{leb-true}
+use Rattle.std.proofs.lemmas.Bool.Decides.{nat_tests}
 use Rattle.decimals.proofs.is_nearest.Goals.{Start}
 use Rattle.decimals.proofs.is_nearest.Goals as goal
 
@@ -26,11 +24,7 @@ pub overflow_add-p : goal.overflow_add-p
 overflow_add-p c = let b = product c.before in omega arith
 
 pub returns-then-n-p : goal.returns-then-n-p
-returns-then-n-p c =
-    λ e. let l : c.args.d * 8388608 ≤ c.args.n = leb-true _ _ e in (omega arith, c.if-p-n.true, c.if-n-p.true)
+returns-then-n-p c = grind (arith, nat_tests)
 
 pub returns-else-n-p : goal.returns-else-n-p
-returns-else-n-p c = λ e. absurd (true≢false (sym e))
-
-pub returns-else-p-n : goal.returns-else-p-n
-returns-else-p-n c = λ e. absurd (true≢false (sym e))
+returns-else-n-p c = grind (arith, nat_tests)

@@ -1,5 +1,4 @@
 -- The file, or the refusal, as the writer answers it. Assumes nothing.
-use mathlib.Core.Path.{refl}
 use Rattle.patch_stl.proofs.Outputs.{writer_refused, writer_wrote}
 use Rattle.patch_stl.proofs.write_faces.Goals as goal
 
@@ -9,5 +8,4 @@ returns-then-told-ne0 c =
     c.if-told-ne0.true _ _ c.refuse.ensures
 
 pub returns : goal.returns
-returns c =
-    writer_wrote _ _ _ _ _ c.write_stl-told.ensures c.if-told-ne0.false _ refl
+returns c = writer_wrote _ _ _ _ _ c.write_stl-told.ensures c.if-told-ne0.false

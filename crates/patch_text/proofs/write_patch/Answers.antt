@@ -2,7 +2,7 @@
 use mathlib.Core.Path.{◌∙◌}
 use native.Mathlib.Omega.{arith}
 use lib.ListN.{length-take}
-use Rattle.patch_text.proofs.Laid.{few_points, faces_inside, listed_front, refused_text, laid_text_lem, prints}
+use Rattle.patch_text.proofs.Laid.{few_points, faces_inside, listed_front, listed_front_length, refused_text, laid_text_lem, prints}
 use Rattle.patch_text.proofs.write_patch.Goals as goal
 
 pub returns-then-patch-ne0 : goal.returns-then-patch-ne0
@@ -37,4 +37,4 @@ returns c =
     prints
     (listed_front _ _ _ _ _ _ _ _ _ _ h c.if-patch-ne0.false ∙ laid_text_lem _ _ _ _ _ _ _ _ _ _ h _
     c.new-settings.ensures)
-    c.write_listing.ensures
+    (rw (listed_front_length _ _ _ _ _ _ _ _ _ _ h c.if-patch-ne0.false _) at c.write_listing.ensures)

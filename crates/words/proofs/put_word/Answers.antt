@@ -1,17 +1,14 @@
--- `words::put_word` meets its contract: four stores are a run of stores. Assumes nothing.
+-- `words::put_word` meets its contract: four bytes in place of those from a place on are a run of stores. Assumes
+-- nothing.
+use Prim.Native.Nat.{◌+◌, ◌-◌}
+use mathlib.Core.Path.{◌≡◌, refl}
 use native.Mathlib.Omega.{arith}
-use lib.ListN.{length-set}
-use Rattle.words.proofs.Laws.{sets_word}
+use Rattle.words.specs.Words.{word}
+use Rattle.words.proofs.Laws.{sets_part}
 use Rattle.words.proofs.put_word.Goals as goal
 
-pub bounds-out-at-2 : goal.bounds-out-at-2
-bounds-out-at-2 c = simp length-set (omega arith)
-
-pub bounds-out-at-3 : goal.bounds-out-at-3
-bounds-out-at-3 c = simp length-set (omega arith)
-
-pub bounds-out-at-4 : goal.bounds-out-at-4
-bounds-out-at-4 c = simp length-set (omega arith)
-
 pub returns : goal.returns
-returns c = sets_word c.args.out.now c.args.at c.args.n
+unfolding word
+returns c =
+    let four : c.args.at + 4 - c.args.at ≡ 4 = omega arith in
+    rw (c.copy_from_slice.ensures.after, c.to_le_bytes.ensures, four) (sets_part c.args.out.now (word c.args.n) c.args.at 4 refl c.requires)

@@ -1,21 +1,15 @@
--- `write::names_points` meets its contract: no number passed is at the bound or above. Assumes nothing.
-use native.Mathlib.Omega.{arith}
-use mathlib.Core.Path.{refl}
-use Rattle.facets.proofs.Below.{below_failed, below_passed, below_all}
+-- `write::names_points` meets its contract: the chain's test of each number is the definition's. Assumes nothing.
+use mathlib.Core.Path.{◌∙◌}
+use lib.Dec.{ltb}
 use borrow.Author.Rules.{rules}
+use borrow.Author.Tests.{tests}
+use Rattle.std.proofs.lemmas.Iterator.{YieldsList-from_slice}
+use Rattle.std.proofs.lemmas.Iterator.Search.{all_from_yields_List}
+use Rattle.facets.proofs.Below.{below_chain}
 use Rattle.facets.proofs.write.names_points.Goals as goal
 
-pub loop-i-init : goal.loop-i-init
-loop-i-init c = (search rules, refl)
-
-pub overflow_cast-faces : goal.overflow_cast-faces
-overflow_cast-faces c = omega (arith, c.type_inv.faces c.loop-i.i)
-
-pub returns-then-faces-i : goal.returns-then-faces-i
-returns-then-faces-i c = below_failed _ _ _ c.loop-i-test.true c.loop-i.invariant.1 c.if-faces-i.true
-
-pub loop-i-preserved : goal.loop-i-preserved
-loop-i-preserved c = (search rules, below_passed _ _ _ c.loop-i-test.true c.loop-i.invariant.1 c.if-faces-i.false)
-
 pub returns : goal.returns
-returns c = below_all _ _ _ c.loop-i-test.false c.loop-i.invariant.1
+returns c =
+    let xs = c.args.faces.now in
+    all_from_yields_List (λ f. ltb f c.args.bound) _ _ _ c.all.ensures.ran (YieldsList-from_slice xs cc) (λ x b q k. search (rules, tests))
+    ∙ below_chain c.args.bound xs

@@ -1,20 +1,14 @@
 -- `write::put_facets` meets its contract: the first i facets were put. Assumes nothing.
 use native.Mathlib.Omega.{arith}
 use Prim.Native.Nat.{◌+◌, ◌*◌}
-use mathlib.Core.Path.{refl, ◌∙◌}
+use mathlib.Core.Path.{refl}
 use Rattle.words.proofs.Chunks.{lay_none, lay_more, lay_all_lem}
 use Rattle.facets.specs.Format.{facet_of, corner_at}
 use Rattle.facets.proofs.Puts.{facet_length, facet_of_lem}
-use borrow.Author.Rules.{rules}
 use Rattle.facets.proofs.write.put_facets.Goals as goal
 
 pub loop-i-init : goal.loop-i-init
-loop-i-init c = (
-  refl,
-  search rules,
-  lay_none (facet_of (corner_at c.args.points.now c.args.faces.now)) 84
-      c.args.out.now,
-)
+loop-i-init c = lay_none (facet_of (corner_at c.args.points.now c.args.faces.now)) 84 c.args.out.now
 
 pub overflow_cast-faces : goal.overflow_cast-faces
 overflow_cast-faces c = omega (arith, c.type_inv.faces (3 * c.loop-i.i))
@@ -47,20 +41,12 @@ pub loop-i-preserved : goal.loop-i-preserved
 loop-i-preserved c =
     let f = c.put_facet in
     let l = c.loop-i in
-    let corner = corner_at c.args.points.now c.args.faces.now in (
-      f.auto.out ∙ l.invariant.0,
-      search rules,
-      lay_more (facet_of corner) 50 (λ i. facet_length (corner (3 * i)) (corner (3 * i + 1)) (corner (3 * i + 2))) 84
-          c.args.out.now l.out f.new.out l.i (84 + 50 * l.i) l.invariant.2 refl
-          (facet_of_lem corner l.i _ _ _ l.out f.new.out (84 + 50 * l.i) c.point_at-p.ensures
-          c.point_at-q.ensures c.point_at-r.ensures f.ensures),
-    )
-
-pub shape_of-out : goal.shape_of-out
-shape_of-out c = c.loop-i.invariant.0
+    let corner = corner_at c.args.points.now c.args.faces.now in
+    lay_more (facet_of corner) 50 (λ i. facet_length (corner (3 * i)) (corner (3 * i + 1)) (corner (3 * i + 2))) 84
+    c.args.out.now l.out f.new.out l.i (84 + 50 * l.i) l.invariant refl
+    (facet_of_lem corner l.i _ _ _ l.out f.new.out (84 + 50 * l.i) c.point_at-p.ensures c.point_at-q.ensures c.point_at-r.ensures f.ensures)
 
 pub returns : goal.returns
 returns c =
-    let start = c in
-    lay_all_lem (facet_of (corner_at start.args.points.now start.args.faces.now)) 84 start.args.out.now _ _ _ c.loop-i.invariant.1
-    c.loop-i-test.false c.loop-i.invariant.2
+    lay_all_lem (facet_of (corner_at c.args.points.now c.args.faces.now)) 84 c.args.out.now _ _ _ c.loop-i.auto.i-end
+    c.loop-i-test.false c.loop-i.invariant

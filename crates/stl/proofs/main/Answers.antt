@@ -1,7 +1,0 @@
--- What was read is at most as long as the buffer. Assumes nothing.
-use native.Mathlib.Omega.{arith}
-use lib.ListN.{length-take}
-use Rattle.stl.proofs.main.Goals as goal
-
-pub slice_bounds-write_patch-end : goal.slice_bounds-write_patch-end
-slice_bounds-write_patch-end c = simp length-take (omega arith)
