@@ -29,10 +29,8 @@ pub fn square_limit(r: f32) -> f32
     ensures { Limit r result }
 {
     let t = r * r * 1.000001 + 1e-44;
-    if t >= 0.0 {
-        if numbers::sqrt(t) > r {
-            return t;
-        }
+    if t >= 0.0 && numbers::sqrt(t) > r {
+        return t;
     }
     1.0 / 0.0
 }

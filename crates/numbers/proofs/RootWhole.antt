@@ -1,14 +1,13 @@
 -- Laws of the whole-number root: `nearestRoot n` is the one r with (r - 1/2)^2 < n < (r + 1/2)^2 (`Near`), for n above
 -- 0 and below 2^48, and of a number of 47 or 48 binary digits it has 24, or is 2^24 (`nearest_bounds`).
-use mathlib.Core.Path.{◌≡◌, refl, sym, subst}
+use mathlib.Core.Path.{◌≡◌, refl}
 use Prim.Native.Nat.{ℕ, zero, suc, ◌+◌, ◌*◌, ◌/◌, ◌^◌, ◌≤◌, ◌<◌}
-use native.Mathlib.Nat.{le_antisymm, le_of_lt, lt_of_le_of_lt, lt_of_not-le, mul-add, add-mul, mul_assoc, mul_left_comm, mul-le-mul_left, mul-le-mul_right}
-use native.Mathlib.Nat.{mul-lt-mul_of_pos_right, pow-succ'}
+use native.Mathlib.Nat.{le_antisymm, lt_of_not-le, mul-add, add-mul, mul_assoc, mul_left_comm, mul-le-mul_left, mul-le-mul_right}
+use native.Mathlib.Nat.{pow-succ'}
 use native.Mathlib.Omega.{arith}
 use native.Mathlib.Decide.{dec_le}
 use mathlib.Core.Bool.{Bool, true, false, cond}
 use lib.Dec.{leb, ltb}
-use lib.Pow.{pow-add, pow_pos}
 use borrow.Author.Tests.{leb-true, leb-false, ltb-true, ltb-false}
 use Rattle.numbers.specs.Root.{isqrt, nearest_root}
 
@@ -27,9 +26,6 @@ sq_suc a = simp (mul-add, add-mul) (omega arith)
 
 sq_dbl : (a : ℕ) → (2 * a) * (2 * a) ≡ 4 * (a * a)
 sq_dbl a = simp (mul_assoc, mul_left_comm) (omega arith)
-
-pub square_lt : (k g : ℕ) → g < 2 ^ k → g * g < 2 ^ (k + k)
-square_lt k g h = subst (λ (n : ℕ). g * g < n) (sym (pow-add 2 k k)) (lt_of_le_of_lt (mul-le-mul_left g (le_of_lt h)) (mul-lt-mul_of_pos_right h (pow_pos k)))
 
 -- ---- `isqrt` is the root, cut
 

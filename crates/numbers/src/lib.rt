@@ -16,10 +16,8 @@ pub fn sqrt(x: f32) -> f32
         return x;
     }
     let b = f32::to_bits(x);
-    if 0 < b {
-        if b < 0x7f80_0000 {
-            return f32::from_bits(root::root_bits(b));
-        }
+    if 0 < b && b < 0x7f80_0000 {
+        return f32::from_bits(root::root_bits(b));
     }
     if b % 0x8000_0000 == 0 {
         return x;

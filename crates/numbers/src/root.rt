@@ -60,10 +60,8 @@ fn nearest_root(n: u64) -> u64
 {
     let g = guess(n);
     let p = g * g;
-    if p < n + g {
-        if n <= p + g {
-            return g;
-        }
+    if p < n + g && n <= p + g {
+        return g;
     }
     let s = floor_root(n);
     if s * s + s < n { s + 1 } else { s }

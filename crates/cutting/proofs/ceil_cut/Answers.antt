@@ -12,8 +12,7 @@ use Rattle.cutting.proofs.ceil_cut.Goals as goal
 pub returns-then-x : goal.returns-then-x
 unfolding of_bits
 returns-then-x c =
-    let s = c in
-    c.cut-t.ensures ∙ ceil_large s.args.x (subst T (sym s.well_formed.0.1) tt) c.if-x.true
+    c.cut-t.ensures ∙ ceil_large c.args.x (subst T (sym c.well_formed.0.1) tt) c.if-x.true
 
 -- below 2 ^ 24 the cut is
 below : (n : ℕ) (x : Float) → n ≡ to_unsigned 32 x → le (fin false 1 (pos 24)) x ≡ false → n < 16777216

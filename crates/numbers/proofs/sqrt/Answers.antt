@@ -6,7 +6,7 @@ use lib.Dec.{T}
 use lib.Ieee.{Float, nan, binary32, fits, of_bits, to_bits}
 use Rattle.numbers.specs.Root.{root}
 use Rattle.numbers.proofs.RootSpecial.{nan_root, not_self, zero_root, minus_root, inf_root, pattern_lt, pattern_le, by_bits, no_number}
-use Rattle.numbers.proofs.sqrt.Goals.{Else-b-eq2139095040, Start, then-b-gt0+else-b-lt2139095040, else-b-gt0}
+use Rattle.numbers.proofs.sqrt.Goals.{Else-b-eq2139095040, Start, else-b-gt0-via-then-b-gt0+else-b-lt2139095040, else-b-gt0-via-else-b-gt0}
 use Rattle.numbers.proofs.sqrt.Goals as goal
 
 -- what owning an `f32` tells: the format holds it
@@ -39,7 +39,7 @@ below : (c : Else-b-eq2139095040) → 0x80000000 < to_bits binary32 c.args.x
 below c =
     let s = c.before.before.before.before in
     let h = pattern_le s.args.x (held s) (not_self _ c.if-x.false) in
-    elim c.if-b-gt0.branch [ then-b-gt0+else-b-lt2139095040 w ↦ omega (arith, c.if-b-eq2139095040.false, c.if-b-eq0.false) | else-b-gt0 w ↦ omega (arith, c.if-b-eq2139095040.false, c.if-b-eq0.false) ]
+    elim c.else-b-gt0.branch [ else-b-gt0-via-then-b-gt0+else-b-lt2139095040 w ↦ omega (arith, c.if-b-eq2139095040.false, c.if-b-eq0.false) | else-b-gt0-via-else-b-gt0 w ↦ omega (arith, c.if-b-eq2139095040.false, c.if-b-eq0.false) ]
 
 pub returns : goal.returns
 returns c =

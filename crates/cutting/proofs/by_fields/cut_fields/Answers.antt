@@ -14,7 +14,6 @@ use Rattle.cutting.proofs.by_fields.cut_fields.Goals as goal
 unmoved : (e t : ℕ) → t < 2 ^ 23 → e < 159 → (8388608 + t) * 2 ^ (e - 150) % 2 ^ 32 ≡ (8388608 + t) * 2 ^ (e - 150)
 unmoved e t h k = mod-eq_of_lt (lt_of_lt_of_le (shl_lt 24 (e - 150) (omega arith)) (pow_mono {j = 32} (omega arith)))
 
--- the lines of the definition, by what the tests on the way say
 module _ (s : Bool) (e t : ℕ) where
   zero : e ≡ 0 → 0 ≡ cut_fields s e t
   unfolding cut_fields
@@ -66,6 +65,7 @@ module _ (s : Bool) (e t : ℕ) where
     le-ltb 0 t k,
   )
 
+-- the lines of the definition, by what the tests on the way say
 pub returns-then-exponent-eq0 : goal.returns-then-exponent-eq0
 returns-then-exponent-eq0 c = zero _ _ _ c.if-exponent-eq0.true
 
@@ -80,8 +80,7 @@ returns-then-exponent-lt150 c = part _ _ _ c.if-exponent-lt127.false c.if-negati
 
 pub returns-then-exponent-lt159 : goal.returns-then-exponent-lt159
 returns-then-exponent-lt159 c =
-    let s = c in
-    unmoved s.args.exponent s.args.fraction s.requires c.if-exponent-lt159.true ∙ whole _ _ _ c.if-exponent-lt150.false c.if-negative.false c.if-exponent-lt159.true
+    unmoved c.args.exponent c.args.fraction c.requires c.if-exponent-lt159.true ∙ whole _ _ _ c.if-exponent-lt150.false c.if-negative.false c.if-exponent-lt159.true
 
 pub returns-then-exponent-lt255 : goal.returns-then-exponent-lt255
 returns-then-exponent-lt255 c = past _ _ _ c.if-exponent-lt159.false c.if-negative.false c.if-exponent-lt255.true

@@ -1,11 +1,7 @@
 -- `nearest_root` meets its contract: whichever way r was found, (r - 1/2)^2 < n < (r + 1/2)^2, and only one number is
 -- such.
-use native.Mathlib.Omega.{arith}
-use Rattle.numbers.proofs.RootWhole.{nearest_is, near_up, near_stay, square_lt}
+use Rattle.numbers.proofs.RootWhole.{nearest_is, near_up, near_stay}
 use Rattle.numbers.proofs.root.nearest_root.Goals as goal
-
-pub overflow_mul-p : goal.overflow_mul-p
-overflow_mul-p c = omega (arith, square_lt 32 c.guess-g.result c.guess-g.ensures)
 
 pub returns-then-n-p : goal.returns-then-n-p
 returns-then-n-p c = nearest_is _ _ c.requires (c.if-p-n.true, c.if-n-p.true)
