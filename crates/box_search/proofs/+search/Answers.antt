@@ -28,9 +28,8 @@ overflow_add-first t c = let r = c.requires in
 
 pub reach-a-requires : goal.reach-a-requires
 reach-a-requires t c =
-    let start = c in
-    let o = start.args.order.now in
-    let r = start.requires in
+    let o = c.args.order.now in
+    let r = c.requires in
     let n : 8 < length o = c.if-n-le8.false in (first_held r n).six
 
 pub boxes_below-requires : goal.boxes_below-requires
@@ -39,23 +38,20 @@ boxes_below-requires t c = let r = c.requires in
 
 pub overflow_mul-next : goal.overflow_mul-next
 overflow_mul-next t c =
-    let start = c in
-    let o = start.args.order.now in
-    let r = start.requires in
+    let o = c.args.order.now in
+    let r = c.requires in
     let n : 8 < length o = c.if-n-le8.false in omega (arith, (second_held r n c.boxes_below.ensures).six.long)
 
 pub overflow_add-next : goal.overflow_add-next
 overflow_add-next t c =
-    let start = c in
-    let o = start.args.order.now in
-    let r = start.requires in
+    let o = c.args.order.now in
+    let r = c.requires in
     let n : 8 < length o = c.if-n-le8.false in omega (arith, (second_held r n c.boxes_below.ensures).six.long)
 
 pub reach-b-requires : goal.reach-b-requires
 reach-b-requires t c =
-    let start = c in
-    let o = start.args.order.now in
-    let r = start.requires in
+    let o = c.args.order.now in
+    let r = c.requires in
     let n : 8 < length o = c.if-n-le8.false in (second_held r n c.boxes_below.ensures).six
 
 pub slice_bounds-search-count : goal.slice_bounds-search-count
@@ -65,11 +61,10 @@ pub search-near-requires : goal.search-near-requires
 search-near-requires t c =
     let boxes-below = c.boxes_below in
     let if2 = c.if-n-le8 in
-    let start = c in
-    let o = start.args.order.now in
-    let r = start.requires in
+    let o = c.args.order.now in
+    let r = c.requires in
     let n : 8 < length o = if2.false in (
-      omega (arith, start.decreases, second_size o (length o / 2)),
+      omega (arith, c.decreases, second_size o (length o / 2)),
       second_ready r r.best_length r.best_limit n boxes-below.ensures
           c.reach-b.ensures,
     )
@@ -78,9 +73,8 @@ pub returns-then-best-a : goal.returns-then-best-a
 returns-then-best-a t c =
     let reach = c.reach-a in
     let if2 = c.if-n-le8 in
-    let start = c in
-    let o = start.args.order.now in
-    let r = start.requires in
+    let o = c.args.order.now in
+    let r = c.requires in
     let n : 8 < length o = if2.false in turned r c.search-near.ensures
     (left_out (first_ready r (second_length r c.search-near.ensures) c.search-near.ensures.limited n reach.ensures)
     c.if-best-a.true)
@@ -94,11 +88,10 @@ search-requires t c =
     let after-search = c.search-near in
     let reach = c.reach-a in
     let if2 = c.if-n-le8 in
-    let start = c in
-    let o = start.args.order.now in
-    let r = start.requires in
+    let o = c.args.order.now in
+    let r = c.requires in
     let n : 8 < length o = if2.false in (
-      omega (arith, start.decreases, length-take-le (length o / 2) o (omega arith)),
+      omega (arith, c.decreases, length-take-le (length o / 2) o (omega arith)),
       first_ready r (second_length r after-search.ensures)
           after-search.ensures.limited n reach.ensures,
     )
@@ -106,8 +99,7 @@ search-requires t c =
 pub returns-then-b-a : goal.returns-then-b-a
 returns-then-b-a t c =
     let after-search = c.search-near in
-    let start = c in
-    turned start.requires after-search.ensures c.search.ensures
+    turned c.requires after-search.ensures c.search.ensures
 
 pub slice_bounds-search-end-2 : goal.slice_bounds-search-end-2
 slice_bounds-search-end-2 t c = let o = c.args.order.now in
@@ -117,20 +109,18 @@ pub search-near-requires-2 : goal.search-near-requires-2
 search-near-requires-2 t c =
     let reach = c.reach-a in
     let if2 = c.if-n-le8 in
-    let start = c in
-    let o = start.args.order.now in
-    let r = start.requires in
+    let o = c.args.order.now in
+    let r = c.requires in
     let n : 8 < length o = if2.false in
-    (omega (arith, start.decreases, length-take-le (length o / 2) o (omega arith)), first_ready r r.best_length r.best_limit n reach.ensures)
+    (omega (arith, c.decreases, length-take-le (length o / 2) o (omega arith)), first_ready r r.best_length r.best_limit n reach.ensures)
 
 pub returns-then-best-b : goal.returns-then-best-b
 returns-then-best-b t c =
     let reach2 = c.reach-b in
     let boxes-below = c.boxes_below in
     let if2 = c.if-n-le8 in
-    let start = c in
-    let o = start.args.order.now in
-    let r = start.requires in
+    let o = c.args.order.now in
+    let r = c.requires in
     let n : 8 < length o = if2.false in in_turn r c.search-near-2.ensures
     (left_out (second_ready r (first_size r c.search-near-2.ensures) c.search-near-2.ensures.limited n boxes-below.ensures
     reach2.ensures) c.if-best-b.true)
@@ -144,11 +134,10 @@ search-requires-2 t c =
     let reach2 = c.reach-b in
     let boxes-below = c.boxes_below in
     let if2 = c.if-n-le8 in
-    let start = c in
-    let o = start.args.order.now in
-    let r = start.requires in
+    let o = c.args.order.now in
+    let r = c.requires in
     let n : 8 < length o = if2.false in (
-      omega (arith, start.decreases, second_size o (length o / 2)),
+      omega (arith, c.decreases, second_size o (length o / 2)),
       second_ready r (first_size r search3.ensures) search3.ensures.limited n
           boxes-below.ensures reach2.ensures,
     )
@@ -156,5 +145,4 @@ search-requires-2 t c =
 pub returns : goal.returns
 returns t c =
     let search3 = c.search-near-2 in
-    let start = c in
-    in_turn start.requires search3.ensures c.search-2.ensures
+    in_turn c.requires search3.ensures c.search-2.ensures

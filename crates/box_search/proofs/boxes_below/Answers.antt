@@ -1,8 +1,6 @@
 use native.Mathlib.Omega.{arith}
 use borrow.Author.Tests.{le-leb, lt-leb}
 use Rattle.box_search.specs.Boxes.{boxes_below}
-use Rattle.box_search.proofs.boxes_below.Reads as reads
-use Rattle.box_search.proofs.boxes_below.Lts as lts
 use Rattle.box_search.proofs.boxes_below.Goals as goal
 
 pub returns-then-n-le8 : goal.returns-then-n-le8

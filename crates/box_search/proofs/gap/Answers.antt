@@ -1,8 +1,4 @@
 use Rattle.box_search.proofs.Bounds.{gap_of}
-use Rattle.box_search.proofs.gap.Reads as reads
-use Rattle.box_search.proofs.gap.Lts as lts
-use Rattle.nearest.proofs.greater.Reads as greater-reads
-use Rattle.nearest.proofs.lesser.Reads as lesser-reads
 use Rattle.box_search.proofs.gap.Goals as goal
 
 pub returns : goal.returns

@@ -1,11 +1,5 @@
 use native.Mathlib.Omega.{arith}
 use Rattle.box_search.proofs.Bounds.{reach_is, gap_is, six_at}
-use Rattle.box_search.proofs.reach.Reads as reads
-use Rattle.box_search.proofs.reach.Lts as lts
-use Rattle.box_search.proofs.gap.Reads as gap-reads
-use Rattle.box_search.proofs.word_at.Reads as word-at-reads
-use Rattle.vector.proofs.magnitude_squared.Reads as magnitude-squared-reads
-use Rattle.vector.proofs.point.Reads as point-reads
 use Rattle.box_search.proofs.reach.Goals as goal
 
 pub word_at-requires : goal.word_at-requires
@@ -50,9 +44,8 @@ returns c =
     let gap = c.gap-x in
     let word-at2 = c.word_at-2 in
     let word_at = c.word_at in
-    let start = c in
-    reach_is start.args.words.now start.args.at start.args.spot
-    (gap_is start.args.spot.x word_at.ensures word-at2.ensures gap.ensures)
-    (gap_is start.args.spot.y word-at3.ensures word-at4.ensures gap2.ensures)
-    (gap_is start.args.spot.z word-at5.ensures c.word_at-6.ensures c.gap-z.ensures)
+    reach_is c.args.words.now c.args.at c.args.spot
+    (gap_is c.args.spot.x word_at.ensures word-at2.ensures gap.ensures)
+    (gap_is c.args.spot.y word-at3.ensures word-at4.ensures gap2.ensures)
+    (gap_is c.args.spot.z word-at5.ensures c.word_at-6.ensures c.gap-z.ensures)
     c.point.ensures c.magnitude_squared.ensures

@@ -4,6 +4,5 @@ use Rattle.cell_bounds.proofs.bounds_of.Goals as goal
 
 pub returns : goal.returns
 returns c =
-    let s = c in
-    holding s.args.grid s.args.cell s.args.range _ _ _ c.interval-x.ensures c.interval-y.ensures
+    holding c.args.grid c.args.cell c.args.range _ _ _ c.interval-x.ensures c.interval-y.ensures
     c.interval-z.ensures

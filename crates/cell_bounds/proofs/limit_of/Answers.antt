@@ -14,6 +14,5 @@ farthest-z-requires c = c.requires.z_finite
 
 pub returns : goal.returns
 returns c =
-    let s = c in
-    reaching s.args.bounds s.args.place _ _ _ _ s.requires c.farthest-x.ensures c.farthest-y.ensures
+    reaching c.args.bounds c.args.place _ _ _ _ c.requires c.farthest-x.ensures c.farthest-y.ensures
     c.farthest-z.ensures refl

@@ -6,9 +6,8 @@ use Rattle.grid.proofs.build_spatial_grid.Goals as goal
 
 pub returns : goal.returns
 returns c =
-    let s = c in
     let f = c.fill_cells in (
-      ap (λ (p : Point3f). record { cell_size = s.args.cell_size; bounds_min = p }) c.bounds_min.ensures,
-      record { few = s.requires.0; room = omega (arith, s.requires.2, f.auto.w); cells = f.ensures.0 },
+      ap (λ (p : Point3f). record { cell_size = c.args.cell_size; bounds_min = p }) c.bounds_min.ensures,
+      record { few = c.requires.0; room = omega (arith, c.requires.2, f.auto.w); cells = f.ensures.0 },
       f.ensures.1,
     )

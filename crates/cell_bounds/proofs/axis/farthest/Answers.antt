@@ -5,9 +5,8 @@ use Rattle.cell_bounds.proofs.axis.farthest.Goals as goal
 
 pub returns-then-holds_place : goal.returns-then-holds_place
 returns-then-holds_place c =
-    let s = c in
-    reaching_tested s.args.v s.args.lo s.args.hi s.requires (sym c.holds_place.ensures ∙ c.if-holds_place.true) _
+    reaching_tested c.args.v c.args.lo c.args.hi c.requires (sym c.holds_place.ensures ∙ c.if-holds_place.true) _
     c.max.ensures
 
 pub returns : goal.returns
-returns c = let s = c in reaching_none s.args.v s.args.lo s.args.hi s.requires
+returns c = reaching_none c.args.v c.args.lo c.args.hi c.requires

@@ -7,25 +7,22 @@ use Rattle.cell_bounds.proofs.axis.holds_place.Goals as goal
 pub returns-then-lo-v : goal.returns-then-lo-v
 unfolding holds_place
 returns-then-lo-v c =
-    let s = c in
-    let lo : ordinary s.args.lo ≡ true = sym c.is_ordinary.ensures ∙ c.if-is_ordinary.true in
-    let hi : ordinary s.args.hi ≡ true = sym c.is_ordinary-then-is_ordinary.ensures ∙ c.if-is_ordinary-2.true in
+    let lo : ordinary c.args.lo ≡ true = sym c.is_ordinary.ensures ∙ c.if-is_ordinary.true in
+    let hi : ordinary c.args.hi ≡ true = sym c.is_ordinary-then-is_ordinary.ensures ∙ c.if-is_ordinary-2.true in
     rw (lo, hi, c.if-lo-v.true)
 
 pub returns-else-lo-v : goal.returns-else-lo-v
 unfolding holds_place
 returns-else-lo-v c =
-    let s = c in
-    let lo : ordinary s.args.lo ≡ true = sym c.is_ordinary.ensures ∙ c.if-is_ordinary.true in
-    let hi : ordinary s.args.hi ≡ true = sym c.is_ordinary-then-is_ordinary.ensures ∙ c.if-is_ordinary-2.true in
+    let lo : ordinary c.args.lo ≡ true = sym c.is_ordinary.ensures ∙ c.if-is_ordinary.true in
+    let hi : ordinary c.args.hi ≡ true = sym c.is_ordinary-then-is_ordinary.ensures ∙ c.if-is_ordinary-2.true in
     rw (lo, hi, c.if-lo-v.false)
 
 pub returns-else-is_ordinary-2 : goal.returns-else-is_ordinary-2
 unfolding holds_place
 returns-else-is_ordinary-2 c =
-    let s = c in
-    let lo : ordinary s.args.lo ≡ true = sym c.is_ordinary.ensures ∙ c.if-is_ordinary.true in
-    let hi : ordinary s.args.hi ≡ false = sym c.is_ordinary-then-is_ordinary.ensures ∙ c.if-is_ordinary-2.false in
+    let lo : ordinary c.args.lo ≡ true = sym c.is_ordinary.ensures ∙ c.if-is_ordinary.true in
+    let hi : ordinary c.args.hi ≡ false = sym c.is_ordinary-then-is_ordinary.ensures ∙ c.if-is_ordinary-2.false in
     rw (lo, hi) c.if-is_ordinary-2.false
 
 pub returns-else-is_ordinary : goal.returns-else-is_ordinary

@@ -4,5 +4,5 @@ use Rattle.cell_bounds.proofs.axis.interval.Goals as goal
 
 pub returns : goal.returns
 returns c =
-    let s = c in holding_on s.args.size s.args.least s.args.range s.args.cell _ _ c.lower_end-lo.ensures
+    holding_on c.args.size c.args.least c.args.range c.args.cell _ _ c.lower_end-lo.ensures
     c.upper_end-hi.ensures

@@ -5,9 +5,8 @@ use Rattle.cell_bounds.proofs.axis.lower_end.Goals as goal
 
 pub returns-then-own-range : goal.returns-then-own-range
 returns-then-own-range c =
-    let s = c in
-    lower_tested s.args.size s.args.least s.args.v (sym c.is_usable.ensures ∙ c.if-is_usable.true)
-    s.args.range s.args.cell _ c.cell_on-own.ensures c.if-own-range.true
+    lower_tested c.args.size c.args.least c.args.v (sym c.is_usable.ensures ∙ c.if-is_usable.true)
+    c.args.range c.args.cell _ c.cell_on-own.ensures c.if-own-range.true
 
 pub returns : goal.returns
-returns c = let s = c in lower_none s.args.size s.args.least s.args.range s.args.cell
+returns c = lower_none c.args.size c.args.least c.args.range c.args.cell

@@ -5,9 +5,8 @@ use Rattle.cell_bounds.proofs.axis.upper_end.Goals as goal
 
 pub returns-then-cell-range : goal.returns-then-cell-range
 returns-then-cell-range c =
-    let s = c in
-    upper_tested s.args.size s.args.least s.args.v (sym c.is_usable.ensures ∙ c.if-is_usable.true)
-    s.args.range s.args.cell _ c.cell_on-own.ensures c.if-cell-range.true
+    upper_tested c.args.size c.args.least c.args.v (sym c.is_usable.ensures ∙ c.if-is_usable.true)
+    c.args.range c.args.cell _ c.cell_on-own.ensures c.if-cell-range.true
 
 pub returns : goal.returns
-returns c = let s = c in upper_none s.args.size s.args.least s.args.range s.args.cell
+returns c = upper_none c.args.size c.args.least c.args.range c.args.cell
