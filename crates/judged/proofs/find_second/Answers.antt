@@ -8,13 +8,6 @@ use Rattle.judged.proofs.find_second.Goals as goal
 pub loop-m-init : goal.loop-m-init
 loop-m-init c = seek_start (has_third c.args.s c.args.points.now c.args.radius (neighbors_listed c.args.s c.args.w.now c.args.count) c.args.i) c.requires.0.held c.requires.1
 
-pub listed_point-j-requires : goal.listed_point-j-requires
-listed_point-j-requires c =
-    (c.requires.0.held.few, c.requires.0.held.work_long, c.requires.1, c.loop-m-test.true)
-
-pub has_third-requires : goal.has_third-requires
-has_third-requires c = (c.requires.0, c.requires.1, c.listed_point-j.ensures.1)
-
 pub returns-then-has_third : goal.returns-then-has_third
 returns-then-has_third c =
     seek_hit (has_third c.args.s c.args.points.now c.args.radius (neighbors_listed c.args.s c.args.w.now c.args.count) c.args.i) c.loop-m.invariant c.loop-m-test.true c.listed_point-j.ensures.0 c.has_third.ensures

@@ -7,13 +7,6 @@ use Rattle.judged.proofs.find_third.Goals as goal
 pub loop-m-init : goal.loop-m-init
 loop-m-init c = seek_start (is_beside_both c.args.s c.args.points.now c.args.radius c.args.i c.args.j) c.requires.0.held c.requires.1
 
-pub listed_point-k-requires : goal.listed_point-k-requires
-listed_point-k-requires c =
-    (c.requires.0.held.few, c.requires.0.held.work_long, c.requires.1, c.loop-m-test.true)
-
-pub is_beside_both-requires : goal.is_beside_both-requires
-is_beside_both-requires c = (c.requires.0, c.requires.2, c.listed_point-k.ensures.1)
-
 pub returns-then-is_beside_both : goal.returns-then-is_beside_both
 returns-then-is_beside_both c =
     seek_hit (is_beside_both c.args.s c.args.points.now c.args.radius c.args.i c.args.j) c.loop-m.invariant c.loop-m-test.true c.listed_point-k.ensures.0

@@ -8,10 +8,6 @@ use Rattle.judged.proofs.is_any_judged.Goals as goal
 pub loop-i-init : goal.loop-i-init
 loop-i-init c = ask_start c.requires
 
-pub is_first-requires : goal.is_first-requires
-is_first-requires c =
-    (c.loop-i.invariant.fresh, omega (arith, c.loop-i-test.true), omega (arith, c.loop-i-test.true))
-
 pub shape_of-w-then-is_first : goal.shape_of-w-then-is_first
 shape_of-w-then-is_first c =
     c.is_first.auto.w ∙ c.loop-i.invariant.words
@@ -23,9 +19,6 @@ pub loop-i-preserved : goal.loop-i-preserved
 loop-i-preserved c =
     ask_next c.loop-i.invariant c.is_first.new.w c.is_first.ensures.0
     c.if-is_first.false c.is_first.ensures.1 c.is_first.auto.w
-
-pub shape_of-w : goal.shape_of-w
-shape_of-w c = c.loop-i.invariant.words
 
 pub returns : goal.returns
 returns c = ask_none c.loop-i.invariant (λ t. omega (arith, t.point, t.tried, c.loop-i-test.false))

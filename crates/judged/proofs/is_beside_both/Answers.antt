@@ -5,9 +5,6 @@ use borrow.Author.Tests.{eq-eqb, ne_eqb}
 use Rattle.judged.specs.Inner.Triples.{is_beside_both}
 use Rattle.judged.proofs.is_beside_both.Goals as goal
 
-pub is_beside-requires : goal.is_beside-requires
-is_beside-requires c = (c.requires.0, c.requires.2)
-
 pub is_close-requires : goal.is_close-requires
 is_close-requires c =
     let p = c.requires in

@@ -1,6 +1,5 @@
 -- `is_first` meets its contract: whoever makes a triple with point i is gathered. Assumes nothing.
 use mathlib.Core.Path.{sym, ◌∙◌, subst}
-use native.Mathlib.Omega.{arith}
 use Rattle.vector.specs.Inner.Numbers.{Finite}
 use Rattle.vector.specs.declared.Point3f.{Point3f}
 use Rattle.decisions.specs.Decisions.{reach}
@@ -9,9 +8,6 @@ use Rattle.nearby.proofs.Keeping.{held_kept, cells_kept}
 use Rattle.nearby.proofs.Narrowing.{collected_listed}
 use Rattle.judged.proofs.Triples.{first_told}
 use Rattle.judged.proofs.is_first.Goals as goal
-
-pub point_at-place-requires : goal.point_at-place-requires
-point_at-place-requires c = omega (arith, c.requires.1, c.requires.0.held.points_long)
 
 pub gather_near-count-requires : goal.gather_near-count-requires
 gather_near-count-requires c =

@@ -1,4 +1,3 @@
-use native.Mathlib.Omega.{arith}
 use lib.ListN.{get_or}
 use mathlib.Core.Path.{ap}
 use Rattle.lists.proofs.Members.{in_at}
@@ -10,16 +9,10 @@ use Rattle.nearest.proofs.scan.Goals as goal
 pub loop-number-init : goal.loop-number-init
 loop-number-init c = left_start _ _ _ c.requires.best_limited
 
-pub overflow_cast-number : goal.overflow_cast-number
-overflow_cast-number c = omega (arith, c.type_inv.order c.loop-number.number-index)
-
 pub point_at-p-requires : goal.point_at-p-requires
 point_at-p-requires c =
     let o = c.args.order.now in c.requires.numbers_of_points
     (get_or o c.loop-number.number-index 0) (in_at o c.loop-number.number-index c.loop-number-test.true)
-
-pub closer-found-requires : goal.closer-found-requires
-closer-found-requires c = c.loop-number.invariant.limited
 
 pub loop-number-preserved : goal.loop-number-preserved
 loop-number-preserved c =

@@ -1,4 +1,3 @@
-use native.Mathlib.Omega.{arith}
 use lib.ListN.{get_or}
 use Rattle.lists.proofs.Members.{in_at}
 use Rattle.nearest.proofs.Settling.{seen_start, seen_next, seen_end}
@@ -6,9 +5,6 @@ use Rattle.nearest.proofs.two_least.Goals as goal
 
 pub loop-number-init : goal.loop-number-init
 loop-number-init c = seen_start _ _
-
-pub overflow_cast-number : goal.overflow_cast-number
-overflow_cast-number c = omega (arith, c.type_inv.order c.loop-number.number-index)
 
 pub point_at-p-requires : goal.point_at-p-requires
 point_at-p-requires c =

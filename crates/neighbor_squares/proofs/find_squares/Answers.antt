@@ -17,9 +17,6 @@ returns-then-kept-eq10 c =
     let q = c.look_within-kept.ensures in
     record { few = q.few; decided = q.full c.if-kept-eq10.true; kept = kept_then c.loop-look.invariant.2 q.kept }
 
-pub wider-limit-requires : goal.wider-limit-requires
-wider-limit-requires c = c.look_within-kept.ensures.few
-
 pub loop-look-preserved : goal.loop-look-preserved
 loop-look-preserved c =
     let l = c.loop-look in

@@ -12,10 +12,3 @@ pub returns-then-is_wide : goal.returns-then-is_wide
 returns-then-is_wide c =
     let q = c.look_everywhere in
     record { few = q.ensures.1; decided = q.ensures.0; kept = record { front = q.ensures.2; before = refl; after = refl } }
-
-pub look_in_range-requires : goal.look_in_range-requires
-look_in_range-requires c =
-    (c.requires.0, c.requires.1, c.is_wide.ensures c.if-is_wide.false)
-
-pub returns : goal.returns
-returns c = c.look_in_range.ensures

@@ -6,15 +6,9 @@ use Rattle.vector.specs.Inner.Numbers.{Finite}
 use Rattle.neighbor_squares.proofs.Deciding.{found_in_range}
 use Rattle.neighbor_squares.proofs.look_in_range.Goals as goal
 
-pub point_at-place-requires : goal.point_at-place-requires
-point_at-place-requires c = omega (arith, c.requires.0.inside, c.requires.0.hashed.linked.ready.points_long)
-
 pub limit_of-limit-requires : goal.limit_of-limit-requires
 limit_of-limit-requires c =
     subst (λ (p : Point3f). Finite p) (sym c.point_at-place.ensures) (c.requires.0.hashed.linked.ready.numbers c.args.i c.requires.0.inside)
-
-pub gather-found-requires : goal.gather-found-requires
-gather-found-requires c = c.requires.0.hashed.linked
 
 pub least_squares-requires : goal.least_squares-requires
 least_squares-requires c =

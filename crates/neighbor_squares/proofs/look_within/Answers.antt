@@ -6,9 +6,6 @@ use Rattle.vector.specs.Inner.Numbers.{Finite}
 use Rattle.neighbor_squares.proofs.Deciding.{looked}
 use Rattle.neighbor_squares.proofs.look_within.Goals as goal
 
-pub point_at-place-requires : goal.point_at-place-requires
-point_at-place-requires c = omega (arith, c.requires.inside, c.requires.hashed.linked.ready.points_long)
-
 pub gather_within-found-requires : goal.gather_within-found-requires
 gather_within-found-requires c = (
   c.requires.hashed.linked,

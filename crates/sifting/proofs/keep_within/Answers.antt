@@ -22,8 +22,5 @@ loop-m-preserved c =
       | else-is_within w ↦ rw w.kept-is (sift_skip c.requires c.loop-m.invariant c.loop-m-test.true c.is_within.ensures w.if-is_within.false)
     ]
 
-pub shape_of-w : goal.shape_of-w
-shape_of-w c = c.loop-m.invariant.same
-
 pub returns : goal.returns
 returns c = sift_end c.requires c.loop-m.invariant c.loop-m-test.false

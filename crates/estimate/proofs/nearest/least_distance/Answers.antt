@@ -1,12 +1,9 @@
 -- A look that finds a square not above its limit decides, and the last one always does. Assumes nothing.
-use mathlib.Core.Path.{refl, sym, ◌∙◌, subst}
+use mathlib.Core.Path.{sym, ◌∙◌, subst}
 use lib.Dec.{T}
 use lib.Ieee.{Float, le}
 use borrow.Author.Rules.{rules}
 use Rattle.estimate.proofs.nearest.least_distance.Goals as goal
-
-pub loop-look-init : goal.loop-look-init
-loop-look-init c = (c.requires.1, refl)
 
 pub returns-then-s-limit : goal.returns-then-s-limit
 returns-then-s-limit c =

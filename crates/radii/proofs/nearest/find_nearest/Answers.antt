@@ -11,12 +11,6 @@ use Rattle.neighbor_squares.specs.Inner.Squares.{is_neighbor_cell, least_squares
 use Rattle.radii.proofs.Distances.{nearest_is}
 use Rattle.radii.proofs.nearest.find_nearest.Goals as goal
 
-pub point_at-requires : goal.point_at-requires
-point_at-requires c = omega (arith, c.requires.0, c.requires.2.linked.ready.points_long)
-
-pub clear_tenth-requires : goal.clear_tenth-requires
-clear_tenth-requires c = (c.requires.2.linked.ready.few, c.requires.1)
-
 pub find_squares-kept-requires : goal.find_squares-kept-requires
 find_squares-kept-requires c =
     let clear-tenth = c.clear_tenth in

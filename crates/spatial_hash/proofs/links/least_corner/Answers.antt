@@ -15,9 +15,3 @@ loop-i-init c = subst Finite (sym c.point_at-least.ensures) (c.requires.2 0 (ome
 pub lower-least-requires : goal.lower-least-requires
 lower-least-requires c =
     (c.loop-i.invariant, subst Finite (sym c.point_at.ensures) (c.requires.2 c.loop-i.i c.loop-i-test.true))
-
-pub loop-i-preserved : goal.loop-i-preserved
-loop-i-preserved c = c.lower-least.ensures
-
-pub returns : goal.returns
-returns c = c.loop-i.invariant

@@ -25,8 +25,5 @@ loop-j-preserved c =
     linking_step c.args.hash c.args.points.now c.args.n c.args.w.now l.w _ l.j bucket-of.result c.requires loop-test.true
     (bucket-of.ensures ∙ ap (bucket_of c.args.hash) point_at_lem.ensures) c.link_point.ensures l.invariant
 
-pub shape_of-w : goal.shape_of-w
-shape_of-w c = c.loop-j.invariant.length_same
-
 pub returns : goal.returns
 returns c = (linking_end _ _ _ _ c.loop-j.w c.loop-j.j c.loop-j-test.false c.loop-j.invariant, c.loop-j.invariant.before)

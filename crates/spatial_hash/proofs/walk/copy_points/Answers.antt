@@ -10,8 +10,5 @@ loop-i-preserved c =
     let l = c.loop-i in copying_step _ _ _ _ _ l.w _ _ c.loop-i-test.true c.requires.3
     c.requires.4 c.requires.1 l.invariant
 
-pub shape_of-w : goal.shape_of-w
-shape_of-w c = c.loop-i.invariant.appended.length_same
-
 pub returns : goal.returns
 returns c = copying_end _ _ _ _ _ _ _ _ c.loop-i-test.false c.loop-i.invariant

@@ -35,16 +35,10 @@ visit_row-total-requires c = let m = c.args.hash.side in
           c.loop-done-test.true l.invariant,
     )
 
-pub next-y-requires : goal.next-y-requires
-next-y-requires c = c.loop-done.invariant.below
-
 pub loop-done-preserved : goal.loop-done-preserved
 loop-done-preserved c =
     visiting_step (plane_splits c.args.hash c.args.points.now c.args.n c.args.x (spanned c.args.hash.side c.args.zs))
     c.loop-done-test.true c.loop-done.invariant c.visit_row-total.ensures c.next-y.ensures
-
-pub shape_of-w : goal.shape_of-w
-shape_of-w c = c.loop-done.invariant.walking.length_same
 
 pub returns : goal.returns
 returns c = visiting_end (plane_splits c.args.hash c.args.points.now c.args.n c.args.x (spanned c.args.hash.side c.args.zs))

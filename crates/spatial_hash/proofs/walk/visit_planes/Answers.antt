@@ -18,16 +18,10 @@ visit_plane-total-requires c = let l = c.loop-done in (
       c.loop-done-test.true l.invariant,
 )
 
-pub next-x-requires : goal.next-x-requires
-next-x-requires c = c.loop-done.invariant.below
-
 pub loop-done-preserved : goal.loop-done-preserved
 loop-done-preserved c =
     visiting_step (box_splits c.args.hash c.args.points.now c.args.n (spanned c.args.hash.side c.args.ys)
     (spanned c.args.hash.side c.args.zs)) c.loop-done-test.true c.loop-done.invariant c.visit_plane-total.ensures c.next-x.ensures
-
-pub shape_of-w : goal.shape_of-w
-shape_of-w c = c.loop-done.invariant.walking.length_same
 
 pub returns : goal.returns
 returns c = visiting_end (box_splits c.args.hash c.args.points.now c.args.n (spanned c.args.hash.side c.args.ys)
