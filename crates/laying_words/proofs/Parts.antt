@@ -1,7 +1,7 @@
 -- Entries taken and pushed, points marked, a face written. Assumes nothing.
 use Prim.Native.Nat.{ℕ, ◌+◌, ◌-◌, ◌*◌, ◌≤◌, ◌<◌}
 use mathlib.Core.Path.{◌≡◌, sym, ap, ap₂, ◌∙◌}
-use mathlib.Core.List.{List, [], ◌∷◌, ◌++◌, append_assoc}
+use mathlib.Core.List.{List, [], ◌∷◌}
 use native.Mathlib.Omega.{arith}
 use lib.ListN.{length, get_or, take, drop, set, length-drop}
 use lib.Seq.{get_or-take, drop-set-add, take-set-lt}
@@ -9,8 +9,8 @@ use borrow.Rule.Slice.PartMut.{put_mid}
 use Rattle.patch.specs.Lay.{face, marked}
 use Rattle.patch.specs.Frontier.{after_pop}
 use Rattle.patch.proofs.View.{written_more, written_full, length_written}
-use Rattle.laying_words.specs.Inner.Words.{entries_in, WordsSized, Taken, Pushed, WordsMarked, WroteFace}
-use Rattle.laying_words.proofs.Slices.{only_set, only_wider, only_both, word_stored, tail_is, back, only_tail}
+use Rattle.laying_words.specs.Inner.Words.{WordsSized, Taken, WordsMarked, WroteFace}
+use Rattle.laying_words.proofs.Slices.{only_set, only_wider, only_both, tail_is, back, only_tail}
 
 module _ (n first count : ℕ) (w ys : List ℕ) (r : ℕ) (sized : WordsSized n w) (some-wait : 0 < count) (few : first + count ≤ 3 * n) where
   pub taken : let at = 6 * n + first in
@@ -28,28 +28,6 @@ module _ (n first count : ℕ) (w ys : List ℕ) (r : ℕ) (sized : WordsSized n
             (only_tail (6 * n + first) w inside count (9 * n) ys (omega arith) (long ∙ ap length t ∙ length-drop (6 * n + first) w)
             (same ∙ ap (λ (l : List ℕ). drop count l) t));
       }
-
-pub pushed_one : (n end entry : ℕ) (w : List ℕ) → WordsSized n w → end + 1 ≤ 3 * n → Pushed n end (entry ∷ []) w (set w (6 * n + end) entry)
-pushed_one n end entry w sized few = record {
-  entries = λ first count e.
-      let at : 6 * n + end ≡ 6 * n + first + count = omega arith in
-      ap (λ (i : ℕ). entries_in n first (count + 1) (set w i entry)) at ∙ word_stored w (6 * n + first) count entry (omega (arith, sized.long));
-  only = only_set (6 * n) (9 * n) w (6 * n + end) entry (omega arith) (omega arith);
-}
-
-pub pushed_three : (n end x y z : ℕ) (w w1 w2 w3 : List ℕ) → Pushed n end (x ∷ []) w w1 → Pushed n (end + 1) (y ∷ []) w1 w2 → Pushed n (end + 2) (z ∷ []) w2 w3
-    → Pushed n end (x ∷ y ∷ z ∷ []) w w3
-pushed_three n end x y z w w1 w2 w3 p q r = record {
-  entries = λ first count e.
-      let two : count + 2 ≡ count + 1 + 1 = omega arith in
-      let three : count + 3 ≡ count + 2 + 1 = omega arith in
-      let old : List ℕ = entries_in n first count w in
-      ap (λ (m : ℕ). entries_in n first m w3) three ∙ r.entries first (count + 2) (omega arith)
-      ∙ ap (λ (l : List ℕ). l ++ (z ∷ []))
-      (ap (λ (m : ℕ). entries_in n first m w2) two ∙ q.entries first (count + 1) (omega arith) ∙ ap (λ (l : List ℕ). l ++ (y ∷ [])) (p.entries first count e))
-      ∙ append_assoc (old ++ (x ∷ [])) (y ∷ []) (z ∷ []) ∙ append_assoc old (x ∷ []) (y ∷ z ∷ []);
-  only = only_both (only_both p.only q.only) r.only;
-}
 
 pub marked_one : (n k : ℕ) (w : List ℕ) → k < n → WordsMarked n (k ∷ []) w (set w (5 * n + k) 1)
 unfolding marked

@@ -31,11 +31,6 @@ pub record Turning (parent : ℕ → ℕ) (before : List ℕ) (n : ℕ) (now : L
   pub put : now ≡ sets before 0 done
   pub leads : done ++ flat (turned_from parent k (faces_from before k (n - k))) ≡ flat (turned_from parent 0 (faces_from before 0 n))
 
-pub turning_start : (parent : ℕ → ℕ) (before : List ℕ) (n : ℕ) → Turning parent before n before 0
-turning_start parent before n =
-    let all : n - 0 ≡ n = omega arith in
-    record { done = []; long = refl; put = refl; leads = ap (λ (m : ℕ). flat (turned_from parent 0 (faces_from before 0 m))) all }
-
 module _ (parent : ℕ → ℕ) (before : List ℕ) (n : ℕ) where
   left_next : (k m : ℕ) → flat (turned_from parent k (faces_from before k (suc m)))
       ≡ points_of (turned_face (looks_in parent k) (face_of before k)) ++ flat (turned_from parent (k + 1) (faces_from before (k + 1) m))

@@ -21,28 +21,49 @@ fn parent_of(origins: &[u32], face: usize) -> usize
     }
 }
 
-// A seed looks out; any other face looks out when its parent does not.
+// Whether a face looks out, where `sides` tells the side of the first faces: a seed looks out, any other face when its
+// parent looks in.
+#[cycle(told_in_told_out)]
+fn told_out(origins: &[u32], sides: &[u32], face: usize) -> bool
+    requires { HasSides origins.now sides.now (length sides.now) }
+    ensures { result ≡ looks_out (parent_in origins.now) face }
+{
+    if face < sides.len() {
+        return sides[face] == 0;
+    }
+    let parent = parent_of(origins, face);
+    if face <= parent {
+        return true;
+    }
+    told_in(origins, sides, parent)
+}
+
+// Whether a face looks in, likewise: a seed does not, any other face does when its parent looks out.
+#[cycle(told_in_told_out)]
+fn told_in(origins: &[u32], sides: &[u32], face: usize) -> bool
+    requires { HasSides origins.now sides.now (length sides.now) }
+    ensures { result ≡ looks_in (parent_in origins.now) face }
+{
+    if face < sides.len() {
+        return sides[face] != 0;
+    }
+    let parent = parent_of(origins, face);
+    if face <= parent {
+        return false;
+    }
+    told_out(origins, sides, parent)
+}
+
 pub fn looks_out(origins: &[u32], face: usize) -> bool
     ensures { result ≡ looks_out (parent_in origins.now) face }
 {
-    let parent = parent_of(origins, face);
-    face <= parent || !looks_out(origins, parent)
+    told_out(origins, &[], face)
 }
 
-// A face that does not look out looks in.
 pub fn looks_in(origins: &[u32], face: usize) -> bool
     ensures { result ≡ looks_in (parent_in origins.now) face }
 {
-    !looks_out(origins, face)
-}
-
-// Whether a face looks in, where the sides of the faces before it are told already: its parent looks out.
-fn told_in(origins: &[u32], sides: &[u32], face: usize) -> bool
-    requires { HasSides origins.now sides.now face }
-    ensures { result ≡ looks_in (parent_in origins.now) face }
-{
-    let parent = parent_of(origins, face);
-    parent < face && sides[parent] == 0
+    told_in(origins, &[], face)
 }
 
 // One pass over the first n faces: each asks which way its parent looks, which is told already.
@@ -51,7 +72,7 @@ pub fn tell_sides(origins: &[u32], sides: &mut [u32], n: usize)
     ensures { SidesWritten origins.now sides.old sides.new n }
 {
     for face in 0..n {
-        sides[face] = u32::from(told_in(origins, sides, face));
+        sides[face] = u32::from(told_in(origins, &sides[..face], face));
     }
 }
 

@@ -18,8 +18,8 @@ use Rattle.orders.proofs.Totals.{same_length}
 use Rattle.orders.proofs.Decide.{numbers_length, numbers_permute, greedy_permutes}
 use Rattle.lists.specs.Lists.{up_from}
 use Rattle.minima.specs.Inner.Minima.{Planted}
-use Rattle.corners.specs.Corners.{Links, Bound}
-use Rattle.corners.proofs.Chain.{linked_same, bound_same}
+use Rattle.corners.specs.Corners.{Links}
+use Rattle.corners.proofs.Chain.{linked_same}
 use Rattle.offers.specs.Inner.Offers.{Faces}
 use Rattle.placing.specs.Inner.Placing.{PlacedKept}
 use Rattle.placing.proofs.Keeping.{value_left}
@@ -36,9 +36,6 @@ module _ (n faces : ℕ) (few : faces ≤ n) (w0 w1 w2 w3 : List ℕ) (zeros : (
 
   front : (k : ℕ) → k < heads_end n → get_or w3 k 0 ≡ get_or w2 k 0
   front k l = planted.outside k (inl (omega arith))
-
-  pub start_bound : Bound n (3 * faces) w3
-  start_bound = bound_same n (3 * faces) (omega arith) w2 w3 front links.bound
 
   module _ (fs : List Face) (told : FacesInWords faces fs w0) where
     pub start_faces : Faces faces corner (face_at fs)

@@ -20,7 +20,7 @@ use Rattle.orders.proofs.Points.{neighbours_sym, any_cons}
 use Rattle.minima.specs.Inner.Minima.{Nodes, leaf, Outside, Renewed}
 use Rattle.minima.proofs.Trees.{nodes_same}
 use Rattle.corners.specs.Corners.{CornersLinked, Bound}
-use Rattle.corners.proofs.Chain.{linked_same, bound_same}
+use Rattle.corners.proofs.Chain.{linked_same}
 use Rattle.offers.specs.Inner.Offers.{offered, Faces, Meets}
 use Rattle.offers.proofs.Walk.{offered_left, offered_kept, offered_no}
 use Rattle.regions.specs.Inner.Ordering.{reached_words_at, tree_at, tree_end}
@@ -83,39 +83,9 @@ pub front_same : (n faces : ℕ) (v w : List ℕ) → Outside (tree_at n) faces 
 front_same n faces v w o k l = o k (inl (omega arith))
 
 module _ (n faces a b c : ℕ) (ab bc ca : Bool) (few : faces ≤ n) (w u : List ℕ) where
-  pub around_first : Opens n faces a b ab false w u → Arounds n faces a b c ab bc ca false w u
-  around_first o = record {
-    nodes = o.nodes;
-    outside = o.outside;
-    sides = λ corner at linked held p q r.
-        let h = o.side corner at linked held p in
-        record {
-          leaves = λ t. absurd (true_not_false t refl);
-          few_ab = λ t. absurd (true_not_false t refl);
-          few_bc = λ t. absurd (true_not_false t refl);
-          few_ca = λ t. absurd (true_not_false t refl);
-          crowd = λ _. (edge a b, h.crowd refl);
-        };
-  }
-
   module _ (v : List ℕ) (one : Opens n faces a b ab true w u) where
     keep : (corner : ℕ → ℕ) → CornersLinked n (3 * faces) corner w → CornersLinked n (3 * faces) corner u
     keep corner = linked_same n (3 * faces) (omega arith) w u (front_same n faces w u one.outside) corner
-
-    pub around_second : Opens n faces b c bc false u v → Arounds n faces a b c ab bc ca false w v
-    around_second o = record {
-      nodes = λ h. o.nodes (one.nodes h);
-      outside = λ k s. o.outside k s ∙ one.outside k s;
-      sides = λ corner at linked held p q r.
-          let h = o.side corner at (keep corner linked) held q in
-          record {
-            leaves = λ t. absurd (true_not_false t refl);
-            few_ab = λ t. absurd (true_not_false t refl);
-            few_bc = λ t. absurd (true_not_false t refl);
-            few_ca = λ t. absurd (true_not_false t refl);
-            crowd = λ _. (edge b c, h.crowd refl);
-          };
-    }
 
     pub around_third : (z : List ℕ) (r : Bool) → Opens n faces b c bc true u v → Opens n faces c a ca r v z → Arounds n faces a b c ab bc ca r w z
     around_third z r two o = record {
@@ -510,18 +480,6 @@ module _ (n faces i : ℕ) (few : faces ≤ n) (below : i < faces) (w : List ℕ
 
     opens_is : (x y p q : Bool) → x ≡ p → y ≡ q → opens x y ≡ not (p && q)
     opens_is x y p q e f = (λ k. opens (e k) (f k)) ∙ opens_both p q
-
-  -- with its points reached no head or link has changed
-  pub marked_bound : (u m : List ℕ) → Renewed (tree_at n) faces i (2 * faces) w u → m
-      ≡ set (set (set u (reached_words_at n + a) 1) (reached_words_at n + b) 1) (reached_words_at n + c) 1 → Bound n (3 * faces) m
-  marked_bound u m r is =
-      bound_same n (3 * faces) (omega arith) w m
-      (λ k l.
-      ap (λ (z : List ℕ). get_or z k 0) is
-      ∙ three_else (reached_words_at n) u (face a b c) k (λ (q : k ≡ reached_words_at n + a). omega arith) (λ (q : k ≡ reached_words_at n + b). omega arith)
-      (λ (q : k ≡ reached_words_at n + c). omega arith)
-      ∙ r.outside k (inl (omega arith)))
-      bound
 
   module _ (shared : Bool) where
     pub place_unfit : fitting (bit ua + bit ub + bit uc) shared ≡ false → Places n faces i shared false w w

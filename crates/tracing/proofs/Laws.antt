@@ -52,11 +52,6 @@ pub record Tracing (marks faces : List ℕ) (total : ℕ) (w₀ origins₀ w ori
   pub written : origins ≡ sets origins₀ 0 done
   pub leads : done ++ origins_from marks k w (faces_from faces k (total - k)) ≡ origins_from marks 0 w₀ (faces_from faces 0 total)
 
-pub tracing_start : (marks faces : List ℕ) (total : ℕ) (w₀ origins₀ : List ℕ) → Tracing marks faces total w₀ origins₀ w₀ origins₀ 0
-tracing_start marks faces total w₀ origins₀ =
-    let all : total - 0 ≡ total = omega arith in
-    record { done = []; long = refl; written = refl; leads = ap (λ (m : ℕ). origins_from marks 0 w₀ (faces_from faces 0 m)) all }
-
 module _ (marks faces : List ℕ) (total : ℕ) (w₀ origins₀ : List ℕ) where
   left_next : (w : List ℕ) (k m : ℕ) → origins_from marks k w (faces_from faces k (suc m))
       ≡ parent_at k w (face_of faces k) ∷ place_of marks k ∷ origins_from marks (k + 1) (brought_after k w (face_of faces k)) (faces_from faces (k + 1) m)

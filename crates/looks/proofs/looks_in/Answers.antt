@@ -1,7 +1,5 @@
-use mathlib.Core.Path.{sym, ap, ◌∙◌}
-use mathlib.Core.Bool.{not}
-use Rattle.origins.proofs.Looking.{in_not_out}
+use Rattle.looks.proofs.Laws.{none_told}
 use Rattle.looks.proofs.looks_in.Goals as goal
 
-pub returns : goal.returns
-returns c = ap not c.looks_out.ensures ∙ sym (in_not_out _ _)
+pub told_in-requires : goal.told_in-requires
+told_in-requires c = none_told c.args.origins.now
