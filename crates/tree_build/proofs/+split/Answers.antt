@@ -22,16 +22,14 @@ returns-then-n-le8 t c = leaf_end c.requires c.bound-axis.ensures c.if-n-le8.tru
 pub divide-requires : goal.divide-requires
 divide-requires t c =
     let bound = c.bound-axis in
-    let start = c in
-    dividing start.requires bound.ensures
+    dividing c.requires bound.ensures
 
 pub slice_bounds-split-end : goal.slice_bounds-split-end
 slice_bounds-split-end t c =
     let divide = c.divide in
     let if1 = c.if-n-le8 in
     let bound = c.bound-axis in
-    let start = c in
-    let k = middle start.requires if1.false bound.ensures divide.ensures divide.auto.x divide.auto.y
+    let k = middle c.requires if1.false bound.ensures divide.ensures divide.auto.x divide.auto.y
     divide.auto.z in
     k.order_fits
 
@@ -40,18 +38,16 @@ slice_bounds-split-end-2 t c =
     let divide = c.divide in
     let if1 = c.if-n-le8 in
     let bound = c.bound-axis in
-    let start = c in
-    let k = middle start.requires if1.false bound.ensures divide.ensures divide.auto.x divide.auto.y
+    let k = middle c.requires if1.false bound.ensures divide.ensures divide.auto.x divide.auto.y
     divide.auto.z in
-    sym (length-take-le (length start.args.order.now / 2) divide.new.order k.order_fits)
+    sym (length-take-le (length c.args.order.now / 2) divide.new.order k.order_fits)
 
 pub slice_bounds-split-end-3 : goal.slice_bounds-split-end-3
 slice_bounds-split-end-3 t c =
     let divide = c.divide in
     let if1 = c.if-n-le8 in
     let bound = c.bound-axis in
-    let start = c in
-    let k = middle start.requires if1.false bound.ensures divide.ensures divide.auto.x divide.auto.y
+    let k = middle c.requires if1.false bound.ensures divide.ensures divide.auto.x divide.auto.y
     divide.auto.z in
     k.x_fits
 
@@ -60,18 +56,16 @@ slice_bounds-split-end-4 t c =
     let divide = c.divide in
     let if1 = c.if-n-le8 in
     let bound = c.bound-axis in
-    let start = c in
-    let k = middle start.requires if1.false bound.ensures divide.ensures divide.auto.x divide.auto.y
+    let k = middle c.requires if1.false bound.ensures divide.ensures divide.auto.x divide.auto.y
     divide.auto.z in
-    sym (length-take-le (length start.args.order.now / 2) divide.new.x k.x_fits)
+    sym (length-take-le (length c.args.order.now / 2) divide.new.x k.x_fits)
 
 pub slice_bounds-split-end-5 : goal.slice_bounds-split-end-5
 slice_bounds-split-end-5 t c =
     let divide = c.divide in
     let if1 = c.if-n-le8 in
     let bound = c.bound-axis in
-    let start = c in
-    let k = middle start.requires if1.false bound.ensures divide.ensures divide.auto.x divide.auto.y
+    let k = middle c.requires if1.false bound.ensures divide.ensures divide.auto.x divide.auto.y
     divide.auto.z in
     k.y_fits
 
@@ -80,18 +74,16 @@ slice_bounds-split-end-6 t c =
     let divide = c.divide in
     let if1 = c.if-n-le8 in
     let bound = c.bound-axis in
-    let start = c in
-    let k = middle start.requires if1.false bound.ensures divide.ensures divide.auto.x divide.auto.y
+    let k = middle c.requires if1.false bound.ensures divide.ensures divide.auto.x divide.auto.y
     divide.auto.z in
-    sym (length-take-le (length start.args.order.now / 2) divide.new.y k.y_fits)
+    sym (length-take-le (length c.args.order.now / 2) divide.new.y k.y_fits)
 
 pub slice_bounds-split-end-7 : goal.slice_bounds-split-end-7
 slice_bounds-split-end-7 t c =
     let divide = c.divide in
     let if1 = c.if-n-le8 in
     let bound = c.bound-axis in
-    let start = c in
-    let k = middle start.requires if1.false bound.ensures divide.ensures divide.auto.x divide.auto.y
+    let k = middle c.requires if1.false bound.ensures divide.ensures divide.auto.x divide.auto.y
     divide.auto.z in
     k.z_fits
 
@@ -100,31 +92,27 @@ slice_bounds-split-end-8 t c =
     let divide = c.divide in
     let if1 = c.if-n-le8 in
     let bound = c.bound-axis in
-    let start = c in
-    let k = middle start.requires if1.false bound.ensures divide.ensures divide.auto.x divide.auto.y
+    let k = middle c.requires if1.false bound.ensures divide.ensures divide.auto.x divide.auto.y
     divide.auto.z in
-    sym (length-take-le (length start.args.order.now / 2) divide.new.z k.z_fits)
+    sym (length-take-le (length c.args.order.now / 2) divide.new.z k.z_fits)
 
 pub overflow_add-at : goal.overflow_add-at
 overflow_add-at t c =
-    let start = c in
-    next_fits start.args.at (length start.args.boxes.now) (bound_room start.requires).3 (omega (arith, start.well_formed.1.1.1.1.1.1.0))
+    next_fits c.args.at (length c.args.boxes.now) (bound_room c.requires).3 (omega (arith, c.well_formed.1.1.1.1.1.1.0))
 
 pub split-next-requires : goal.split-next-requires
 split-next-requires t c =
     let divide = c.divide in
     let if1 = c.if-n-le8 in
     let bound = c.bound-axis in
-    let start = c in
-    let k = middle start.requires if1.false bound.ensures divide.ensures divide.auto.x divide.auto.y
+    let k = middle c.requires if1.false bound.ensures divide.ensures divide.auto.x divide.auto.y
     divide.auto.z in
-    (omega (arith, start.decreases, first_size k, k.many), first_ready k divide.auto.work bound.auto.boxes)
+    (omega (arith, c.decreases, first_size k, k.many), first_ready k divide.auto.work bound.auto.boxes)
 
 pub offset_bounds-order-half : goal.offset_bounds-order-half
 offset_bounds-order-half t c =
     let if1 = c.if-n-le8 in
-    let start = c in
-    half_bytes (length start.args.order.now) if1.false (omega (arith, start.well_formed.1.0))
+    half_bytes (length c.args.order.now) if1.false (omega (arith, c.well_formed.1.0))
 
 pub slice_bounds-split-count : goal.slice_bounds-split-count
 slice_bounds-split-count t c =
@@ -132,17 +120,15 @@ slice_bounds-split-count t c =
     let divide = c.divide in
     let if1 = c.if-n-le8 in
     let bound = c.bound-axis in
-    let start = c in
-    let k = middle start.requires if1.false bound.ensures divide.ensures divide.auto.x divide.auto.y
+    let k = middle c.requires if1.false bound.ensures divide.ensures divide.auto.x divide.auto.y
     divide.auto.z in
     let s = split in
-    behind_room divide.new.order s.new.order (length start.args.order.now / 2) k.order_fits s.auto.order
+    behind_room divide.new.order s.new.order (length c.args.order.now / 2) k.order_fits s.auto.order
 
 pub offset_bounds-x-half : goal.offset_bounds-x-half
 offset_bounds-x-half t c =
     let if1 = c.if-n-le8 in
-    let start = c in
-    half_bytes (length start.args.order.now) if1.false (omega (arith, start.well_formed.1.0))
+    half_bytes (length c.args.order.now) if1.false (omega (arith, c.well_formed.1.0))
 
 pub slice_bounds-split-count-2 : goal.slice_bounds-split-count-2
 slice_bounds-split-count-2 t c =
@@ -150,11 +136,10 @@ slice_bounds-split-count-2 t c =
     let divide = c.divide in
     let if1 = c.if-n-le8 in
     let bound = c.bound-axis in
-    let start = c in
-    let k = middle start.requires if1.false bound.ensures divide.ensures divide.auto.x divide.auto.y
+    let k = middle c.requires if1.false bound.ensures divide.ensures divide.auto.x divide.auto.y
     divide.auto.z in
     let s = split in
-    behind_room divide.new.x s.new.x (length start.args.order.now / 2) k.x_fits s.auto.x
+    behind_room divide.new.x s.new.x (length c.args.order.now / 2) k.x_fits s.auto.x
 
 pub slice_bounds-split-start-2 : goal.slice_bounds-split-start-2
 slice_bounds-split-start-2 t c =
@@ -162,17 +147,15 @@ slice_bounds-split-start-2 t c =
     let divide = c.divide in
     let if1 = c.if-n-le8 in
     let bound = c.bound-axis in
-    let start = c in
-    let k = middle start.requires if1.false bound.ensures divide.ensures divide.auto.x divide.auto.y
+    let k = middle c.requires if1.false bound.ensures divide.ensures divide.auto.x divide.auto.y
     divide.auto.z in
     let s = split in
-    behind_room divide.new.x s.new.x (length start.args.order.now / 2) k.x_fits s.auto.x
+    behind_room divide.new.x s.new.x (length c.args.order.now / 2) k.x_fits s.auto.x
 
 pub offset_bounds-y-half : goal.offset_bounds-y-half
 offset_bounds-y-half t c =
     let if1 = c.if-n-le8 in
-    let start = c in
-    half_bytes (length start.args.order.now) if1.false (omega (arith, start.well_formed.1.0))
+    half_bytes (length c.args.order.now) if1.false (omega (arith, c.well_formed.1.0))
 
 pub slice_bounds-split-count-3 : goal.slice_bounds-split-count-3
 slice_bounds-split-count-3 t c =
@@ -180,11 +163,10 @@ slice_bounds-split-count-3 t c =
     let divide = c.divide in
     let if1 = c.if-n-le8 in
     let bound = c.bound-axis in
-    let start = c in
-    let k = middle start.requires if1.false bound.ensures divide.ensures divide.auto.x divide.auto.y
+    let k = middle c.requires if1.false bound.ensures divide.ensures divide.auto.x divide.auto.y
     divide.auto.z in
     let s = split in
-    behind_room divide.new.y s.new.y (length start.args.order.now / 2) k.y_fits s.auto.y
+    behind_room divide.new.y s.new.y (length c.args.order.now / 2) k.y_fits s.auto.y
 
 pub slice_bounds-split-start-3 : goal.slice_bounds-split-start-3
 slice_bounds-split-start-3 t c =
@@ -192,17 +174,15 @@ slice_bounds-split-start-3 t c =
     let divide = c.divide in
     let if1 = c.if-n-le8 in
     let bound = c.bound-axis in
-    let start = c in
-    let k = middle start.requires if1.false bound.ensures divide.ensures divide.auto.x divide.auto.y
+    let k = middle c.requires if1.false bound.ensures divide.ensures divide.auto.x divide.auto.y
     divide.auto.z in
     let s = split in
-    behind_room divide.new.y s.new.y (length start.args.order.now / 2) k.y_fits s.auto.y
+    behind_room divide.new.y s.new.y (length c.args.order.now / 2) k.y_fits s.auto.y
 
 pub offset_bounds-z-half : goal.offset_bounds-z-half
 offset_bounds-z-half t c =
     let if1 = c.if-n-le8 in
-    let start = c in
-    half_bytes (length start.args.order.now) if1.false (omega (arith, start.well_formed.1.0))
+    half_bytes (length c.args.order.now) if1.false (omega (arith, c.well_formed.1.0))
 
 pub slice_bounds-split-count-4 : goal.slice_bounds-split-count-4
 slice_bounds-split-count-4 t c =
@@ -210,11 +190,10 @@ slice_bounds-split-count-4 t c =
     let divide = c.divide in
     let if1 = c.if-n-le8 in
     let bound = c.bound-axis in
-    let start = c in
-    let k = middle start.requires if1.false bound.ensures divide.ensures divide.auto.x divide.auto.y
+    let k = middle c.requires if1.false bound.ensures divide.ensures divide.auto.x divide.auto.y
     divide.auto.z in
     let s = split in
-    behind_room divide.new.z s.new.z (length start.args.order.now / 2) k.z_fits s.auto.z
+    behind_room divide.new.z s.new.z (length c.args.order.now / 2) k.z_fits s.auto.z
 
 pub slice_bounds-split-start-4 : goal.slice_bounds-split-start-4
 slice_bounds-split-start-4 t c =
@@ -222,11 +201,10 @@ slice_bounds-split-start-4 t c =
     let divide = c.divide in
     let if1 = c.if-n-le8 in
     let bound = c.bound-axis in
-    let start = c in
-    let k = middle start.requires if1.false bound.ensures divide.ensures divide.auto.x divide.auto.y
+    let k = middle c.requires if1.false bound.ensures divide.ensures divide.auto.x divide.auto.y
     divide.auto.z in
     let s = split in
-    behind_room divide.new.z s.new.z (length start.args.order.now / 2) k.z_fits s.auto.z
+    behind_room divide.new.z s.new.z (length c.args.order.now / 2) k.z_fits s.auto.z
 
 pub split-requires : goal.split-requires
 split-requires t c =
@@ -234,13 +212,12 @@ split-requires t c =
     let divide = c.divide in
     let if1 = c.if-n-le8 in
     let bound = c.bound-axis in
-    let start = c in
-    let k = middle start.requires if1.false bound.ensures divide.ensures divide.auto.x divide.auto.y
+    let k = middle c.requires if1.false bound.ensures divide.ensures divide.auto.x divide.auto.y
     divide.auto.z in
     let s = split in (
       omega (
         arith,
-        start.decreases,
+        c.decreases,
         second_size k s.new.order s.new.x s.new.y s.new.z s.auto.order s.auto.x s.auto.y
             s.auto.z,
         k.many,
@@ -256,12 +233,11 @@ shape_of-order t c =
     let divide = c.divide in
     let if1 = c.if-n-le8 in
     let bound = c.bound-axis in
-    let start = c in
-    let k = middle start.requires if1.false bound.ensures divide.ensures divide.auto.x divide.auto.y
+    let k = middle c.requires if1.false bound.ensures divide.ensures divide.auto.x divide.auto.y
     divide.auto.z in
     let s = split in
     let r = split2 in
-    size_2 divide.new.order s.new.order (length start.args.order.now / 2) k.order_fits s.auto.order r.new.order
+    size_2 divide.new.order s.new.order (length c.args.order.now / 2) k.order_fits s.auto.order r.new.order
     r.auto.order ∙ divide.auto.order
 
 pub shape_of-x : goal.shape_of-x
@@ -271,12 +247,11 @@ shape_of-x t c =
     let divide = c.divide in
     let if1 = c.if-n-le8 in
     let bound = c.bound-axis in
-    let start = c in
-    let k = middle start.requires if1.false bound.ensures divide.ensures divide.auto.x divide.auto.y
+    let k = middle c.requires if1.false bound.ensures divide.ensures divide.auto.x divide.auto.y
     divide.auto.z in
     let s = split in
     let r = split2 in
-    size_2 divide.new.x s.new.x (length start.args.order.now / 2) k.x_fits s.auto.x r.new.x
+    size_2 divide.new.x s.new.x (length c.args.order.now / 2) k.x_fits s.auto.x r.new.x
     r.auto.x ∙ divide.auto.x
 
 pub shape_of-y : goal.shape_of-y
@@ -286,12 +261,11 @@ shape_of-y t c =
     let divide = c.divide in
     let if1 = c.if-n-le8 in
     let bound = c.bound-axis in
-    let start = c in
-    let k = middle start.requires if1.false bound.ensures divide.ensures divide.auto.x divide.auto.y
+    let k = middle c.requires if1.false bound.ensures divide.ensures divide.auto.x divide.auto.y
     divide.auto.z in
     let s = split in
     let r = split2 in
-    size_2 divide.new.y s.new.y (length start.args.order.now / 2) k.y_fits s.auto.y r.new.y
+    size_2 divide.new.y s.new.y (length c.args.order.now / 2) k.y_fits s.auto.y r.new.y
     r.auto.y ∙ divide.auto.y
 
 pub shape_of-z : goal.shape_of-z
@@ -301,12 +275,11 @@ shape_of-z t c =
     let divide = c.divide in
     let if1 = c.if-n-le8 in
     let bound = c.bound-axis in
-    let start = c in
-    let k = middle start.requires if1.false bound.ensures divide.ensures divide.auto.x divide.auto.y
+    let k = middle c.requires if1.false bound.ensures divide.ensures divide.auto.x divide.auto.y
     divide.auto.z in
     let s = split in
     let r = split2 in
-    size_2 divide.new.z s.new.z (length start.args.order.now / 2) k.z_fits s.auto.z r.new.z
+    size_2 divide.new.z s.new.z (length c.args.order.now / 2) k.z_fits s.auto.z r.new.z
     r.auto.z ∙ divide.auto.z
 
 pub shape_of-work : goal.shape_of-work
@@ -330,8 +303,7 @@ returns t c =
     let divide = c.divide in
     let if1 = c.if-n-le8 in
     let bound = c.bound-axis in
-    let start = c in
-    let k = middle start.requires if1.false bound.ensures divide.ensures divide.auto.x divide.auto.y
+    let k = middle c.requires if1.false bound.ensures divide.ensures divide.auto.x divide.auto.y
     divide.auto.z in
     let s = split in
     let r = split2 in
