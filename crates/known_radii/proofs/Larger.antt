@@ -7,11 +7,10 @@ use mathlib.Core.List.{List}
 use mathlib.Core.Option.{none}
 use native.Mathlib.Omega.{arith}
 use lib.Dec.{T}
-use lib.Ieee.{Float, nan, inf, fin, binary32, lt, le, eq, of_bits, div}
+use lib.Ieee.{Float, nan, inf, fin, lt, le, eq, of_bits}
 use lib.Ieee.Scale.{finite}
 use Rattle.numbers.specs.Rounded.{f32, ◌⊗◌}
 use Rattle.numbers.specs.Root.{root}
-use Rattle.numbers.proofs.OrderLaws.{le_not_lt, le_lt_trans}
 use Rattle.numbers.proofs.ProductOrder.{mul_monotone_finite}
 use Rattle.quality.specs.declared.TriangleQuality.{TriangleQuality}
 use Rattle.triangle.specs.Quality.{is_zero, source_acceptable, acceptable}
@@ -22,6 +21,8 @@ use Rattle.decisions.specs.Inner.Completes.{completes}
 use Rattle.three_points.specs.Inner.Judged.{NoSeed, Seedless}
 use Rattle.flatness.specs.Inner.Flat.{Flat}
 use Rattle.seedless.specs.Inner.Seedless.{SeedlessBetween}
+use Rattle.known_radii.specs.declared.Upto.{Upto}
+use Rattle.known_radii.specs.declared.Upto.TheVariants.{Radius, Unknown}
 use Rattle.known_radii.specs.Inner.Known.{Growing, NothingTo, Silent, RadiusKnown, flat_cloud, up_to}
 use Rattle.decisions.proofs.Growth.{not_below, close_more}
 use Rattle.seedless.proofs.Nothing.{first_nothing, flat_nothing}
@@ -75,36 +76,24 @@ finite_below (inf false) (inf false) z h f = absurd f
 finite_below (inf false) (fin s m e) z h f = absurd h
 finite_below (fin s m e) y z h f = tt
 
-pub larger_nothing : (s : Scene) (pts : List Float) (used : List ℕ) (t : Float) → Growing s t → SeedlessBetween s pts t used 0 s.n → NothingTo s pts used t
+pub larger_nothing : (s : Scene) (pts : List Float) (used : List ℕ) (t : Float) → Growing s t → SeedlessBetween s pts t used 0 s.n
+    → NothingTo s pts used (Radius t)
 unfolding searching
-larger_nothing s pts used t g b r z h =
+larger_nothing s pts used t g b r q =
     first_nothing (floats_of s pts) r used s.n (λ i hi u. seedless_nothing {lo = 0} used u hi (omega arith) (λ a ha la ua. less a (omega arith) la ua))
     s.n 0 1000 (omega arith)
   where
     less : SeedlessBetween s pts r used 0 s.n
-    less = between_less s pts r t h (finite_below r t z h g.radius.number) g.radius.number g.factor.number g.factor.above used s.n b
+    less = between_less s pts r t q.1 (finite_below r t q.0 q.1 g.radius.number) g.radius.number g.factor.number g.factor.above used s.n b
 
--- no radius is at most what is no number
-abbrev pub none_known : Float
-none_known = div binary32 (of_bits binary32 0) (of_bits binary32 0)
+pub silent_nothing : (s : Scene) (pts : List Float) (used : List ℕ) (upto : Upto) → Silent upto → NothingTo s pts used upto
+silent_nothing s pts used upto h x k = absurd (h x k)
 
-pub silent_below : (r : Float) → T (lt r (f32 0)) → Silent r
-silent_below r h x z k = le_not_lt (f32 0) x z (le_lt_trans x r (f32 0) k h)
+pub nothing_yet : (s : Scene) (pts : List Float) (used : List ℕ) → NothingTo s pts used Unknown
+nothing_yet s pts used x k = absurd k
 
-pub silent_none : Silent none_known
-unfolding le lt eq div of_bits
-silent_none nan z h = h
-silent_none (inf t) z h = h
-silent_none (fin t m e) z h = h
-
-pub silent_nothing : (s : Scene) (pts : List Float) (used : List ℕ) (upto : Float) → Silent upto → NothingTo s pts used upto
-silent_nothing s pts used upto h x z k = absurd (h x z k)
-
-pub nothing_yet : (s : Scene) (pts : List Float) (used : List ℕ) → NothingTo s pts used none_known
-nothing_yet s pts used = silent_nothing s pts used none_known silent_none
-
-pub known_nothing : (s : Scene) (pts : List Float) (used : List ℕ) {flat : Bool} {r upto : Float} → RadiusKnown s flat r upto → (flat ≡ true → Flat s pts)
-    → NothingTo s pts used upto → (searching (floats_of s pts) s.n).seed_of r used ≡ none
+pub known_nothing : (s : Scene) (pts : List Float) (used : List ℕ) {flat : Bool} {r : Float} {upto : Upto}
+    → RadiusKnown s flat r upto → (flat ≡ true → Flat s pts) → NothingTo s pts used upto → (searching (floats_of s pts) s.n).seed_of r used ≡ none
 unfolding searching
 known_nothing s pts used {r = r} (flat_cloud h b) f n = flat_nothing s pts r used 1000 b (f h)
-known_nothing s pts used {r = r} (up_to z h) f n = n r z h
+known_nothing s pts used {r = r} (up_to h) f n = n r h

@@ -4,14 +4,24 @@
 ghost use Rattle.std.specs.Prelude.{◌≡◌, true, false, ◌<◌};
 ghost use Rattle.spatial_hash.specs.Inner.Near.{Hashed};
 ghost use Rattle.nearby.specs.Inner.Ready.{SceneHeld, used_in_scene, SceneKept};
+ghost use Rattle.known_radii.specs.declared.Upto.TheVariants.{Radius};
 ghost use Rattle.known_radii.specs.Inner.Known.{RadiusKnown, Number, Growing, NothingTo, Silent};
 
 use decisions::Scene;
 use seedless::{Search, Site};
 
+// What is known of radii: one up to which none has a seed, or one at which the largest was asked in vain after a
+// search.
+#[derive(Clone, Copy)]
+pub enum Upto {
+    Radius(f32),
+    InVain(f32),
+    Unknown,
+}
+
 // Whether a radius is known to have no seed: in a flat cloud each at which edges are limited, else each up to another
 // one.
-pub fn is_known(s: Scene, flat: bool, radius: f32, upto: f32) -> bool
+pub fn is_known(s: Scene, flat: bool, radius: f32, upto: Upto) -> bool
     ensures { result ≡ true → RadiusKnown s flat radius upto }
 {
     if flat {
@@ -19,52 +29,45 @@ pub fn is_known(s: Scene, flat: bool, radius: f32, upto: f32) -> bool
             return true;
         }
     }
-    if radius <= upto {
-        return 0.0 <= radius;
+    match upto {
+        Upto::Radius(x) => radius <= x && 0.0 <= radius,
+        _ => false,
     }
-    false
 }
 
 // Whether a number is neither below 0 nor beyond all measure.
 fn is_number(x: f32) -> bool
     ensures { result ≡ true → Number x }
 {
-    if 0.0 <= x {
-        return x <= 1e30;
-    }
-    false
+    0.0 <= x && x <= 1e30
 }
 
 // Whether what is accepted at a smaller radius is accepted at this one.
 fn is_growing(s: Scene, radius: f32) -> bool
     ensures { result ≡ true → Growing s radius }
 {
-    if !is_number(s.max_edge_factor) {
-        return false;
-    }
-    is_number(radius)
+    is_number(s.max_edge_factor) && is_number(radius)
 }
 
-// What is noted where a larger radius was asked in vain after a search at this one: a number below 0, which tells
-// nothing of any radius.
-fn in_vain(radius: f32) -> f32
+// What is known where the largest radius was asked in vain after a search at this one.
+fn in_vain(radius: f32) -> Upto
     ensures { Silent result }
 {
     if -radius < 0.0 {
-        return -radius;
+        return Upto::InVain(radius);
     }
-    0.0 / 0.0
+    Upto::Unknown
 }
 
-// Whether a note says that the largest radius was asked in vain after a search at more than half of this one: the same
-// would be asked again.
-fn is_too_soon(radius: f32, note: f32) -> bool
+// Whether the largest radius was asked in vain after a search at more than half of this one: the same would be asked
+// again.
+fn is_too_soon(radius: f32, note: Upto) -> bool
     ensures { result ≡ true → Silent note }
 {
-    if note < 0.0 {
-        return radius < note * -2.0;
+    match note {
+        Upto::InVain(x) => radius < x * 2.0,
+        _ => false,
     }
-    false
 }
 
 // Whether it is known that no radius up to the largest has a seed, as far as the budget does for it: no three unused
@@ -80,7 +83,7 @@ fn is_seedless_to(
 ) -> bool
     requires { SceneHeld p.scene points.now w.old × Hashed p.hash points.now p.scene.n w.old }
     ensures { (result ≡ true
-        → NothingTo p.scene points.now (used_in_scene p.scene w.old) largest)
+        → NothingTo p.scene points.now (used_in_scene p.scene w.old) (Radius largest))
         × SceneKept p.scene w.old w.new }
 {
     let s = p.scene;
@@ -105,11 +108,8 @@ fn is_seedless_to(
 }
 
 // Whether the largest radius is worth being asked while a search at another one goes on.
-pub fn is_worth_asking(radius: f32, largest: f32, note: f32) -> bool {
-    if is_too_soon(radius, note) {
-        return false;
-    }
-    radius < largest
+pub fn is_worth_asking(radius: f32, largest: f32, note: Upto) -> bool {
+    !is_too_soon(radius, note) && radius < largest
 }
 
 // Whether the largest radius is still to be asked, and whether it is known that no radius up to it has a seed.
@@ -133,7 +133,7 @@ pub fn ask_early(
     requires { SceneHeld p.scene points.now w.old × Hashed p.hash points.now p.scene.n w.old
         × (i < p.scene.n) }
     ensures { (result.told ≡ true
-        → NothingTo p.scene points.now (used_in_scene p.scene w.old) largest)
+        → NothingTo p.scene points.now (used_in_scene p.scene w.old) (Radius largest))
         × SceneKept p.scene w.old w.new }
 {
     if !asks {
@@ -158,50 +158,46 @@ pub fn ask_early(
 
 // Whether a radius has no seed since the largest has told so.
 pub fn is_known_by(s: Scene, radius: f32, largest: f32, told: bool) -> bool
-    ensures { result ≡ true → (told ≡ true) × RadiusKnown s false radius largest }
+    ensures { result ≡ true → (told ≡ true) × RadiusKnown s false radius (Radius largest) }
 {
-    if !told {
-        return false;
-    }
-    is_known(s, false, radius, largest)
+    told && is_known(s, false, radius, Upto::Radius(largest))
 }
 
-// The largest radius, if it is known that no radius up to it has a seed, as far as the budget does for it; else a note
-// that a search at this radius asked in vain.
-fn ask_at(p: Site, points: &[f32], w: &mut [u32], largest: f32, budget: usize) -> f32
+// The largest radius, if it is known that no radius up to it has a seed, as far as the budget does for it; else that it
+// was asked in vain after a search at this radius.
+fn ask_at(p: Site, points: &[f32], w: &mut [u32], largest: f32, budget: usize) -> Upto
     requires { SceneHeld p.scene points.now w.old × Hashed p.hash points.now p.scene.n w.old }
     ensures { NothingTo p.scene points.now (used_in_scene p.scene w.old) result
         × SceneKept p.scene w.old w.new }
 {
     let s = p.scene;
     if is_seedless_to(p, points, w, largest, s.n, budget) {
-        return largest;
+        return Upto::Radius(largest);
     }
     in_vain(p.radius)
 }
 
-// A radius up to which none has a seed, after a search at one of them; not a number, or a note below 0, where none is
-// known. If the search was in vain the largest radius is asked, unless it has told before, with what that search has
-// left of the budget.
+// What is known of radii after a search at one of them. If the search was in vain the largest radius is asked, unless
+// it has told before, with what that search has left of the budget.
 pub fn known_to(
     p: Site,
     points: &[f32],
     w: &mut [u32],
     largest: f32,
-    note: f32,
+    note: Upto,
     told: bool,
     budget: usize,
-) -> f32
+) -> Upto
     requires { SceneHeld p.scene points.now w.old × Hashed p.hash points.now p.scene.n w.old
-        × (told ≡ true → NothingTo p.scene points.now (used_in_scene p.scene w.old) largest) }
+        × (told ≡ true → NothingTo p.scene points.now (used_in_scene p.scene w.old) (Radius largest)) }
     ensures { NothingTo p.scene points.now (used_in_scene p.scene w.old) result
         × SceneKept p.scene w.old w.new }
 {
     if told {
-        return largest;
+        return Upto::Radius(largest);
     }
     if budget == 0 {
-        return 0.0 / 0.0;
+        return Upto::Unknown;
     }
     if is_too_soon(p.radius, note) {
         return note;
@@ -209,5 +205,5 @@ pub fn known_to(
     if p.radius < largest {
         return ask_at(p, points, w, largest, budget);
     }
-    0.0 / 0.0
+    Upto::Unknown
 }

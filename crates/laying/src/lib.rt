@@ -16,6 +16,7 @@ ghost use Rattle.laying.specs.Inner.Laying.{Pivoting, BetweenLooks, BetweenRadii
 ghost use Rattle.spatial_hash.specs.Inner.Near.{HashLinked};
 
 use decisions::Scene;
+use known_radii::Upto;
 use laying_steps::Counts;
 use seed::Told;
 use spatial_hash::Hash;
@@ -95,11 +96,11 @@ fn remove_three(points: &[f32], w: &mut [u32], n: usize, hash: Hash, i: usize, j
     spatial_hash::remove(points, w, n, hash, k);
 }
 
-// The counts after a radius, and a radius up to which none has a seed any more.
+// The counts after a radius, and what is known of radii then.
 #[derive(Clone, Copy)]
 pub struct Laid {
     pub counts: Counts,
-    pub upto: f32,
+    pub upto: Upto,
 }
 
 // One radius: from its seed, if there is one.
@@ -132,7 +133,7 @@ fn lay_one(
             let last = run(p, points, faces, w, first);
             Laid {
                 counts: last,
-                upto: 0.0 / 0.0,
+                upto: Upto::Unknown,
             }
         }
         None => Laid {
@@ -182,7 +183,7 @@ pub fn advanced_ball_pivoting(
     let largest = last_of(radii, count);
     let mut c = laying_steps::begin(w, s.n);
     let mut marks: [usize; 17] = [0; 17];
-    let mut upto: f32 = 0.0 / 0.0;
+    let mut upto = Upto::Unknown;
     for i in 0..count {
         let radius = radii[i];
         let known = known_radii::is_known(s, flat, radius, upto);

@@ -14,6 +14,7 @@ use Rattle.decisions.specs.declared.Scene.{Scene}
 use Rattle.decisions.specs.Decisions.{floats_of}
 use Rattle.nearby.specs.Inner.Ready.{SceneKept, used_in_scene}
 use Rattle.patch.specs.Search.{searching, first_of}
+use Rattle.known_radii.specs.declared.Upto.{Upto}
 use Rattle.known_radii.specs.Inner.Known.{NothingTo, RadiusKnown}
 use Rattle.known_radii.proofs.Larger.{known_nothing}
 use Rattle.seedless.specs.Inner.Seedless.{SeedlessFrom, SeedlessBetween}
@@ -35,16 +36,16 @@ unused_back {s} i k h = ap (λ (l : List ℕ). unused (take s.n l) i) (sym k.aft
 -- ---- the largest radius
 
 -- what is known of radii stays known while no point is used
-pub nothing_kept : {s : Scene} (pts : List Float) {w v : List ℕ} (upto : Float) → SceneKept s w v → NothingTo s pts (used_in_scene s w) upto
+pub nothing_kept : {s : Scene} (pts : List Float) {w v : List ℕ} (upto : Upto) → SceneKept s w v → NothingTo s pts (used_in_scene s w) upto
     → NothingTo s pts (used_in_scene s v) upto
 nothing_kept {s} pts upto k = subst (λ (u : List ℕ). NothingTo s pts u upto) (sym (ap (take s.n) k.after))
 
-pub nothing_back : {s : Scene} (pts : List Float) {w v : List ℕ} (upto : Float) → SceneKept s w v → NothingTo s pts (used_in_scene s v) upto
+pub nothing_back : {s : Scene} (pts : List Float) {w v : List ℕ} (upto : Upto) → SceneKept s w v → NothingTo s pts (used_in_scene s v) upto
     → NothingTo s pts (used_in_scene s w) upto
 nothing_back {s} pts upto k = subst (λ (u : List ℕ). NothingTo s pts u upto) (ap (take s.n) k.after)
 
 -- a radius up to which none has a seed is told while one of them is searched
-pub told_nothing : (s : Scene) (pts : List Float) {r : Float} (used : List ℕ) {upto : Float} → RadiusKnown s false r upto → NothingTo s pts used upto
+pub told_nothing : (s : Scene) (pts : List Float) {r : Float} (used : List ℕ) {upto : Upto} → RadiusKnown s false r upto → NothingTo s pts used upto
     → first_of (floats_of s pts) r used (up_from 0 s.n) 1000 ≡ none
 unfolding searching
 told_nothing s pts used k n = known_nothing s pts used k (λ h. absurd (true_not_false h refl)) n

@@ -15,22 +15,23 @@ ghost use Rattle.lists.specs.Inner.Found.{option_found};
 ghost use Rattle.seed.specs.Inner.Found.{WithArea};
 
 use decisions::Scene;
+use known_radii::Upto;
 use seedless::Site;
 use spatial_hash::Hash;
 
-// What is found, and a radius up to which none has a seed; not a number, or a note below 0, where none is known.
+// What is found, and what is known of radii then.
 #[derive(Clone, Copy)]
 pub struct SeedSearch {
     pub seed: Option<(usize, usize, usize)>,
-    pub upto: f32,
+    pub upto: Upto,
 }
 
-// What is known before a search: whether there is no seed at its radius, a radius up to which none has one or a note,
-// and the largest radius that will be searched.
+// What is known before a search: whether there is no seed at its radius, what is known of radii, and the largest radius
+// that will be searched.
 #[derive(Clone, Copy)]
 pub struct Told {
     pub known: bool,
-    pub upto: f32,
+    pub upto: Upto,
     pub largest: f32,
 }
 
@@ -64,7 +65,7 @@ pub fn find_seed_triangle(
     if filters::refuses_all(s, radius) {
         return SeedSearch {
             seed: None,
-            upto: 0.0 / 0.0,
+            upto: Upto::Unknown,
         };
     }
     let limits = filters::limits_of(s, radius);

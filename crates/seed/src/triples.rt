@@ -10,6 +10,7 @@ ghost use Rattle.decisions.specs.Decisions.{is_close, reach, floats_of};
 ghost use Rattle.filters.specs.Inner.Refused.{Limiting};
 ghost use Rattle.nearby.specs.Inner.Ready.{SceneHeld, NeighborsListed, used_in_scene, neighbors_listed, SceneKept};
 ghost use Rattle.nearby.specs.Inner.Narrow.{Filters};
+ghost use Rattle.known_radii.specs.declared.Upto.TheVariants.{Radius};
 ghost use Rattle.known_radii.specs.Inner.Known.{NothingTo};
 ghost use Rattle.seedless.specs.Inner.Parts.{with_second};
 ghost use Rattle.lists.specs.Inner.Found.{option_found};
@@ -310,7 +311,7 @@ pub fn find_from(p: Site, points: &[f32], w: &mut [u32], largest: f32, asks: boo
         ≡ option_found (first_of (floats_of p.scene points.now) p.radius
         (used_in_scene p.scene w.old) (up_from 0 p.scene.n) 1000))
         × (result.told ≡ true
-        → NothingTo p.scene points.now (used_in_scene p.scene w.old) largest)
+        → NothingTo p.scene points.now (used_in_scene p.scene w.old) (Radius largest))
         × SceneKept p.scene w.old w.new }
 {
     let s = p.scene;

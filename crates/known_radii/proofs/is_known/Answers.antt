@@ -14,8 +14,5 @@ returns-then-radius-s c =
     let h : T (lt (a.radius ⊗ a.s.max_edge_factor) (inf false)) = rw (← infinite, c.if-radius-s.true) tt in
     λ _. flat_cloud c.if-flat.true h
 
-pub returns-then-radius-upto : goal.returns-then-radius-upto
-returns-then-radius-upto c = λ h. up_to (subst T (sym h) tt) (subst T (sym c.if-radius-upto.true) tt)
-
-pub returns : goal.returns
-returns c = λ h. absurd (subst T (sym h) tt)
+pub returns-then-radius-x : goal.returns-then-radius-x
+returns-then-radius-x c = λ h. up_to (rw c.in-Radius.is (subst T (sym h) tt, subst T (sym c.if-radius-x.true) tt))

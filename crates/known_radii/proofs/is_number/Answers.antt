@@ -10,6 +10,3 @@ unfolding of_bits
 returns-then-x c =
     let z = subst T (sym c.if-x.true) tt in
     λ h. record { above = z; number = finite_below c.args.x _ z (subst T (sym h) tt) tt }
-
-pub returns : goal.returns
-returns c = λ h. absurd (subst T (sym h) tt)

@@ -8,6 +8,8 @@ use Rattle.numbers.specs.Rounded.{f32, ◌⊗◌}
 use Rattle.patch.specs.Search.{searching}
 use Rattle.decisions.specs.declared.Scene.{Scene}
 use Rattle.decisions.specs.Decisions.{floats_of}
+use Rattle.known_radii.specs.declared.Upto.{Upto}
+use Rattle.known_radii.specs.declared.Upto.TheVariants.{Radius, InVain, Unknown}
 
 -- a number from 0 on
 pub record Number (x : Float) : Type 0 where
@@ -19,16 +21,21 @@ pub record Growing (s : Scene) (r : Float) : Type 0 where
   pub radius : Number r
   pub factor : Number s.max_edge_factor
 
--- no radius from 0 up to another has a seed
-abbrev pub NothingTo : Scene → List Float → List ℕ → Float → Type 0
-NothingTo s pts used upto = (r : Float) → T (le (f32 0) r) → T (le r upto)
-    → (searching (floats_of s pts) s.n).seed_of r used ≡ none
+-- a radius is one from 0 up to the one that is known, if one is
+abbrev pub IsUpTo : Upto → Float → Type 0
+IsUpTo (Radius x) r = T (le (f32 0) r) × T (le r x)
+IsUpTo (InVain x) r = ⊥
+IsUpTo Unknown r = ⊥
 
--- no radius from 0 on is up to it
-abbrev pub Silent : Float → Type 0
-Silent upto = (r : Float) → T (le (f32 0) r) → T (le r upto) → ⊥
+-- no such radius has a seed
+abbrev pub NothingTo : Scene → List Float → List ℕ → Upto → Type 0
+NothingTo s pts used upto = (r : Float) → IsUpTo upto r → (searching (floats_of s pts) s.n).seed_of r used ≡ none
 
--- a radius is one of those, or the cloud is flat and edges are limited at that radius
-pub data RadiusKnown (s : Scene) (flat : Bool) (r upto : Float) : Type 0 where
+-- there is no such radius
+abbrev pub Silent : Upto → Type 0
+Silent upto = (r : Float) → IsUpTo upto r → ⊥
+
+-- a radius is such a one, or the cloud is flat and edges are limited at that radius
+pub data RadiusKnown (s : Scene) (flat : Bool) (r : Float) (upto : Upto) : Type 0 where
   flat_cloud : flat ≡ true → T (lt (r ⊗ s.max_edge_factor) (inf false)) → RadiusKnown s flat r upto
-  up_to : T (le (f32 0) r) → T (le r upto) → RadiusKnown s flat r upto
+  up_to : IsUpTo upto r → RadiusKnown s flat r upto

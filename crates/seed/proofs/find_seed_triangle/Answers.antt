@@ -6,6 +6,7 @@ use Rattle.nearby.specs.Inner.Ready.{used_in_scene}
 use Rattle.nearby.proofs.Keeping.{kept_self, kept_on, held_kept, hashed_search}
 use Rattle.lists.specs.Inner.Found.{option_found}
 use Rattle.seedless.proofs.Nothing.{refuses_all_nothing}
+use Rattle.known_radii.specs.declared.Upto.TheVariants.{Radius}
 use Rattle.known_radii.proofs.Larger.{nothing_yet}
 use Rattle.seed.proofs.Known.{nothing_kept, nothing_back}
 use Rattle.seed.proofs.WithArea.{seed_area}
@@ -41,7 +42,7 @@ known_to-upto-requires c =
     let v = f.new.w in (
       held_kept v start.requires.0 f.auto.w,
       hashed_search {s = x.s} v start.requires.2 f.auto.w f.ensures.2,
-      λ h. nothing_kept {s = x.s} x.points.now x.t.largest f.ensures.2 (f.ensures.1 h),
+      λ h. nothing_kept {s = x.s} x.points.now (Radius x.t.largest) f.ensures.2 (f.ensures.1 h),
     )
 
 pub shape_of-w : goal.shape_of-w

@@ -8,6 +8,7 @@ use Rattle.nearby.proofs.Keeping.{kept_on}
 use Rattle.lists.specs.Inner.Found.{option_found}
 use Rattle.seed.proofs.State.{seek_start, seek_end, seek_spent, seek_used, seek_kept, seek_hit, seek_miss}
 use Rattle.seedless.proofs.Threes.{seedless_used, unused_kept}
+use Rattle.known_radii.specs.declared.Upto.TheVariants.{Radius}
 use Rattle.seed.proofs.Known.{seedless_on, unused_back, nothing_back, told_nothing}
 use Rattle.seed.proofs.First.{before_kept}
 use Rattle.seed.proofs.triples.find_from.Goals as goal
@@ -72,7 +73,7 @@ returns-then-is_known_by c =
     let l = loop in
     let e = ask-early in
     let k = c.is_known_by.ensures c.if-is_known_by.true in
-    let upto = nothing_back {s = a.p.scene} a.points.now a.largest l.invariant.0.kept (e.ensures.0 k.0) in (
+    let upto = nothing_back {s = a.p.scene} a.points.now (Radius a.largest) l.invariant.0.kept (e.ensures.0 k.0) in (
       c.nothing_more-then-is_known_by.ensures.0 ∙ sym (ap option_found (told_nothing a.p.scene a.points.now (used_in_scene a.p.scene a.w.now) k.1 upto)),
       λ _. upto,
       kept_on l.invariant.0.kept e.ensures.1,
