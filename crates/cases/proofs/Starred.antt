@@ -1,6 +1,6 @@
 -- The starred table holds, from the definitions: one theorem. Assumes nothing.
 use Prim.Native.Nat.{ℕ, ◌*◌, ◌/◌}
-use mathlib.Core.Path.{◌≡◌, refl, ap, ◌∙◌}
+use mathlib.Core.Path.{◌≡◌, refl, sym, ap, ◌∙◌}
 use mathlib.Core.Bool.{cond}
 use mathlib.Core.List.{List, ◌∷◌, [], ◌++◌}
 use native.Mathlib.Omega.{arith}
@@ -11,7 +11,10 @@ use lib.Ieee.{Float, span, climb, size, odd, units, round, neg, sum, add, sub, m
 use Rattle.numbers.specs.Rounded.{f32}
 use Rattle.settings.specs.declared.BallPivotingConfig.{BallPivotingConfig}
 use Rattle.domain.specs.declared.Refusal.{Refusal}
-use Rattle.domain.proofs.Refusals.{size_good, size_many, size_refused, size_passed}
+use Rattle.domain.specs.Inner.Outcome.{result_of}
+use Rattle.domain.proofs.Refusals.{size_good, size_many, numbered, row_refused, row_passed}
+use Rattle.answers.proofs.Outcome.{ok_outcome, outcome_err}
+use Rattle.std.specs.Prelude.{Err}
 use Rattle.estimate.specs.Estimate.{nearer, nearest_from, least_distance, least_distances, scaled, optimal_radius, estimate, estimate_of}
 use Rattle.patch.specs.Lay.{same, push, marked, with_face, cleared as cleared-patch, seeded, popped, met, pivoted, looked_at, look, next, run, begun, lay_one}
 use Rattle.patch.specs.Lay.{lay_all, patch}
@@ -48,10 +51,17 @@ use Rattle.cases.specs.Starred.{later_checks, later_checks_of_estimate, StarredC
 -- ---- the lengths: 4,096 points pass, 4,097 do not, whatever is checked behind them
 module _ (p q : ℕ) (long : q ≡ p) (rest : List Check) where
   passes : p ≡ 3 * 4096 → first_refusal (size_checks p q ++ rest) ≡ first_refusal rest
-  passes h = size_passed p q 0 (size_good p q (record { some = omega arith; threes = omega arith; as_long = long; few = omega arith })) rest refl
+  unfolding numbered
+  passes h =
+      let good = size_good p q (record { some = omega arith; threes = omega arith; as_long = long; few = omega arith }) in
+      row_passed (size_checks p q) rest refl (ok_outcome _ (first_refusal (size_checks p q)) (ap (λ (r : Refusal). r.answer) good))
 
   too_many_lem : p ≡ 3 * 4097 → first_refusal (size_checks p q ++ rest) ≡ refusal 3 0
-  too_many_lem h = size_refused p q 3 (size_many p q (λ z. omega arith) (omega arith) long (omega arith)) rest (λ z. omega arith)
+  unfolding numbered
+  too_many_lem h =
+      let many = size_many p q (λ z. omega arith) (omega arith) long (omega arith) in
+      let told : Err (refusal 3 0) ≡ result_of (first_refusal (size_checks p q)) = rw many in
+      sym (outcome_err _ (first_refusal (size_checks p q ++ rest)) (row_refused (size_checks p q) rest refl (refusal 3 0) told)).0
 
 module _ (points normals : List Float) (s : BallPivotingConfig) (words floats : ℕ) (long : length normals ≡ length points) where
   abbrev later : ℕ → List Check

@@ -6,8 +6,13 @@ use Prim.Native.Nat.{ℕ, ◌+◌, ◌*◌, ◌/◌, ◌%◌, ◌≤◌, ◌<◌
 use native.Mathlib.Omega.{arith}
 use lib.Dec.{T, leb, ltb, eqb}
 use borrow.Author.Tests.{lt-ltb, le-ltb, le-leb, lt-leb, eq-eqb, ne_eqb, ltb-true, leb-true, eqb-true}
+use Rattle.std.specs.Prelude.{Ok, Err, Some, None}
 use Rattle.lists.proofs.Bools.{and_both}
+use Rattle.answers.proofs.Outcome.{outcome_ok, outcome_err}
+use Rattle.ranges.specs.Inner.Number.{some_below}
+use Rattle.ranges.proofs.Number.{below_some, below_none}
 use Rattle.domain.specs.Refusals.{Check, check, refusal, first_refusal, size_checks, point_check, roomy}
+use Rattle.domain.specs.Inner.Outcome.{result_of}
 use Rattle.domain.specs.Inner.Accepted.{WorkRoom}
 use Rattle.domain.specs.declared.Refusal.{Refusal}
 
@@ -32,6 +37,16 @@ module _ (c : Check) (rest : List Check) where
 unfoldable pub numbered : List Check → Bool
 numbered [] = true
 numbered (c ∷ cs) = ltb 0 c.refusal.answer && numbered cs
+
+-- where nothing is refused
+pub none_refused : (cs : List Check) → numbered cs ≡ true → (first_refusal cs).answer ≡ 0 → first_refusal cs ≡ refusal 0 0
+unfolding first_refusal numbered
+none_refused [] h e = refl
+none_refused (c ∷ cs) h e =
+    let b = and_both {p = ltb 0 c.refusal.answer} {q = numbered cs} h in
+    let some = ltb-true 0 c.refusal.answer b.0 in
+    let a = check_accepted c cs (λ z. omega arith) e in
+    check_passed c cs a.0 ∙ none_refused cs b.1 a.1
 
 -- the refusal by ys where r refuses nothing, or r
 abbrev otherwise : List Check → Refusal → Refusal
@@ -60,15 +75,17 @@ neither r x e = go (eqb r.answer 0) refl
     go false q = let z = ap (λ (t : Bool). (cond t x r).answer) (sym q) ∙ e in absurd (subst T (sym (eq-eqb r.answer 0 z) ∙ q) tt)
 
 module _ (xs ys : List Check) (h : numbered xs ≡ true) where
-  module _ (r : Refusal) (is : r ≡ first_refusal xs) where
-    whole : first_refusal (xs ++ ys) ≡ cond (eqb r.answer 0) (first_refusal ys) r
-    whole = then_on xs ys h ∙ ap (otherwise ys) (sym is)
+  pub row_refused : (r : Refusal) → Err r ≡ result_of (first_refusal xs) → Err r ≡ result_of (first_refusal (xs ++ ys))
+  row_refused r e =
+      let f = first_refusal xs in
+      let n = (outcome_err f.answer f e).1 in
+      let w : first_refusal (xs ++ ys) ≡ f = then_on xs ys h ∙ ap (λ (t : Bool). cond t (first_refusal ys) f) (ne_eqb f.answer 0 n) in
+      rw w e
 
-    pub row_refused : (r.answer ≡ 0 → ⊥) → r ≡ first_refusal (xs ++ ys)
-    row_refused n = sym (whole ∙ ap (λ (t : Bool). cond t (first_refusal ys) r) (ne_eqb r.answer 0 n))
-
-    pub row_passed : r.answer ≡ 0 → first_refusal (xs ++ ys) ≡ first_refusal ys
-    row_passed z = whole ∙ ap (λ (t : Bool). cond t (first_refusal ys) r) (eq-eqb r.answer 0 z)
+  pub row_passed : {u : Unit {0}} → Ok u ≡ result_of (first_refusal xs) → first_refusal (xs ++ ys) ≡ first_refusal ys
+  row_passed e =
+      let f = first_refusal xs in
+      then_on xs ys h ∙ ap (λ (t : Bool). cond t (first_refusal ys) f) (eq-eqb f.answer 0 (outcome_ok f.answer f e))
 
   pub rows_accepted : (first_refusal (xs ++ ys)).answer ≡ 0 → ((first_refusal xs).answer ≡ 0) × ((first_refusal ys).answer ≡ 0)
   rows_accepted e = neither (first_refusal xs) (first_refusal ys) (ap (λ (q : Refusal). q.answer) (sym (then_on xs ys h)) ∙ e)
@@ -82,46 +99,25 @@ pub record Sized (p q : ℕ) : Type 0 where
   pub few : p / 3 ≤ 4096
 
 module _ (p q : ℕ) where
-  pub size_none : p ≡ 0 → 1 ≡ (first_refusal (size_checks p q)).answer
+  pub size_none : p ≡ 0 → first_refusal (size_checks p q) ≡ refusal 1 0
   unfolding first_refusal
   size_none h = rw (le-ltb 0 p (omega arith))
 
-  pub size_not_threes : (p ≡ 0 → ⊥) → (p % 3 ≡ 0 → ⊥) → 2 ≡ (first_refusal (size_checks p q)).answer
+  pub size_not_threes : (p ≡ 0 → ⊥) → (p % 3 ≡ 0 → ⊥) → first_refusal (size_checks p q) ≡ refusal 2 0
   unfolding first_refusal
   size_not_threes h t = rw (lt-ltb 0 p (omega arith), ne_eqb (p % 3) 0 t)
 
-  pub size_other : (p ≡ 0 → ⊥) → p % 3 ≡ 0 → (q ≡ p → ⊥) → 2 ≡ (first_refusal (size_checks p q)).answer
+  pub size_other : (p ≡ 0 → ⊥) → p % 3 ≡ 0 → (q ≡ p → ⊥) → first_refusal (size_checks p q) ≡ refusal 2 0
   unfolding first_refusal
   size_other h t l = rw (lt-ltb 0 p (omega arith), eq-eqb (p % 3) 0 t, ne_eqb q p l)
 
-  pub size_many : (p ≡ 0 → ⊥) → p % 3 ≡ 0 → q ≡ p → 4096 < p / 3 → 3 ≡ (first_refusal (size_checks p q)).answer
+  pub size_many : (p ≡ 0 → ⊥) → p % 3 ≡ 0 → q ≡ p → 4096 < p / 3 → first_refusal (size_checks p q) ≡ refusal 3 0
   unfolding first_refusal
   size_many h t l m = rw (lt-ltb 0 p (omega arith), eq-eqb (p % 3) 0 t, eq-eqb q p l, lt-leb (p / 3) 4096 m)
 
-  pub size_good : Sized p q → 0 ≡ (first_refusal (size_checks p q)).answer
+  pub size_good : Sized p q → first_refusal (size_checks p q) ≡ refusal 0 0
   unfolding first_refusal
   size_good s = rw (lt-ltb 0 p s.some, eq-eqb (p % 3) 0 s.threes, eq-eqb q p s.as_long, le-leb (p / 3) 4096 s.few)
-
-  -- none of 1 to 3 has a detail
-  plain : (a b c : Bool) → refusal (first_refusal (check a 1 0 ∷ check b 2 0 ∷ check c 3 0 ∷ [])).answer 0
-      ≡ first_refusal (check a 1 0 ∷ check b 2 0 ∷ check c 3 0 ∷ [])
-  unfolding first_refusal
-  plain false b c = refl
-  plain true false c = refl
-  plain true true false = refl
-  plain true true true = refl
-
-  module _ (answer : ℕ) (is : answer ≡ (first_refusal (size_checks p q)).answer) (rest : List Check) where
-    sizes : refusal answer 0 ≡ first_refusal (size_checks p q)
-    sizes = ap (λ (k : ℕ). refusal k 0) is ∙ plain (ltb 0 p) (eqb (p % 3) 0 && eqb q p) (leb (p / 3) 4096)
-
-    pub size_refused : (answer ≡ 0 → ⊥) → first_refusal (size_checks p q ++ rest) ≡ refusal answer 0
-    unfolding numbered
-    size_refused h = sym (row_refused (size_checks p q) rest refl (refusal answer 0) sizes h)
-
-    pub size_passed : answer ≡ 0 → first_refusal (size_checks p q ++ rest) ≡ first_refusal rest
-    unfolding numbered
-    size_passed h = row_passed (size_checks p q) rest refl (refusal answer 0) sizes h
 
   pub size_accepted : (rest : List Check) → (first_refusal (size_checks p q ++ rest)).answer ≡ 0 → Sized p q × ((first_refusal rest).answer ≡ 0)
   size_accepted rest e =
@@ -133,29 +129,25 @@ module _ (p q : ℕ) where
         three.1,
       )
 
-  -- what 1 to 3 leave, from their answer
-  pub size_sized : {answer : ℕ} → answer ≡ (first_refusal (size_checks p q)).answer → answer ≡ 0 → Sized p q
-  size_sized is h = (size_accepted [] (sym is ∙ h)).0
+  -- what 1 to 3 leave where they pass
+  pub size_sized : {u : Unit {0}} → Ok u ≡ result_of (first_refusal (size_checks p q)) → Sized p q
+  size_sized e = (size_accepted [] (outcome_ok _ (first_refusal (size_checks p q)) e)).0
 
 -- ---- then the points, and one more check
-module _ {answer : ℕ} (p q : ℕ) (is : answer ≡ (first_refusal (size_checks p q)).answer) (n : ℕ) {found bad : ℕ} (found_is : found ≡ bad) (rest : List Check)
-    (sized : answer ≡ 0) where
-  pub point_refused : found < n → refusal 4 found ≡ first_refusal (size_checks p q ++ (point_check n bad ∷ rest))
-  point_refused h =
-      ap (refusal 4) found_is ∙ sym (size_passed p q answer is _ sized ∙ check_failed (point_check n bad) rest (lt-leb n bad (omega arith)))
+module _ (p q n bad : ℕ) (rest : List Check) {u : Unit {0}} (sized : Ok u ≡ result_of (first_refusal (size_checks p q))) where
+  sized_passed : first_refusal (size_checks p q ++ (point_check n bad ∷ rest)) ≡ first_refusal (point_check n bad ∷ rest)
+  unfolding numbered
+  sized_passed = row_passed (size_checks p q) (point_check n bad ∷ rest) refl sized
 
-  pub points_passed : n ≤ found → first_refusal (size_checks p q ++ (point_check n bad ∷ rest)) ≡ first_refusal rest
-  points_passed h = size_passed p q answer is _ sized ∙ check_passed (point_check n bad) rest (le-leb n bad (omega arith))
+  pub point_refused : (found : ℕ) → Some found ≡ some_below n bad → first_refusal (size_checks p q ++ (point_check n bad ∷ rest)) ≡ refusal 4 found
+  point_refused found e =
+      let b = below_some e in
+      sized_passed ∙ check_failed (point_check n bad) rest (lt-leb n bad b.1) ∙ ap (refusal 4) (sym b.0)
+
+  pub points_passed : None ≡ some_below n bad → first_refusal (size_checks p q ++ (point_check n bad ∷ rest)) ≡ first_refusal rest
+  points_passed e = sized_passed ∙ check_passed (point_check n bad) rest (le-leb n bad (below_none e))
 
 -- ---- the work slices
-work_room : (b : Bool) → refusal (cond b 0 7) 0 ≡ first_refusal (check b 7 0 ∷ [])
-unfolding first_refusal
-work_room true = refl
-work_room false = refl
-
-pub work_refusal : (room : Bool) {work : ℕ} → work ≡ cond room 0 7 → refusal work 0 ≡ first_refusal (check room 7 0 ∷ [])
-work_refusal room e = ap (λ (k : ℕ). refusal k 0) e ∙ work_room room
-
 pub roomy_room : (n words floats : ℕ) → roomy n words floats ≡ true → WorkRoom n words floats
 unfolding roomy
 roomy_room n words floats e =

@@ -1,5 +1,5 @@
 -- What the checks decide of the call's result and of its two work slices. Assumes nothing.
-use mathlib.Core.Path.{◌≡◌, sym, ap, ◌∙◌}
+use mathlib.Core.Path.{◌≡◌, ap, ◌∙◌}
 use mathlib.Core.Bool.{Bool, true, false}
 use mathlib.Core.List.{List}
 use Prim.Native.Nat.{ℕ, ◌+◌, ◌*◌, ◌/◌, ◌<◌}
@@ -9,7 +9,10 @@ use lib.ListN.{length, replicate}
 use lib.Ieee.{Float}
 use Rattle.numbers.specs.Rounded.{f32}
 use Rattle.points.specs.Points.{point_at}
+use Rattle.std.specs.Prelude.{Err}
+use Rattle.answers.proofs.Outcome.{outcome_err}
 use Rattle.domain.specs.declared.Refusal.{Refusal}
+use Rattle.domain.specs.Inner.Outcome.{result_of}
 use Rattle.domain.specs.Refusals.{estimate_refusal}
 use Rattle.domain.specs.Inner.Accepted.{Cloud, WorkRoom, AcceptedEstimate}
 use Rattle.domain.proofs.Accepted.{cloud_finite, accepted_estimate}
@@ -35,23 +38,23 @@ module _ (pts : List Float) (p : Float) (words : List ℕ) (floats : List Float)
   abbrev passes : Bool
   passes = estimate_accepted pts p (length words) (length floats)
 
-  module _ (r : Refusal) (e : r ≡ estimate_refusal pts p (length words) (length floats)) where
-    answer_is : r.answer ≡ (estimate_refusal pts p (length words) (length floats)).answer
-    answer_is = ap (λ (q : Refusal). q.answer) e
+  abbrev pub told : Refusal
+  told = estimate_refusal pts p (length words) (length floats)
 
-    pub outcome_refused : (r.answer ≡ 0 → ⊥) → Estimated pts p words floats (estimate r.answer r.detail (f32 0)) words floats
-    unfolding estimate_of swept
-    outcome_refused h =
-        let no : passes ≡ false = ne_eqb (estimate_refusal pts p (length words) (length floats)).answer 0 (λ z. h (answer_is ∙ z)) in
-        record { result = ap (λ (q : Refusal). estimate q.answer q.detail (f32 0)) e ∙ rw no; words_left = rw no; floats_left = rw no }
+  pub outcome_refused : {r : Refusal} → Err r ≡ result_of told → Estimated pts p words floats (estimate r.answer r.detail (f32 0)) words floats
+  unfolding estimate_of swept
+  outcome_refused {r} e =
+      let t = outcome_err told.answer told e in
+      let no : passes ≡ false = ne_eqb told.answer 0 t.1 in
+      record { result = ap (λ (q : Refusal). estimate q.answer q.detail (f32 0)) t.0 ∙ rw no; words_left = rw no; floats_left = rw no }
 
-    pub outcome_passed : (d : Float) (u : List ℕ) (f : List Float) → r.answer ≡ 0 → d ≡ optimal_radius pts (length pts / 3) p → u ≡ replicate (length words) 0
-        → f ≡ replicate (length floats) (f32 0)
-        → Estimated pts p words floats (estimate 0 0 d) u f
-    unfolding estimate_of swept
-    outcome_passed d u f h ed eu ef =
-        let yes : passes ≡ true = eq-eqb (estimate_refusal pts p (length words) (length floats)).answer 0 (sym answer_is ∙ h) in
-        record { result = ap (estimate 0 0) ed ∙ rw yes; words_left = rw yes eu; floats_left = rw yes ef }
+  pub outcome_passed : (d : Float) (u : List ℕ) (f : List Float) → told.answer ≡ 0 → d ≡ optimal_radius pts (length pts / 3) p → u ≡ replicate (length words) 0
+      → f ≡ replicate (length floats) (f32 0)
+      → Estimated pts p words floats (estimate 0 0 d) u f
+  unfolding estimate_of swept
+  outcome_passed d u f h ed eu ef =
+      let yes : passes ≡ true = eq-eqb told.answer 0 h in
+      record { result = ap (estimate 0 0) ed ∙ rw yes; words_left = rw yes eu; floats_left = rw yes ef }
 
-    pub in_domain : r.answer ≡ 0 → AcceptedEstimate pts p (length words) (length floats)
-    in_domain h = accepted_estimate pts p (length words) (length floats) (sym answer_is ∙ h)
+  pub in_domain : told.answer ≡ 0 → AcceptedEstimate pts p (length words) (length floats)
+  in_domain h = accepted_estimate pts p (length words) (length floats) h

@@ -1,2 +1,3 @@
 -- What contracts inside cite.
+pub mod Outcome
 pub mod Squares

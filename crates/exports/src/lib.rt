@@ -312,9 +312,13 @@ pub extern "C" fn yb_tally_add(tally: &mut Tally, patch: SeasonPatch) -> u32
     ensures { (result ≡ (added_to tally.old patch).answer)
         × (tally.new ≡ (added_to tally.old patch).tally) }
 {
-    let next = tally::added(*tally, patch);
-    *tally = next.tally;
-    next.answer
+    match tally::added(*tally, patch) {
+        Ok(next) => {
+            *tally = next;
+            0
+        }
+        Err(answer) => answer,
+    }
 }
 
 #[unsafe(no_mangle)]

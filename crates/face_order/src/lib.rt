@@ -82,15 +82,15 @@ pub fn order_faces(
         return patch_order::refused(answers::LENGTHS, 0);
     }
     let seen = look_at(faces, point_count);
-    let first = patch_order::first_answer(
+    let outcome = patch_order::refusal_of_faces(
         point_count,
         seen.outside,
         seen.twice,
         words.len(),
         floats.len(),
     );
-    if first != 0 {
-        return patch_order::refused(first, 0);
+    if let Err(refusal) = outcome {
+        return patch_order::refused(refusal.answer, 0);
     }
     let ordered = order_checked(faces, point_count, order, words);
     clearing::clear(words);

@@ -9,10 +9,9 @@ use native.Mathlib.Omega.{arith}
 use borrow.Author.Tests.{ltb-true, lt-ltb, leb-true, leb-false, eqb-true, eqb-false}
 use lib.Dec.{ltb, leb, eqb}
 use Rattle.tally.specs.Checks.{max_patches, max_faces, enterable, sound_tally, Enterable, TallyWithin, TallySound}
-use Rattle.tally.specs.Tallies.{better, better_patch, worst_of, summed, with_patch, answering, added_to}
+use Rattle.tally.specs.Tallies.{better, better_patch, worst_of, summed, with_patch, answering, Added, added_to}
 use Rattle.tally.specs.declared.SeasonPatch.{SeasonPatch}
 use Rattle.tally.specs.declared.Tally.{Tally}
-use Rattle.tally.specs.declared.Outcome.{Outcome}
 use Rattle.tally.proofs.Told.{product, enterable_told, sound_told, sound_tells}
 
 pub record Accepted (t : Tally) (p : SeasonPatch) : Type 0 where
@@ -28,8 +27,8 @@ pub record Refused (t : Tally) (p : SeasonPatch) : Type 0 where
 module _ (t : Tally) (p : SeasonPatch) where
   refusal : (n : ℕ) → 0 < n → added_to t p ≡ answering n t → Refused t p
   refusal n l e = record {
-    kept = ap (λ (o : Outcome). o.tally) e;
-    why = λ z. let y : (added_to t p).answer ≡ n = ap (λ (o : Outcome). o.answer) e in omega arith;
+    kept = ap (λ (o : Added). o.tally) e;
+    why = λ z. let y : (added_to t p).answer ≡ n = ap (λ (o : Added). o.answer) e in omega arith;
   }
 
   by_tests : (a b d : Bool) → sound_tally t ≡ a → enterable p ≡ b → ltb t.patches max_patches ≡ d → Accepted t p ⊎ Refused t p
@@ -126,7 +125,7 @@ module _ (t : Tally) (p : SeasonPatch) (s : TallySound t) (e : Enterable p) (l :
 -- an accepted addition never makes a tally that 24 refuses
 pub stays_sound : (t : Tally) (p : SeasonPatch) → Accepted t p → sound_tally (added_to t p).tally ≡ true
 stays_sound t p a =
-    subst (λ (o : Outcome). sound_tally o.tally ≡ true) (sym a.now)
+    subst (λ (o : Added). sound_tally o.tally ≡ true) (sym a.now)
     (with_sound t p (sound_told t a.taken) (enterable_told p a.fine) a.room)
 
 counted : (b : Bool) (t u : Tally) (n : ℕ) → t.patches ≡ n → u.patches ≡ n → (cond b t u).patches ≡ n
@@ -136,5 +135,5 @@ counted false t u n x y = y
 pub one_more_patch : (t : Tally) (p : SeasonPatch) → Accepted t p → (added_to t p).tally.patches ≡ t.patches + 1
 unfolding with_patch summed
 one_more_patch t p a =
-    ap (λ (o : Outcome). o.tally.patches) a.now
+    ap (λ (o : Added). o.tally.patches) a.now
     ∙ counted (eqb t.patches 0) (summed t p p p) (summed t p (better_patch t.best p) (worst_of t.worst p)) (t.patches + 1) refl refl

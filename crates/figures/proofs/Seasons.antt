@@ -12,7 +12,7 @@ use lib.ListN.{length, length-append}
 use Rattle.fractions.specs.Terms.{lowest}
 use Rattle.fractions.proofs.LowestTerms.{lowest_same}
 use Rattle.tally.specs.Checks.{max_patches, enterable, sound_tally, Enterable}
-use Rattle.tally.specs.Tallies.{better, better_patch, worst_of, summed, with_patch, added_to}
+use Rattle.tally.specs.Tallies.{better, better_patch, worst_of, summed, with_patch, Added, added_to}
 use Rattle.figures.specs.Working.{coverage_of, variance_of, no_figures, sound_figures, figures_of}
 use Rattle.figures.specs.Claims.{Additions, Seasons}
 use Rattle.figures.specs.Season.{total_over, scanned_of, covered_of, face_count, square_of, worse, EachPatch, none, one, Earliest, Figured, EmptyTally, after}
@@ -20,7 +20,6 @@ use Rattle.figures.specs.Season.{entered, PatchesReordered, same, next, swap, th
 use Rattle.tally.specs.declared.SeasonPatch.{SeasonPatch}
 use Rattle.tally.specs.declared.Tally.{Tally}
 use Rattle.figures.specs.declared.Figures.{Figures}
-use Rattle.tally.specs.declared.Outcome.{Outcome}
 use Rattle.tally.proofs.Told.{enterable_told, sound_told}
 use Rattle.figures.proofs.Additions.{Accepted, Refused, accepted_or_refused, accepts, stays_sound, one_more_patch}
 use Rattle.figures.proofs.Ahead.{Some, each_append, back, better_beats, worse_beats, at_earliest, first, one_more, neither, level, earliest_only}
@@ -102,14 +101,14 @@ module _ (ps : List SeasonPatch) (t : Tally) (p : SeasonPatch) (h : Holds ps t) 
 
 holds_more : (ps : List SeasonPatch) (t : Tally) (p : SeasonPatch) → Holds ps t → Accepted t p → Holds (ps ++ (p ∷ [])) (added_to t p).tally
 holds_more ps t p h a =
-    let e = ap (λ (o : Outcome). o.tally) a.now in
+    let e = ap (λ (o : Added). o.tally) a.now in
     let s : sound_tally (with_patch t p) ≡ true = subst (λ (u : Tally). sound_tally u ≡ true) e (stays_sound t p a) in
     subst (λ (u : Tally). Holds (ps ++ (p ∷ [])) u) (sym e) (holds_with ps t p h (enterable_told p a.fine) s)
 
 module _ (t : Tally) (p : SeasonPatch) (ps : List SeasonPatch) where
   pub entered_accepted : Accepted t p → entered t (p ∷ ps) ≡ p ∷ entered (added_to t p).tally ps
   unfolding entered
-  entered_accepted a = rw (eq-eqb (added_to t p).answer 0 (ap (λ (o : Outcome). o.answer) a.now))
+  entered_accepted a = rw (eq-eqb (added_to t p).answer 0 (ap (λ (o : Added). o.answer) a.now))
 
   entered_refused : Refused t p → entered t (p ∷ ps) ≡ entered (added_to t p).tally ps
   unfolding entered
@@ -251,7 +250,7 @@ figured_only ps f g x y =
 
 pub additions : Additions
 additions = record {
-  unchanged = λ t p n. ⊎_elim (λ a. absurd (n (ap (λ (o : Outcome). o.answer) a.now))) (λ r. r.kept) (accepted_or_refused t p);
+  unchanged = λ t p n. ⊎_elim (λ a. absurd (n (ap (λ (o : Added). o.answer) a.now))) (λ r. r.kept) (accepted_or_refused t p);
   taken_again = λ t p z. ⊎_elim (λ a. stays_sound t p a) (λ r. absurd (r.why z)) (accepted_or_refused t p);
 }
 

@@ -1,5 +1,5 @@
 -- What the two calls answer and leave, one law for each way out. Assumes nothing.
-use mathlib.Core.Path.{◌≡◌, refl, sym, ap, ◌∙◌, subst, subst⁻¹}
+use mathlib.Core.Path.{◌≡◌, refl, sym, ap, ◌∙◌, subst⁻¹}
 use mathlib.Core.Bool.{Bool, true, false, cond, ◌&&◌}
 use mathlib.Core.List.{List, [], ◌∷◌}
 use Prim.Native.Nat.{ℕ, suc, ◌+◌, ◌/◌, ◌%◌, ◌≤◌, ◌<◌}
@@ -48,10 +48,13 @@ one_outside x y z = go (inside (neg farthest) farthest x) (inside (neg farthest)
     go true true false = omega arith
     go true true true = omega arith
 
-pub detail_small : (p : ℕ) (bad index words floats : ℕ) (x y z : Float) {b : ℕ} {r : Searched} → b ≡ first_outside farthest (x ∷ y ∷ z ∷ [])
-    → Answers r (first_refusal (checks_by p 3 bad b index words floats)) → r.detail ≤ 8192
-detail_small p bad index words floats x y z {b} e a =
-    subst⁻¹ (λ (k : ℕ). k ≤ 8192) a.detailed (small_detail p bad b index words floats (subst⁻¹ (λ (k : ℕ). k ≤ 1) e (one_outside x y z)))
+pub detail_small : (p bad index words floats : ℕ) (x y z : Float)
+    → (first_refusal (checks_by p 3 bad (first_outside farthest (x ∷ y ∷ z ∷ [])) index words floats)).detail ≤ 8192
+detail_small p bad index words floats x y z = small_detail p bad (first_outside farthest (x ∷ y ∷ z ∷ [])) index words floats (one_outside x y z)
+
+-- a refusal in its own words
+pub own_words : (f : Refusal) → Answers (answer_of f.answer f.detail) f
+own_words f = record { answered = refl; detailed = refl }
 
 -- ---- work slices
 swept_yes : {A : Type 0} (v : A) {b : Bool} (xs : List A) {ys : List A} → b ≡ true → ys ≡ replicate (length xs) v → ys ≡ swept v b xs
@@ -64,19 +67,11 @@ swept_no v xs e = rw (e)
 
 -- ---- the refusals in turn
 module _ (points spots : List Float) (index words : List ℕ) (floats : List Float) where
-  abbrev early : Refusal
+  abbrev pub early : Refusal
   early = search_refusal points spots (length index) (length words) (length floats)
 
   abbrev passes : Bool
   passes = checked points spots (length index) (length words) (length floats)
-
-  pub early_is : {bad : ℕ} {r : Searched} → bad ≡ first_outside farthest spots
-      → Answers r (first_refusal (checks_by (length points) (length spots) (first_outside farthest points) bad (length index) (length words) (length floats)))
-      → Answers r early
-  unfolding search_refusal
-  early_is {r = r} e a =
-      subst (λ (b : ℕ). Answers r
-      (first_refusal (checks_by (length points) (length spots) (first_outside farthest points) b (length index) (length words) (length floats)))) e a
 
   module _ {r : Searched} (a : Answers r early) where
     pub zero_answer : r.answer ≡ 0 → early.answer ≡ 0

@@ -1,5 +1,5 @@
 -- The checks up to 7, one law for each way out, and what holds where they pass. Assumes nothing.
-use mathlib.Core.Path.{◌≡◌, refl, sym, ap, ◌∙◌}
+use mathlib.Core.Path.{◌≡◌, refl, sym, ◌∙◌}
 use mathlib.Core.Bool.{true, ◌&&◌}
 use mathlib.Core.List.{List, [], ◌∷◌}
 use Prim.Native.Nat.{ℕ, zero, suc, ◌+◌, ◌*◌, ◌/◌, ◌%◌, ◌≤◌, ◌<◌}
@@ -8,6 +8,8 @@ use lib.Dec.{leb, ltb, eqb}
 use lib.Ieee.{Float, nan, neg}
 use lib.ListN.{length, get_or}
 use borrow.Author.Tests.{lt-ltb, le-ltb, le-leb, lt-leb, eq-eqb, ne_eqb, ltb-true, leb-true, eqb-true}
+use Rattle.std.specs.Prelude.{Err}
+use Rattle.answers.proofs.Outcome.{err_outcome}
 use Rattle.lists.proofs.Bools.{and_both}
 use Rattle.vector.specs.Vector.{point}
 use Rattle.vector.specs.Inner.Numbers.{Finite}
@@ -20,15 +22,12 @@ use Rattle.domain.proofs.Refusals.{check_accepted, roomy_room}
 use Rattle.domain.proofs.Accepted.{all_within, cloud_finite}
 use Rattle.kd_tree.specs.Tree.{index_size}
 use Rattle.nearest_points.specs.declared.Searched.{Searched}
-use Rattle.nearest_points.specs.Found.{answer_of, Answers, checks_by, search_refusal}
+use Rattle.nearest_points.specs.Found.{answer_of, checks_by, search_refusal}
+use Rattle.nearest_points.specs.Inner.Outcome.{search_result}
 
-pub told : {r : Searched} {f : Refusal} {answer detail : ℕ} → r ≡ answer_of answer detail → refusal answer detail ≡ f → Answers r f
-told e g =
-    record {
-      answered = ap (λ (x : Searched). x.answer) e ∙ ap (λ (x : Refusal). x.answer) g;
-      detailed = ap (λ (x : Searched). x.detail) e ∙ ap
-          (λ (x : Refusal). x.detail) g;
-    }
+pub told : {r : Searched} {f : Refusal} {answer detail : ℕ} → r ≡ answer_of answer detail → refusal answer detail ≡ f → (answer ≡ 0 → ⊥)
+    → Err r ≡ search_result f
+told {answer = answer} {detail = detail} e g h = rw (e, ← g) (err_outcome answer (answer_of answer detail) h)
 
 module _ (p s bad badSpot index words floats : ℕ) where
   abbrev first : Refusal

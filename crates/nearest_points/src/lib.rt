@@ -1,12 +1,12 @@
 // The point of a cloud that is nearest to a spot, and those nearest to many spots, by the cloud's index.
 #![tactic(auto)]
 
-ghost use Rattle.std.specs.Prelude.{◌≡◌, [], ◌∷◌, ◌/◌, ◌≤◌, length};
-ghost use Rattle.ranges.specs.Range.{first_outside, farthest};
+ghost use Rattle.std.specs.Prelude.{◌≡◌, ◌/◌, ◌≤◌, length};
+ghost use Rattle.ranges.specs.Range.{farthest};
 ghost use Rattle.domain.specs.Inner.Accepted.{ValuesWithin};
-ghost use Rattle.domain.specs.Refusals.{first_refusal};
 ghost use Rattle.index_search.specs.Inner.Indexed.{OwnIndex, Width};
-ghost use Rattle.nearest_points.specs.Found.{answer_of, nearest_of, Answers, checks_by, numbers_in, Searches, Nears};
+ghost use Rattle.nearest_points.specs.Found.{answer_of, nearest_of, search_refusal, numbers_in, Searches, Nears};
+ghost use Rattle.nearest_points.specs.Inner.Outcome.{search_result, searched};
 
 // The answer's number, its detail, and the nearest point with its distance, both 0 at a refusal.
 #[repr(C)]
@@ -46,58 +46,47 @@ fn nearest_of(answer: u32, detail: u32, point: u32, distance: f32) -> Nearest
     }
 }
 
-// 0 where a spot is outside the domain, else 1, as of a list of spots.
-fn spot_outside(x: f32, y: f32, z: f32) -> usize
-    ensures { result ≡ first_outside farthest (x ∷ y ∷ z ∷ []) }
-{
-    let spot = [x, y, z];
-    ranges::first_outside(&spot[..], 10000.0)
+impl From<Result<(), Searched>> for Searched {
+    ghost from_gives = { λ outcome r. r ≡ searched outcome };
+
+    fn from(outcome: Result<(), Searched>) -> Searched {
+        match outcome {
+            Ok(()) => answer_of(0, 0),
+            Err(refusal) => refusal,
+        }
+    }
 }
 
-// What the checks up to 7 answer, for slices of the given lengths and the first spot outside the domain.
+// What the checks up to 7 answer, for slices of the given lengths.
 fn refusal_of_search(
     points: &[f32],
-    spots: usize,
-    bad: usize,
+    spots: &[f32],
     index: usize,
     words: usize,
     floats: usize,
-) -> Searched
-    ensures { Answers result
-        (first_refusal (checks_by (length points.now) spots (first_outside farthest points.now) bad
-        index words floats)) }
+) -> Result<(), Searched>
+    ensures { result ≡ search_result (search_refusal points.now spots.now index words floats) }
 {
-    let size = points.len();
-    if size == 0 {
-        return answer_of(answers::NO_POINTS, 0);
+    if points.len() == 0 {
+        return Err(answer_of(answers::NO_POINTS, 0));
     }
-    if size % 3 != 0 {
-        return answer_of(answers::LENGTHS, 0);
+    if points.len() % 3 != 0 || spots.len() % 3 != 0 {
+        return Err(answer_of(answers::LENGTHS, 0));
     }
-    if spots % 3 != 0 {
-        return answer_of(answers::LENGTHS, 0);
-    }
-    let n = size / 3;
+    let n = points.len() / 3;
     if 4096 < n {
-        return answer_of(answers::TOO_MANY_POINTS, 0);
+        return Err(answer_of(answers::TOO_MANY_POINTS, 0));
     }
-    let first = ranges::first_outside(points, 10000.0);
-    if first < n {
-        return answer_of(answers::POINT, first);
+    if let Some(point) = ranges::first_outside(points, 10000.0) {
+        return Err(answer_of(answers::POINT, point));
     }
-    if bad < spots / 3 {
-        return answer_of(answers::POINT, n + bad);
+    if let Some(spot) = ranges::first_outside(spots, 10000.0) {
+        return Err(answer_of(answers::POINT, n + spot));
     }
-    if words < 24 * n + 64 {
-        return answer_of(answers::WORK, 0);
+    if words < 24 * n + 64 || floats < 4 * n + 64 || index < 8 * n + 64 {
+        return Err(answer_of(answers::WORK, 0));
     }
-    if floats < 4 * n + 64 {
-        return answer_of(answers::WORK, 0);
-    }
-    if index < 8 * n + 64 {
-        return answer_of(answers::WORK, 0);
-    }
-    answer_of(0, 0)
+    Ok(())
 }
 
 // The number of the nearest point for each spot.
@@ -126,9 +115,9 @@ pub fn nearest_point(
     ensures { Nears points.now x y z index.now words.old floats.old
         result words.new floats.new }
 {
-    let bad = spot_outside(x, y, z);
-    let refusal = refusal_of_search(points, 3, bad, index.len(), words.len(), floats.len());
-    if refusal.answer != 0 {
+    let spot = [x, y, z];
+    let outcome = refusal_of_search(points, &spot, index.len(), words.len(), floats.len());
+    if let Err(refusal) = outcome {
         return nearest_of(refusal.answer, refusal.detail as u32, 0, 0.0);
     }
     let own = point_index::matches(points, index, words, floats);
@@ -144,6 +133,33 @@ pub fn nearest_point(
 }
 
 // The nearest point to each of many spots: its number goes to the spot's place in the found slice.
+fn try_points(
+    points: &[f32],
+    spots: &[f32],
+    index: &[u32],
+    found: &mut [u32],
+    words: &mut [u32],
+    floats: &mut [f32],
+) -> Result<(), Searched>
+    ensures { Searches points.now spots.now index.now found.old
+        words.old floats.old (searched result) found.new words.new floats.new }
+{
+    refusal_of_search(points, spots, index.len(), words.len(), floats.len())?;
+    let own = point_index::matches(points, index, words, floats);
+    clearing::clear(words);
+    clearing::clear(floats);
+    if found.len() < spots.len() / 3 {
+        return Err(answer_of(answers::OUTPUT_TOO_SHORT, 0));
+    }
+    if !own {
+        return Err(answer_of(answers::FOREIGN_INDEX, 0));
+    }
+    let width = index_search::width_of(points.len() / 3);
+    fill(points, spots, index, width, found);
+    Ok(())
+}
+
+// The same, as C has it.
 pub fn nearest_points(
     points: &[f32],
     spots: &[f32],
@@ -155,28 +171,5 @@ pub fn nearest_points(
     ensures { Searches points.now spots.now index.now found.old
         words.old floats.old result found.new words.new floats.new }
 {
-    let bad = ranges::first_outside(spots, 10000.0);
-    let refusal = refusal_of_search(
-        points,
-        spots.len(),
-        bad,
-        index.len(),
-        words.len(),
-        floats.len(),
-    );
-    if refusal.answer != 0 {
-        return refusal;
-    }
-    let own = point_index::matches(points, index, words, floats);
-    clearing::clear(words);
-    clearing::clear(floats);
-    if found.len() < spots.len() / 3 {
-        return answer_of(answers::OUTPUT_TOO_SHORT, 0);
-    }
-    if !own {
-        return answer_of(answers::FOREIGN_INDEX, 0);
-    }
-    let width = index_search::width_of(points.len() / 3);
-    fill(points, spots, index, width, found);
-    answer_of(0, 0)
+    Searched::from(try_points(points, spots, index, found, words, floats))
 }

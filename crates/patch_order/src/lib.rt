@@ -5,8 +5,11 @@
 
 ghost use Rattle.std.specs.Prelude.{◌≡◌, length};
 ghost use Rattle.domain.specs.Refusals.{first_refusal};
+ghost use Rattle.domain.specs.Inner.Outcome.{result_of};
 ghost use Rattle.patch_order.specs.Ordering.{first_checks, refused_with, OrdersPatch};
 ghost use Rattle.patch_order.specs.Inner.Ready.{too_many, Checked, OrderJudged};
+
+use domain::Refusal;
 
 // The answer's number, 0 where an order was found; the detail, the first malformed line from 1 at refusal 10; how many
 // faces there are, and how many of them share no edge with an earlier one in the order.
@@ -30,26 +33,35 @@ pub fn refused(answer: u32, detail: usize) -> Ordered
     }
 }
 
-// The first of the answers 3, 14, 17 and 7 that is asked for, or 0.
-pub fn first_answer(n: usize, outside: bool, twice: bool, words: usize, floats: usize) -> u32
-    ensures { result ≡ (first_refusal (first_checks n outside twice words floats)).answer }
+// 3, 14, 17 and 7, of faces that name n points.
+pub fn refusal_of_faces(
+    n: usize,
+    outside: bool,
+    twice: bool,
+    words: usize,
+    floats: usize,
+) -> Result<(), Refusal>
+    ensures { result ≡ result_of (first_refusal (first_checks n outside twice words floats)) }
 {
     if 4096 < n {
-        return answers::TOO_MANY_POINTS;
+        return Err(Refusal {
+            answer: answers::TOO_MANY_POINTS,
+            detail: 0,
+        });
     }
     if outside {
-        return answers::NO_SUCH_POINT;
+        return Err(Refusal {
+            answer: answers::NO_SUCH_POINT,
+            detail: 0,
+        });
     }
     if twice {
-        return answers::EQUAL_NUMBERS;
+        return Err(Refusal {
+            answer: answers::EQUAL_NUMBERS,
+            detail: 0,
+        });
     }
-    if words < 24 * n + 64 {
-        return answers::WORK;
-    }
-    if floats < 4 * n + 64 {
-        return answers::WORK;
-    }
-    0
+    domain::refusal_of_work(n, words, floats)
 }
 
 // Whether there are faces, and more than n - 2.
@@ -109,15 +121,15 @@ pub fn order_patch(
         Ok(seen) => seen,
         Err(malformed) => return refused(answers::LINE, malformed.line),
     };
-    let first = first_answer(
+    let outcome = refusal_of_faces(
         point_count,
         seen.outside,
         seen.twice,
         words.len(),
         floats.len(),
     );
-    if first != 0 {
-        return refused(first, 0);
+    if let Err(refusal) = outcome {
+        return refused(refusal.answer, 0);
     }
     let ordered = order_lines(bytes, point_count, seen.count, order, words);
     clearing::clear(words);

@@ -4,7 +4,9 @@
 
 ghost use Rattle.std.specs.Prelude.{◌≡◌, ◌++◌, ◌/◌, ◌≤◌, length, drop};
 ghost use Rattle.kd_tree.specs.Tree.{index_size, built, belongs};
+ghost use Rattle.domain.specs.Inner.Outcome.{result_of};
 ghost use Rattle.point_index.specs.Index.{index_refusal, Fits, Builds, Tells};
+ghost use Rattle.point_index.specs.Inner.Outcome.{indexed, belonging};
 
 use domain::Refusal;
 
@@ -25,29 +27,61 @@ pub struct Belongs {
     pub belongs: bool,
 }
 
+impl From<Result<(), Refusal>> for Indexed {
+    ghost from_gives = { λ outcome r. r ≡ indexed outcome };
+
+    fn from(outcome: Result<(), Refusal>) -> Indexed {
+        match outcome {
+            Ok(()) => Indexed {
+                answer: 0,
+                detail: 0,
+            },
+            Err(refusal) => Indexed {
+                answer: refusal.answer,
+                detail: refusal.detail,
+            },
+        }
+    }
+}
+
+impl From<Result<bool, Refusal>> for Belongs {
+    ghost from_gives = { λ outcome r. r ≡ belonging outcome };
+
+    fn from(outcome: Result<bool, Refusal>) -> Belongs {
+        match outcome {
+            Ok(belongs) => Belongs {
+                answer: 0,
+                detail: 0,
+                belongs,
+            },
+            Err(refusal) => Belongs {
+                answer: refusal.answer,
+                detail: refusal.detail,
+                belongs: false,
+            },
+        }
+    }
+}
+
 // What the checks answer, for slices of the given lengths.
-pub fn refusal_of_index(points: &[f32], index: usize, words: usize, floats: usize) -> Refusal
-    ensures { result ≡ index_refusal points.now index words floats }
+pub fn refusal_of_index(
+    points: &[f32],
+    index: usize,
+    words: usize,
+    floats: usize,
+) -> Result<(), Refusal>
+    ensures { result ≡ result_of (index_refusal points.now index words floats) }
 {
-    let refusal = domain::refusal_of_points(points);
-    if refusal.answer != 0 {
-        return refusal;
-    }
+    domain::refusal_of_points(points)?;
     let n = points.len() / 3;
-    let work = domain::refusal_of_work(n, words, floats);
-    if work.answer != 0 {
-        return work;
-    }
+    domain::refusal_of_work(n, words, floats)?;
     if index < 8 * n + 64 {
-        return Refusal {
+        return Err(Refusal {
             answer: answers::WORK,
             detail: 0,
-        };
+        });
     }
-    Refusal {
-        answer: 0,
-        detail: 0,
-    }
+    Ok(())
 }
 
 // The index of an accepted cloud.
@@ -72,6 +106,23 @@ pub fn matches(points: &[f32], index: &[u32], words: &mut [u32], floats: &mut [f
     filling::same_front(index, words, 8 * (points.len() / 3) + 64)
 }
 
+// Builds the index of a cloud in a lent slice, or says why it does not.
+fn try_build(
+    points: &[f32],
+    index: &mut [u32],
+    words: &mut [u32],
+    floats: &mut [f32],
+) -> Result<(), Refusal>
+    ensures { Builds points.now index.old words.old floats.old (indexed result)
+        index.new words.new floats.new }
+{
+    refusal_of_index(points, index.len(), words.len(), floats.len())?;
+    build(points, index, floats);
+    clearing::clear(words);
+    clearing::clear(floats);
+    Ok(())
+}
+
 // Builds the index of a cloud in a lent slice.
 pub fn build_index(
     points: &[f32],
@@ -82,20 +133,24 @@ pub fn build_index(
     ensures { Builds points.now index.old words.old floats.old result
         index.new words.new floats.new }
 {
-    let refusal = refusal_of_index(points, index.len(), words.len(), floats.len());
-    if refusal.answer != 0 {
-        return Indexed {
-            answer: refusal.answer,
-            detail: refusal.detail,
-        };
-    }
-    build(points, index, floats);
+    Indexed::from(try_build(points, index, words, floats))
+}
+
+// Whether an index is a cloud's, or why that is not told.
+fn try_belongs(
+    points: &[f32],
+    index: &[u32],
+    words: &mut [u32],
+    floats: &mut [f32],
+) -> Result<bool, Refusal>
+    ensures { Tells points.now index.now words.old floats.old (belonging result)
+        words.new floats.new }
+{
+    refusal_of_index(points, index.len(), words.len(), floats.len())?;
+    let same = matches(points, index, words, floats);
     clearing::clear(words);
     clearing::clear(floats);
-    Indexed {
-        answer: 0,
-        detail: 0,
-    }
+    Ok(same)
 }
 
 // Tells whether an index is a cloud's: building it afresh gives the same numbers.
@@ -108,20 +163,5 @@ pub fn index_belongs(
     ensures { Tells points.now index.now words.old floats.old result
         words.new floats.new }
 {
-    let refusal = refusal_of_index(points, index.len(), words.len(), floats.len());
-    if refusal.answer != 0 {
-        return Belongs {
-            answer: refusal.answer,
-            detail: refusal.detail,
-            belongs: false,
-        };
-    }
-    let same = matches(points, index, words, floats);
-    clearing::clear(words);
-    clearing::clear(floats);
-    Belongs {
-        answer: 0,
-        detail: 0,
-        belongs: same,
-    }
+    Belongs::from(try_belongs(points, index, words, floats))
 }

@@ -20,14 +20,14 @@ pub fn reconstruct_with_normals(
     ensures { Reconstructs points.now normals.now settings faces.old
         words.old floats.old result faces.new words.new floats.new }
 {
-    let refusal = domain::refusal_of_reconstruct(
+    let outcome = domain::refusal_of_reconstruct(
         points,
         normals,
         settings,
         words.len(),
         floats.len(),
     );
-    if refusal.answer != 0 {
+    if let Err(refusal) = outcome {
         return ball_pivoting::refuse(refusal.answer, refusal.detail);
     }
     let found = paths::find(points, settings, faces, words, floats);

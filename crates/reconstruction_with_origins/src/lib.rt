@@ -75,14 +75,14 @@ pub fn reconstruct_with_origins(
         faces.old origins.old words.old floats.old result faces.new
         origins.new words.new floats.new }
 {
-    let refusal = domain::refusal_of_reconstruct(
+    let outcome = domain::refusal_of_reconstruct(
         points,
         normals,
         settings,
         words.len(),
         floats.len(),
     );
-    if refusal.answer != 0 {
+    if let Err(refusal) = outcome {
         return ball_pivoting::refuse(refusal.answer, refusal.detail);
     }
     let found = find(points, settings, turned, faces, words, floats);

@@ -2,6 +2,7 @@
 #![tactic(auto)]
 
 ghost use Rattle.std.specs.Prelude.{◌≡◌};
+ghost use Rattle.ranges.specs.Inner.Number.{some_number};
 ghost use Rattle.settings.specs.Settings.{list_inside, first_failing, rule_known, last_tests, first_bad_setting};
 ghost use Rattle.settings.specs.Settings.{defaults};
 
@@ -52,13 +53,10 @@ fn all_in_range(lo: f32, hi: f32, xs: [f32; 8], count: u32) -> bool
     if 8 < count {
         return false;
     }
-    let n = count as usize;
-    let mut k: usize = 0;
-    while k < n {
+    for k in 0..count as usize {
         if !ranges::in_range(lo, hi, xs[k]) {
             return false;
         }
-        k += 1;
     }
     true
 }
@@ -70,42 +68,42 @@ fn is_rule(rule: u32) -> bool
     rule == 1 || rule == 2
 }
 
-// The last five of the settings' tests: the number of the first that fails, or 0.
-fn first_bad_threshold(quality: f32, edge: f32, area: f32, cell: f32, rule: u32) -> u32
-    ensures { result ≡ first_failing 4 (last_tests quality edge area cell rule) }
+// The last five of the settings' tests: the number of the first that fails.
+fn first_bad_threshold(quality: f32, edge: f32, area: f32, cell: f32, rule: u32) -> Option<u32>
+    ensures { result ≡ some_number (first_failing 4 (last_tests quality edge area cell rule)) }
 {
     if !ranges::in_range(0.0, 1000000.0, quality) {
-        return 4;
+        return Some(4);
     }
     if !ranges::in_range(0.0, 1000000.0, edge) {
-        return 5;
+        return Some(5);
     }
     if !ranges::in_range(0.0, 1000000.0, area) {
-        return 6;
+        return Some(6);
     }
     if !ranges::in_range(0.5, 16.0, cell) {
-        return 7;
+        return Some(7);
     }
     if !is_rule(rule) {
-        return 8;
+        return Some(8);
     }
-    0
+    None
 }
 
-// The number of the first setting outside its range, or 0.
-pub fn first_bad_setting(s: BallPivotingConfig) -> u32
-    ensures { result ≡ first_bad_setting s }
+// The number of the first setting outside its range.
+pub fn first_bad_setting(s: BallPivotingConfig) -> Option<u32>
+    ensures { result ≡ some_number (first_bad_setting s) }
 {
     if !ranges::in_range(0.001, 1000.0, s.radius) {
-        return 1;
+        return Some(1);
     }
     let radii = s.additional_radii;
     if !all_in_range(0.001, 1000.0, radii, s.additional_count) {
-        return 2;
+        return Some(2);
     }
     let percentiles = s.adaptive_percentiles;
     if !all_in_range(0.0, 1.0, percentiles, s.percentile_count) {
-        return 3;
+        return Some(3);
     }
     first_bad_threshold(
         s.quality_threshold,

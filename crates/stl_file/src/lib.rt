@@ -51,8 +51,7 @@ pub fn write_stl(points: &[f32], faces: &[u32], bytes: &mut [u8]) -> StlWritten
     if n > 1000000 {
         return not_written(answers::TOO_MANY_POINTS, 0);
     }
-    let bad = ranges::first_outside(points, 10000.0);
-    if bad < points.len() / 3 {
+    if let Some(bad) = ranges::first_outside(points, 10000.0) {
         return not_written(answers::POINT, bad);
     }
     if !names_points(faces, points.len() / 3) {

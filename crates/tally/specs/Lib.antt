@@ -1,3 +1,4 @@
 -- What a reader must believe, leaves first.
 pub mod Checks
 pub mod Tallies
+pub mod Inner

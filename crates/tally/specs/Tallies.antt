@@ -3,7 +3,6 @@ use Rattle.std.specs.Prelude.{Bool, cond, ℕ, ◌+◌, ◌*◌, ltb, eqb}
 use Rattle.answers.specs.Answers.{tally_full, bad_season_patch, bad_tally}
 use Rattle.tally.specs.declared.SeasonPatch.{SeasonPatch}
 use Rattle.tally.specs.declared.Tally.{Tally}
-use Rattle.tally.specs.declared.Outcome.{Outcome}
 use Rattle.tally.specs.Checks.{max_patches, enterable, sound_tally}
 
 -- more of a's points are covered than of b's, as fractions, by the cross product
@@ -33,11 +32,16 @@ summed t p best worst = record {
 unfoldable pub with_patch : Tally → SeasonPatch → Tally
 with_patch t p = cond (eqb t.patches 0) (summed t p p p) (summed t p (better_patch t.best p) (worst_of t.worst p))
 
-abbrev pub answering : ℕ → Tally → Outcome
+-- an answer, 0 if the patch is accepted, and the tally from then on
+pub record Added : Type 0 where
+  pub answer : ℕ
+  pub tally : Tally
+
+abbrev pub answering : ℕ → Tally → Added
 answering answer t = record { answer = answer; tally = t }
 
 -- 24 a tally that is not taken, 20 a patch that may not be entered, 19 a full tally; a refusal changes nothing
-unfoldable pub added_to : Tally → SeasonPatch → Outcome
+unfoldable pub added_to : Tally → SeasonPatch → Added
 added_to t p =
     cond (sound_tally t)
     (cond (enterable p)

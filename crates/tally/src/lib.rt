@@ -3,9 +3,10 @@
 
 pub mod checks;
 
-ghost use Rattle.std.specs.Prelude.{◌≡◌};
+ghost use Rattle.std.specs.Prelude.{◌≡◌, OnErr};
 ghost use Rattle.tally.specs.Tallies.{better, better_patch, worst_of, summed, added_to};
 ghost use Rattle.tally.specs.Checks.{TallyRoom, Enterable};
+ghost use Rattle.tally.specs.Inner.Outcome.{tally_result};
 
 use checks::wide;
 
@@ -30,13 +31,6 @@ pub struct Tally {
     pub covered: u64,
     pub best: SeasonPatch,
     pub worst: SeasonPatch,
-}
-
-// An answer, 0 if the patch is accepted, and the tally from then on.
-#[derive(Clone, Copy)]
-pub struct Outcome {
-    pub answer: u32,
-    pub tally: Tally,
 }
 
 // Whether more of a's points are covered than of b's.
@@ -83,38 +77,24 @@ fn summed(tally: Tally, patch: SeasonPatch, best: SeasonPatch, worst: SeasonPatc
     }
 }
 
-// The tally with one patch more, or the refusal and the tally as it was.
-pub fn added(tally: Tally, patch: SeasonPatch) -> Outcome
-    ensures { result ≡ added_to tally patch }
+// The tally with one patch more, or the number of the refusal, which leaves the tally as it was.
+pub fn added(tally: Tally, patch: SeasonPatch) -> Result<Tally, u32>
+    ensures { (result ≡ tally_result (added_to tally patch))
+        × OnErr result ((added_to tally patch).tally ≡ tally) }
 {
     let best = tally.best;
     let worst = tally.worst;
     if !checks::is_sound(tally) {
-        return Outcome {
-            answer: answers::TALLY,
-            tally,
-        };
+        return Err(answers::TALLY);
     }
     if !checks::is_enterable(patch) {
-        return Outcome {
-            answer: answers::SEASON_PATCH,
-            tally,
-        };
+        return Err(answers::SEASON_PATCH);
     }
     if tally.patches >= checks::MAX_PATCHES {
-        return Outcome {
-            answer: answers::TALLY_FULL,
-            tally,
-        };
+        return Err(answers::TALLY_FULL);
     }
     if tally.patches == 0 {
-        return Outcome {
-            answer: 0,
-            tally: summed(tally, patch, patch, patch),
-        };
+        return Ok(summed(tally, patch, patch, patch));
     }
-    Outcome {
-        answer: 0,
-        tally: summed(tally, patch, best_of(best, patch), worst_of(worst, patch)),
-    }
+    Ok(summed(tally, patch, best_of(best, patch), worst_of(worst, patch)))
 }

@@ -5,12 +5,12 @@ use lib.Ieee.{Float, add, sub, mul, div, lt, le, eq, is_nan, neg, of_bits, to_bi
 use Prim.Native.Nat.{ℕ}
 use Rattle.numbers.specs.Rounded.{f32}
 use Rattle.numbers.specs.Root.{root}
-use Rattle.domain.specs.Refusals.{first_refusal}
+use Rattle.std.specs.Prelude.{Ok, Err}
+use Rattle.domain.specs.Refusals.{refusal, first_refusal}
 use Rattle.quality.specs.declared.TriangleQuality.{TriangleQuality}
 use Rattle.verdict.specs.Verdict.{verdict_of, kind_of, measured_of}
 use Rattle.verdict.specs.Judged.{number_checks}
 use Rattle.verdict.specs.Numbered.{verdict_numbers}
-use Rattle.verdict.specs.declared.Judgement.TheVariants.{Refused, Told}
 use Rattle.verdict.specs.declared.MeasuredKind.{MeasuredKind}
 use Rattle.verdict.specs.declared.MeasuredKind.TheVariants.{Good, NoArea, Small, Poor, Long}
 
@@ -68,7 +68,10 @@ unfolding kind_of
 kinds = (refl, refl, refl, refl, refl)
 
 -- a refusal has no kind and no measure
-refusals : ((verdict_numbers (Refused 14 0)).kind ≡ 0) × ((verdict_numbers (Refused 14 0)).measured ≡ f32 0) × ((verdict_numbers (Told (Long two))).kind ≡ 5)
-    × ((verdict_numbers (Told (Long two))).measured ≡ two)
+refusals :
+    ((verdict_numbers (Err (refusal 14 0))).kind ≡ 0)
+    × ((verdict_numbers (Err (refusal 14 0))).measured ≡ f32 0)
+    × ((verdict_numbers (Ok (Long two))).kind ≡ 5)
+    × ((verdict_numbers (Ok (Long two))).measured ≡ two)
 unfolding verdict_numbers kind_of measured_of
 refusals = (refl, refl, refl, refl)

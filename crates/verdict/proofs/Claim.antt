@@ -3,10 +3,11 @@ use mathlib.Core.Path.{◌≡◌, refl, ap, ◌∙◌}
 use mathlib.Core.Bool.{Bool, true, false, cond}
 use mathlib.Core.List.{List}
 use Prim.Native.Nat.{ℕ}
-use native.Mathlib.Omega.{arith}
 use lib.Dec.{eqb}
 use lib.Ieee.{Float}
 use borrow.Author.Tests.{eqb-true}
+use Rattle.std.specs.Prelude.{Result, Ok, Err}
+use Rattle.domain.specs.declared.Refusal.{Refusal}
 use Rattle.settings.specs.declared.BallPivotingConfig.{BallPivotingConfig}
 use Rattle.points.specs.Points.{point_at}
 use Rattle.triangle.specs.Quality.{quality}
@@ -14,21 +15,19 @@ use Rattle.verdict.specs.Verdict.{is_good}
 use Rattle.verdict.specs.Judged.{judge_refusal, verdict_at, judged}
 use Rattle.verdict.specs.Claims.{Judging}
 use Rattle.verdict.specs.declared.MeasuredKind.{MeasuredKind}
-use Rattle.verdict.specs.declared.Judgement.TheVariants.{Refused, Told}
 use Rattle.verdict.proofs.Laws.{good_exactly}
 
 -- where a verdict is told, nothing is refused, and it is the definition's
-pub told_is : (points normals : List Float) (s : BallPivotingConfig) (i j k : ℕ) (v : MeasuredKind) → judged points normals s i j k ≡ Told v
+pub told_is : (points normals : List Float) (s : BallPivotingConfig) (i j k : ℕ) (v : MeasuredKind) → judged points normals s i j k ≡ Ok v
     → ((judge_refusal points normals s i j k).answer ≡ 0) × (v ≡ verdict_at points s i j k)
 unfolding judged
 told_is points normals s i j k v e = go (eqb (judge_refusal points normals s i j k).answer 0) refl e
   where
     go : (b : Bool) → eqb (judge_refusal points normals s i j k).answer 0 ≡ b
-        → cond b (Told (verdict_at points s i j k)) (Refused (judge_refusal points normals s i j k).answer (judge_refusal points normals s i j k).detail)
-        ≡ Told v
+        → ◌≡◌ {A = Result MeasuredKind Refusal} (cond b (Ok (verdict_at points s i j k)) (Err (judge_refusal points normals s i j k))) (Ok v)
         → ((judge_refusal points normals s i j k).answer ≡ 0) × (v ≡ verdict_at points s i j k)
     go true q h = (eqb-true (judge_refusal points normals s i j k).answer 0 q, cc)
-    go false q h = let z : ◌≡◌ {A = ℕ} 0 1 = cc in absurd (omega arith)
+    go false q h = cc
 
 pub judging : Judging
 unfolding verdict_at

@@ -1,12 +1,11 @@
 -- What is claimed of a verdict that is told, for all input.
-use Rattle.std.specs.Prelude.{ℕ, ◌≡◌, List, Float}
+use Rattle.std.specs.Prelude.{ℕ, ◌≡◌, List, Ok, Float}
 use Rattle.settings.specs.declared.BallPivotingConfig.{BallPivotingConfig}
 use Rattle.points.specs.Points.{point_at}
 use Rattle.triangle.specs.Quality.{quality, acceptable}
 use Rattle.verdict.specs.Verdict.{is_good}
 use Rattle.verdict.specs.Judged.{judged, verdict_at}
 use Rattle.verdict.specs.declared.MeasuredKind.{MeasuredKind}
-use Rattle.verdict.specs.declared.Judgement.TheVariants.{Told}
 
 -- of the points i, j and k of a cloud, and a verdict
 pub record Judges (points : List Float) (s : BallPivotingConfig) (i j k : ℕ) (v : MeasuredKind) : Type 0 where
@@ -20,4 +19,4 @@ pub record Judges (points : List Float) (s : BallPivotingConfig) (i j k : ℕ) (
 abbrev pub Judging : Type 0
 Judging =
     (points normals : List Float) (s : BallPivotingConfig) (i j k : ℕ) (v : MeasuredKind)
-    → judged points normals s i j k ≡ Told v → Judges points s i j k v
+    → judged points normals s i j k ≡ Ok v → Judges points s i j k v

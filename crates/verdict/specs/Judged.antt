@@ -1,5 +1,5 @@
 -- The whole answer to three point numbers: a refusal, or the verdict on their triangle. Definitions only.
-use Rattle.std.specs.Prelude.{ℕ, ◌/◌, cond, ◌&&◌, not, List, [], ◌∷◌, ◌++◌, ltb, eqb, length, Float}
+use Rattle.std.specs.Prelude.{ℕ, ◌/◌, cond, ◌&&◌, not, List, [], ◌∷◌, ◌++◌, ltb, eqb, length, Result, Ok, Err, Float}
 use Rattle.answers.specs.Answers.{missing_point, equal_numbers}
 use Rattle.settings.specs.declared.BallPivotingConfig.{BallPivotingConfig}
 use Rattle.domain.specs.Refusals.{Check, check, first_refusal, input_checks}
@@ -8,8 +8,6 @@ use Rattle.points.specs.Points.{point_at}
 use Rattle.triangle.specs.Quality.{quality}
 use Rattle.verdict.specs.Verdict.{verdict_of}
 use Rattle.verdict.specs.declared.MeasuredKind.{MeasuredKind}
-use Rattle.verdict.specs.declared.Judgement.{Judgement}
-use Rattle.verdict.specs.declared.Judgement.TheVariants.{Refused, Told}
 
 -- 14 unless all three are numbers of n points, then 17 unless they differ
 abbrev pub number_checks : ℕ → ℕ → ℕ → ℕ → List Check
@@ -30,8 +28,8 @@ verdict_at points s i j k =
     verdict_of (quality (point_at points i) (point_at points j) (point_at points k))
     s.radius s.min_triangle_area s.quality_threshold s.max_edge_factor
 
-unfoldable pub judged : List Float → List Float → BallPivotingConfig → ℕ → ℕ → ℕ → Judgement
+unfoldable pub judged : List Float → List Float → BallPivotingConfig → ℕ → ℕ → ℕ → Result MeasuredKind Refusal
 unfolding judge_refusal verdict_at
 judged points normals settings i j k =
     let r = judge_refusal points normals settings i j k in
-    cond (eqb r.answer 0) (Told (verdict_at points settings i j k)) (Refused r.answer r.detail)
+    cond (eqb r.answer 0) (Ok (verdict_at points settings i j k)) (Err r)

@@ -11,6 +11,7 @@ ghost use Rattle.std.specs.Prelude.{◌≡◌};
 ghost use Rattle.verdict.specs.Verdict.{stretch, verdict_of};
 ghost use Rattle.verdict.specs.Judged.{judged};
 
+use domain::Refusal;
 use quality::TriangleQuality;
 use settings::BallPivotingConfig;
 
@@ -22,13 +23,6 @@ pub enum MeasuredKind {
     Small(f32),
     Poor(f32),
     Long(f32),
-}
-
-// The whole answer: a refusal's number and detail, or a verdict.
-#[derive(Clone, Copy)]
-pub enum Judgement {
-    Refused { answer: u32, detail: u32 },
-    Told { verdict: MeasuredKind },
 }
 
 fn stretch(edge_ratio: f32, area: f32) -> f32
@@ -65,7 +59,7 @@ pub fn verdict_of(
     MeasuredKind::Good(score)
 }
 
-// The triangle of the points i, j and k, measured in this order at the main radius.
+// The triangle of the points i, j and k, measured in this order at the main radius, or why it is not.
 pub fn judge_triangle(
     points: &[f32],
     normals: &[f32],
@@ -73,25 +67,18 @@ pub fn judge_triangle(
     i: usize,
     j: usize,
     k: usize,
-) -> Judgement
+) -> Result<MeasuredKind, Refusal>
     ensures { result ≡ judged points.now normals.now settings i j k }
 {
-    let refusal = refusing::refusal_of_judging(points, normals, settings, i, j, k);
-    if refusal.answer != 0 {
-        return Judgement::Refused {
-            answer: refusal.answer,
-            detail: refusal.detail,
-        };
-    }
+    refusing::refusal_of_judging(points, normals, settings, i, j, k)?;
     let first = points::point_at(points, i);
     let second = points::point_at(points, j);
     let third = points::point_at(points, k);
-    let verdict = verdict_of(
+    Ok(verdict_of(
         triangle::compute_triangle_quality(first, second, third),
         settings.radius,
         settings.min_triangle_area,
         settings.quality_threshold,
         settings.max_edge_factor,
-    );
-    Judgement::Told { verdict }
+    ))
 }

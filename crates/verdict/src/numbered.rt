@@ -1,9 +1,8 @@
 // The whole answer in four numbers, as C has it.
-ghost use Rattle.std.specs.Prelude.{◌≡◌};
+ghost use Rattle.std.specs.Prelude.{◌≡◌, Ok};
 ghost use Rattle.verdict.specs.Numbered.{verdict_numbers};
-ghost use Rattle.verdict.specs.declared.Judgement.TheVariants.{Told};
 
-use crate::Judgement;
+use domain::Refusal;
 
 // The answer's number and detail, both 0 where there is a verdict; then its kind, 1 to 5, and what was measured, both 0
 // at a refusal.
@@ -17,7 +16,7 @@ pub struct Verdict {
 }
 
 fn kind_of(verdict: crate::MeasuredKind) -> Verdict
-    ensures { result ≡ verdict_numbers (Told verdict) }
+    ensures { result ≡ verdict_numbers (Ok verdict) }
 {
     match verdict {
         crate::MeasuredKind::Good(score) => Verdict {
@@ -53,16 +52,16 @@ fn kind_of(verdict: crate::MeasuredKind) -> Verdict
     }
 }
 
-pub fn numbered(judgement: Judgement) -> Verdict
+pub fn numbered(judgement: Result<crate::MeasuredKind, Refusal>) -> Verdict
     ensures { result ≡ verdict_numbers judgement }
 {
     match judgement {
-        Judgement::Refused { answer, detail } => Verdict {
-            answer,
-            detail,
+        Ok(verdict) => kind_of(verdict),
+        Err(refusal) => Verdict {
+            answer: refusal.answer,
+            detail: refusal.detail,
             kind: 0,
             measured: 0.0,
         },
-        Judgement::Told { verdict } => kind_of(verdict),
     }
 }

@@ -2,11 +2,8 @@
 use Rattle.ranges.specs.Range.{leading}
 use lib.ListN.{drop}
 use mathlib.Core.Path.{◌≡◌}
-use Prim.Native.Nat.{◌+◌, ◌-◌, ◌≤◌}
+use Prim.Native.Nat.{◌+◌}
 use Rattle.settings.proofs.all_in_range.Given as goal
 
 abbrev pub invariant-loop-k : goal.invariant-loop-k
-invariant-loop-k l = (l.k ≤ l.n) × (l.n ≡ l.count) × (l.count ≤ 8) × (leading l.lo l.hi l.xs ≡ l.k + leading l.lo l.hi (drop l.k l.xs))
-
-abbrev pub decreases-loop-k : goal.decreases-loop-k
-decreases-loop-k l = l.n - l.k
+invariant-loop-k l = leading l.lo l.hi l.xs ≡ l.k + leading l.lo l.hi (drop l.k l.xs)

@@ -1,41 +1,39 @@
 -- `verdict::judge_triangle` meets its contract. Assumes nothing.
+use Rattle.std.proofs.lemmas.Result.{err_from_is_err_and}
 use Rattle.verdict.proofs.Checks.{judged_refused, judged_told, judged_inside}
 use Rattle.verdict.specs.Judged.{verdict_at}
 use Rattle.verdict.proofs.judge_triangle.Goals as goal
 
-pub returns-then-refusal-ne0 : goal.returns-then-refusal-ne0
-returns-then-refusal-ne0 c =
+pub returns-in_err-refusal_of_judging : goal.returns-in_err-refusal_of_judging
+returns-in_err-refusal_of_judging c =
     let a = c.args in
-    judged_refused a.points.now a.normals.now a.settings a.i a.j a.k _ c.refusal_of_judging-refusal.ensures c.if-refusal-ne0.true
+    let r = err_from_is_err_and c.from_residual.result c.from_residual.ensures.1 in
+    rw (r.1, r.2) (judged_refused a.points.now a.normals.now a.settings a.i a.j a.k _ c.in_err-refusal_of_judging.ensures)
 
 pub point_at-first-requires : goal.point_at-first-requires
 point_at-first-requires c =
     let a = c.args in
-    (judged_inside a.points.now a.normals.now a.settings a.i a.j a.k _ c.refusal_of_judging-refusal.ensures c.if-refusal-ne0.false).0
+    (judged_inside a.points.now a.normals.now a.settings a.i a.j a.k c.in_ok-refusal_of_judging.ensures).0
 
 pub point_at-second-requires : goal.point_at-second-requires
 point_at-second-requires c =
-    let b = c in
-    let a = b.args in
-    (judged_inside a.points.now a.normals.now a.settings a.i a.j a.k _ b.refusal_of_judging-refusal.ensures b.if-refusal-ne0.false).1
+    let a = c.args in
+    (judged_inside a.points.now a.normals.now a.settings a.i a.j a.k c.in_ok-refusal_of_judging.ensures).1
 
 pub point_at-third-requires : goal.point_at-third-requires
 point_at-third-requires c =
-    let b = c in
-    let a = b.args in
-    (judged_inside a.points.now a.normals.now a.settings a.i a.j a.k _ b.refusal_of_judging-refusal.ensures b.if-refusal-ne0.false).2
+    let a = c.args in
+    (judged_inside a.points.now a.normals.now a.settings a.i a.j a.k c.in_ok-refusal_of_judging.ensures).2
 
 pub returns : goal.returns
 unfolding verdict_at
 returns c =
-    let p = c in
-    let b = p in
-    let a = b.args in
-    judged_told a.points.now a.normals.now a.settings a.i a.j a.k _ b.refusal_of_judging-refusal.ensures b.if-refusal-ne0.false _
+    let a = c.args in
+    judged_told a.points.now a.normals.now a.settings a.i a.j a.k c.in_ok-refusal_of_judging.ensures _
     (rw (
-      c.verdict_of-verdict.ensures,
+      c.verdict_of.ensures,
       c.compute_triangle_quality.ensures,
-      p.point_at-first.ensures,
+      c.point_at-first.ensures,
       c.point_at-second.ensures,
       c.point_at-third.ensures,
     ))

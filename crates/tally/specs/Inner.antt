@@ -1,0 +1,2 @@
+-- What contracts inside cite.
+pub mod Outcome
