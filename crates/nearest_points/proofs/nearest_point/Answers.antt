@@ -49,16 +49,16 @@ matches-own-requires c =
 
 pub returns-then-not-own : goal.returns-then-not-own
 returns-then-not-own c =
-    let clear-f32 = c.clear-2 in
-    let clear-u32 = c.clear in
+    let zeros = c.clear-2 in
+    let cleared = c.clear in
     let matches = c.matches-own in
     let a = c.args in
     let f = early a.points.now (a.x ∷ a.y ∷ a.z ∷ []) a.index.now a.words.now a.floats.now in
     let e = own_words f in
     let passed-all = outcome_ok f.answer (answer_of f.answer f.detail) c.in_default.ensures in
     one_foreign a.points.now a.x a.y a.z a.index.now a.words.now a.floats.now e passed-all
-    (clear-u32.ensures ∙ ap (λ (n : ℕ). replicate n 0) matches.auto.words)
-    (clear-f32.ensures ∙ ap (λ (n : ℕ). replicate n (f32 0)) matches.auto.floats) (failed matches.ensures c.if-not-own.true)
+    (cleared.ensures ∙ ap (λ (n : ℕ). replicate n 0) matches.auto.words)
+    (zeros.ensures ∙ ap (λ (n : ℕ). replicate n (f32 0)) matches.auto.floats) (failed matches.ensures c.if-not-own.true)
     c.nearest_of-then-not-own.ensures
 
 pub width_of-width-requires : goal.width_of-width-requires
@@ -89,16 +89,16 @@ nearest_in-best-requires c =
 pub returns : goal.returns
 returns c =
     let if2 = c.if-not-own in
-    let clear-f32 = c.clear-2 in
-    let clear-u32 = c.clear in
+    let zeros = c.clear-2 in
+    let cleared = c.clear in
     let matches = c.matches-own in
     let a = c.args in
     let f = early a.points.now (a.x ∷ a.y ∷ a.z ∷ []) a.index.now a.words.now a.floats.now in
     let e = own_words f in
     let passed-all = outcome_ok f.answer (answer_of f.answer f.detail) c.in_default.ensures in
     one_found a.points.now a.x a.y a.z a.index.now a.words.now a.floats.now e passed-all
-    (clear-u32.ensures ∙ ap (λ (n : ℕ). replicate n 0) matches.auto.words)
-    (clear-f32.ensures ∙ ap (λ (n : ℕ). replicate n (f32 0)) matches.auto.floats) (passed matches.ensures if2.false) c.nearest_of-2.ensures
+    (cleared.ensures ∙ ap (λ (n : ℕ). replicate n 0) matches.auto.words)
+    (zeros.ensures ∙ ap (λ (n : ℕ). replicate n (f32 0)) matches.auto.floats) (passed matches.ensures if2.false) c.nearest_of-2.ensures
     ((λ i. record {
       distance = c.sqrt-distance.ensures i;
       number = c.nearest_in-best.result.number;

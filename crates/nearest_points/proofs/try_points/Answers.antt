@@ -34,31 +34,31 @@ matches-own-requires c =
 
 pub returns-then-found-spots : goal.returns-then-found-spots
 returns-then-found-spots c =
-    let clear-f32 = c.clear-2 in
-    let clear-u32 = c.clear in
+    let zeros = c.clear-2 in
+    let cleared = c.clear in
     let matches = c.matches-own in
     let a = c.args in
     let f = early a.points.now a.spots.now a.index.now a.words.now a.floats.now in
     let e = own_words f in
     let passed-all = outcome_ok f.answer (answer_of f.answer f.detail) c.in_ok-refusal_of_search.ensures in
     many_left a.points.now a.spots.now a.index.now a.words.now a.floats.now e a.found.now passed-all
-    (clear-u32.ensures ∙ ap (λ (n : ℕ). replicate n 0) matches.auto.words)
-    (clear-f32.ensures ∙ ap (λ (n : ℕ). replicate n (f32 0)) matches.auto.floats) 13 (λ z. omega (arith, z)) c.answer_of.ensures
+    (cleared.ensures ∙ ap (λ (n : ℕ). replicate n 0) matches.auto.words)
+    (zeros.ensures ∙ ap (λ (n : ℕ). replicate n (f32 0)) matches.auto.floats) 13 (λ z. omega (arith, z)) c.answer_of.ensures
     (late_short a.points.now a.spots.now a.index.now a.words.now a.floats.now e (length a.found.now) passed-all
     c.if-found-spots.true)
 
 pub returns-then-not-own : goal.returns-then-not-own
 returns-then-not-own c =
-    let clear-f32 = c.clear-2 in
-    let clear-u32 = c.clear in
+    let zeros = c.clear-2 in
+    let cleared = c.clear in
     let matches = c.matches-own in
     let a = c.args in
     let f = early a.points.now a.spots.now a.index.now a.words.now a.floats.now in
     let e = own_words f in
     let passed-all = outcome_ok f.answer (answer_of f.answer f.detail) c.in_ok-refusal_of_search.ensures in
     many_left a.points.now a.spots.now a.index.now a.words.now a.floats.now e a.found.now passed-all
-    (clear-u32.ensures ∙ ap (λ (n : ℕ). replicate n 0) matches.auto.words)
-    (clear-f32.ensures ∙ ap (λ (n : ℕ). replicate n (f32 0)) matches.auto.floats) 22 (λ z. omega (arith, z)) c.answer_of-then-not-own.ensures
+    (cleared.ensures ∙ ap (λ (n : ℕ). replicate n 0) matches.auto.words)
+    (zeros.ensures ∙ ap (λ (n : ℕ). replicate n (f32 0)) matches.auto.floats) 22 (λ z. omega (arith, z)) c.answer_of-then-not-own.ensures
     (late_foreign a.points.now a.spots.now a.index.now a.words.now a.floats.now e (length a.found.now) passed-all
     c.if-found-spots.false (failed matches.ensures c.if-not-own.true))
 
@@ -93,15 +93,15 @@ pub returns : goal.returns
 returns c =
     let if3 = c.if-not-own in
     let if2 = c.if-found-spots in
-    let clear-f32 = c.clear-2 in
-    let clear-u32 = c.clear in
+    let zeros = c.clear-2 in
+    let cleared = c.clear in
     let matches = c.matches-own in
     let a = c.args in
     let f = early a.points.now a.spots.now a.index.now a.words.now a.floats.now in
     let e = own_words f in
     let passed-all = outcome_ok f.answer (answer_of f.answer f.detail) c.in_ok-refusal_of_search.ensures in
     many_found a.points.now a.spots.now a.index.now a.words.now a.floats.now e a.found.now passed-all
-    (clear-u32.ensures ∙ ap (λ (n : ℕ). replicate n 0) matches.auto.words)
-    (clear-f32.ensures ∙ ap (λ (n : ℕ). replicate n (f32 0)) matches.auto.floats) refl
+    (cleared.ensures ∙ ap (λ (n : ℕ). replicate n 0) matches.auto.words)
+    (zeros.ensures ∙ ap (λ (n : ℕ). replicate n (f32 0)) matches.auto.floats) refl
     (late_none a.points.now a.spots.now a.index.now a.words.now a.floats.now e (length a.found.now) passed-all if2.false
     (passed matches.ensures if3.false)) c.fill.ensures
