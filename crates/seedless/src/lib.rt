@@ -302,8 +302,9 @@ fn search_unused(p: Site, points: &[f32], w: &mut [u32], i: usize, budget: usize
 // Whether what is left after a point will do for so many more, each of which costs less than the one before.
 fn is_enough(before: usize, left: usize, more: usize) -> bool
     requires { more ≤ 4096 }
+    ensures { result ≡ true → 0 < left }
 {
-    before <= left || before - left <= left / (more / 4 + 1)
+    0 < left && (before <= left || before - left <= left / (more / 4 + 1))
 }
 
 // Where points begin that have not been searched yet, and the radius of that search, with its limit of squares.
@@ -314,7 +315,7 @@ pub struct Search {
     pub far: f32,
 }
 
-// What a budget holds after point i: what a search takes there is added, unless that was done before.
+// What a budget holds after point i: what a search takes there is added, unless that was done or nothing is left.
 fn raise_budget(
     p: Site,
     points: &[f32],
@@ -325,9 +326,9 @@ fn raise_budget(
 ) -> usize
     requires { SceneHeld p.scene points.now w.old × Hashed p.hash points.now p.scene.n w.old
         × (i < p.scene.n) }
-    ensures { SceneKept p.scene w.old w.new }
+    ensures { (0 < result → 0 < budget) × SceneKept p.scene w.old w.new }
 {
-    if i < search.from {
+    if i < search.from || budget == 0 {
         return budget;
     }
     let around = list_around(p, points, w, i, search.radius, search.far);
