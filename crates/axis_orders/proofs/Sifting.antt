@@ -118,13 +118,6 @@ module _ {test : ℕ → Bool} {list₀ work₀ : List ℕ} where
           (stays (λ (x : ℕ). not (test x)) _ _ work (i - kept) here leads_aside (ap not (sym e ∙ t)) work_room ∙ ap
           (λ (k : ℕ). take k work' ++ others test (drop (i + 1) list₀)) n)
 
--- ---- copying from a place on
-pub record Putting (list₀ : List ℕ) (from : ℕ) (work list : List ℕ) (i : ℕ) : Type 0 where
-  pub size : length list ≡ length list₀
-  pub least : from ≤ i
-  pub most : i ≤ length list₀
-  pub same : take i list ≡ take from list₀ ++ take (i - from) work
-
 -- ---- an order parted, or left as it is
 module _ (own axis : ℕ) (test : ℕ → Bool) (l : List ℕ) where
   pub parted_own : eqb own axis ≡ true → l ≡ parted_but own axis test l

@@ -57,7 +57,9 @@ pub fn put_from(list: &mut [u32], from: usize, work: &[u32])
         ≡ take from list.old ++ take (length list.old - from) work.now }
 {
     let count = list.len() - from;
-    list[from..].copy_from_slice(&work[..count]);
+    for i in 0..count {
+        list[from + i] = work[i];
+    }
 }
 
 // Parts an order at a pivot, unless it is the order along the pivot's axis: that one is in parts as it is.
@@ -87,11 +89,12 @@ fn put_along(axis: Axis, order: &mut [u32], x: &[u32], y: &[u32], z: &[u32])
         × (length z.now ≡ length order.old) }
     ensures { order.new ≡ order_along (axis_index axis) x.now y.now z.now }
 {
-    order.copy_from_slice(match axis {
+    let own = match axis {
         Axis::X => x,
         Axis::Y => y,
         Axis::Z => z,
-    });
+    };
+    put_from(order, 0, own);
 }
 
 // Puts a part's numbers in order along an axis, and parts each of its orders at the middle one.

@@ -41,7 +41,9 @@ fn copy_numbers(faces: &[u32], words: &mut [u32])
     ensures { (k : ℕ) → k < length faces.now
         → get_or words.new k 0 ≡ get_or faces.now k 0 }
 {
-    words[..faces.len()].copy_from_slice(faces);
+    for k in 0..faces.len() {
+        words[k] = faces[k];
+    }
 }
 
 // Faces that have passed the checks so far: 13, 23 or their order. More than n - 2 faces have none, and are not copied.

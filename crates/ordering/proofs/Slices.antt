@@ -6,8 +6,9 @@ use mathlib.Core.Bool.{Bool, true, false, cond}
 use mathlib.Core.List.{List, [], ◌++◌}
 use native.Mathlib.Omega.{arith}
 use lib.Dec.{eqb}
-use lib.ListN.{length, get_or, take, drop, length-drop}
+use lib.ListN.{length, get_or, set, take, drop, length-drop}
 use lib.Seq.{get_or-take, get_or-drop, length-take-le, ext_get_or}
+use Rattle.std.proofs.lemmas.List.Edits.{paste_more}
 use Rattle.lists.specs.Lists.{bit}
 use Rattle.lists.proofs.Bools.{true_not_false}
 use Rattle.lists.proofs.Counts.{false_any}
@@ -64,6 +65,15 @@ module _ (n faces : ℕ) (few : faces ≤ n) (w0 w1 w2 w3 : List ℕ) (zeros : (
     }
 
 -- ---- after the last one
+-- one more of a part's numbers copied to the front
+pub copied_next : (before part : List ℕ) (j : ℕ) → j < length before → j < length part
+    → set (take j part ++ drop j before) j (get_or part j 0) ≡ take (j + 1) part ++ drop (j + 1) before
+copied_next before part j room more =
+    let here : 0 + j ≡ j = omega arith in
+    let next : 0 + (j + 1) ≡ j + 1 = omega arith in
+    ap (λ (k : ℕ). set (take j part ++ drop k before) k (get_or part j 0)) (sym here)
+    ∙ paste_more before 0 part j 0 (omega arith) more ∙ ap (λ (k : ℕ). take (j + 1) part ++ drop k before) next
+
 greedy_long : (fs : List Face) → length (greedy fs) ≡ length fs
 greedy_long fs = same_length (length fs) (greedy fs) (up_from 0 (length fs)) (greedy_permutes fs) (numbers_permute (length fs)) ∙ numbers_length (length fs) 0
 

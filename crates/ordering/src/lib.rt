@@ -54,7 +54,9 @@ fn copy_order(n: usize, count: usize, order: &mut [u32], words: &[u32])
         ++ drop count order.old }
 {
     let at = regions::PLACED * n;
-    order[..count].copy_from_slice(&words[at..at + count]);
+    for j in 0..count {
+        order[j] = words[at + j];
+    }
 }
 
 // Decides whether `count` faces over n points, three words each in front of `words`, could be a patch of ours in shape.
