@@ -64,8 +64,7 @@ module _ (n faces : ℕ) (few : faces ≤ n) (w0 w1 w2 w3 : List ℕ) (zeros : (
       few = λ e h. absurd (true_not_false h (false_any (λ j. has e (face_at fs j)) [] refl));
     }
 
--- ---- after the last one
--- one more of a part's numbers copied to the front
+-- ---- copying: the first j numbers are the part's, and one more is stored
 pub copied_next : (before part : List ℕ) (j : ℕ) → j < length before → j < length part
     → set (take j part ++ drop j before) j (get_or part j 0) ≡ take (j + 1) part ++ drop (j + 1) before
 copied_next before part j room more =
@@ -74,6 +73,7 @@ copied_next before part j room more =
     ap (λ (k : ℕ). set (take j part ++ drop k before) k (get_or part j 0)) (sym here)
     ∙ paste_more before 0 part j 0 (omega arith) more ∙ ap (λ (k : ℕ). take (j + 1) part ++ drop k before) next
 
+-- ---- after the last one
 greedy_long : (fs : List Face) → length (greedy fs) ≡ length fs
 greedy_long fs = same_length (length fs) (greedy fs) (up_from 0 (length fs)) (greedy_permutes fs) (numbers_permute (length fs)) ∙ numbers_length (length fs) 0
 
