@@ -89,12 +89,12 @@ fn put_along(axis: Axis, order: &mut [u32], x: &[u32], y: &[u32], z: &[u32])
         × (length z.now ≡ length order.old) }
     ensures { order.new ≡ order_along (axis_index axis) x.now y.now z.now }
 {
-    let own = match axis {
+    let along = match axis {
         Axis::X => x,
         Axis::Y => y,
         Axis::Z => z,
     };
-    put_from(order, 0, own);
+    put_from(order, 0, along);
 }
 
 // Puts a part's numbers in order along an axis, and parts each of its orders at the middle one.
